@@ -1,0 +1,9 @@
+pub mod RowLaws
+pub mod SpliceLaws
+pub mod WordLaws
+pub mod WordsLaws
+pub mod FitLaws
+pub mod ListLaws
+pub mod SelectLaws
+pub mod PdepLaws
+pub mod TableLaws

@@ -1,0 +1,54 @@
+-- The laws of `compose`: its length, its rows, its count, and a mask in pieces.
+-- Assumes nothing.
+use Prim.Native.Nat.{ℕ, zero, suc, _+_, _≤_, _<_}
+use mathlib.Core.Path.{_≡_, refl, sym, ap, ap₂, _∙_}
+use mathlib.Core.Bool.{Bool, true, false, _&&_}
+use mathlib.Core.List.{List, [], _∷_, _++_, append-assoc}
+use native.Mathlib.Nat.{suc-inj}
+use native.Mathlib.Omega.{arith}
+use lib.ListN.{length, take, drop, getD, length-append}
+use Rattle.rows.specs.Rows.{count, rankAt, compose}
+
+-- 1. length, rows, count
+
+pub compose-length : (s r : List Bool) → length (compose s r) ≡ length s
+compose-length [] r = refl
+compose-length (false ∷ s) r = ap suc (compose-length s r)
+compose-length (true ∷ s) [] = ap suc (compose-length s [])
+compose-length (true ∷ s) (x ∷ r) = ap suc (compose-length s r)
+
+pub compose-row : (s r : List Bool) (i : ℕ) → getD (compose s r) i false ≡ (getD s i false && getD r (rankAt s i) false)
+compose-row [] r i = refl
+compose-row (false ∷ s) r zero = refl
+compose-row (false ∷ s) r (suc i) = compose-row s r i
+compose-row (true ∷ s) [] zero = refl
+compose-row (true ∷ s) [] (suc i) = compose-row s [] i
+compose-row (true ∷ s) (x ∷ r) zero = refl
+compose-row (true ∷ s) (x ∷ r) (suc i) = compose-row s r i
+
+pub compose-count : (s r : List Bool) → length r ≡ count s → count (compose s r) ≡ count r
+compose-count [] [] e = refl
+compose-count [] (x ∷ r) e = absurd (omega arith)
+compose-count (false ∷ s) r e = compose-count s r e
+compose-count (true ∷ s) [] e = absurd (omega arith)
+compose-count (true ∷ s) (false ∷ r) e = compose-count s r (suc-inj e)
+compose-count (true ∷ s) (true ∷ r) e = ap suc (compose-count s r (suc-inj e))
+
+-- 2. a mask in pieces
+
+pub count-append : (s t : List Bool) → count (s ++ t) ≡ count s + count t
+count-append [] t = omega arith
+count-append (false ∷ s) t = count-append s t
+count-append (true ∷ s) t = omega (arith, count-append s t)
+
+pub compose-append : (s₁ s₂ r₁ r₂ : List Bool) → length r₁ ≡ count s₁ → compose (s₁ ++ s₂) (r₁ ++ r₂) ≡ compose s₁ r₁ ++ compose s₂ r₂
+compose-append [] s₂ [] r₂ e = refl
+compose-append [] s₂ (x ∷ r₁) r₂ e = absurd (omega arith)
+compose-append (false ∷ s₁) s₂ r₁ r₂ e = ap (λ (l : List Bool). false ∷ l) (compose-append s₁ s₂ r₁ r₂ e)
+compose-append (true ∷ s₁) s₂ [] r₂ e = absurd (omega arith)
+compose-append (true ∷ s₁) s₂ (x ∷ r₁) r₂ e = ap (λ (l : List Bool). x ∷ l) (compose-append s₁ s₂ r₁ r₂ (suc-inj e))
+
+pub count-le-length : (s : List Bool) → count s ≤ length s
+count-le-length [] = omega arith
+count-le-length (false ∷ s) = omega (arith, count-le-length s)
+count-le-length (true ∷ s) = omega (arith, count-le-length s)

@@ -1,0 +1,31 @@
+-- `word::network::down` meets its contract. Assumes nothing.
+use mathlib.Core.Path.{_≡_, refl, sym, ap, ap₂, _∙_, subst}
+use Prim.Native.Nat.{ℕ, zero, suc, _+_, _-_, _*_, _/_, _%_, _^_, _<_, _≤_}
+use native.Mathlib.Omega.{arith}
+use lib.Bits.{bitAnd}
+use Rattle.word.proofs.NetworkLaws.{down-is}
+use borrow.Author.Needs.{needs}
+use Rattle.word.proofs.NumLaws.{in-each}
+use Rattle.word.proofs.network.down.Statement.{statement}
+use Rattle.word.proofs.network.down.Tie as tie
+
+shr-result : tie.Need-shr-result
+shr-result c = search needs
+
+cast-bytes : tie.Need-cast-bytes
+cast-bytes c = search needs
+
+shr-bytes : tie.Need-shr-bytes
+shr-bytes c = search needs
+
+bytes-requires : tie.Need-bytes-requires
+bytes-requires c κs = search needs
+
+returns : tie.Need-returns
+returns c =
+    let x : ℕ = c .before .args .x in
+    let k : ℕ = c .before .args .k in
+    ap (bitAnd (x / 2 ^ k)) (c .bytes .ensures ∙ in-each _) ∙ down-is x k (c .before .fits .x .fits) (c .before .pre)
+
+pub down-spec : {M : Type 1} → statement M
+down-spec = tie.close (tie.spec shr-result cast-bytes shr-bytes bytes-requires returns)

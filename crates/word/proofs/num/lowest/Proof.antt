@@ -1,0 +1,14 @@
+-- `word::num::lowest` meets its contract. Assumes nothing.
+use borrow.Author.Needs.{needs}
+use Rattle.word.proofs.NumLaws.{low-word}
+use Rattle.word.proofs.num.lowest.Statement.{statement}
+use Rattle.word.proofs.num.lowest.Tie as tie
+
+zero-minus-requires : tie.Need-zero-minus-requires
+zero-minus-requires c κs = search needs
+
+returns : tie.Need-returns
+returns c = low-word (c .before .args .x) (c .zero-minus .result) (c .before .fits .x .fits) (c .zero-minus .ensures)
+
+pub lowest-spec : {M : Type 1} → statement M
+lowest-spec = tie.close (tie.spec zero-minus-requires returns)

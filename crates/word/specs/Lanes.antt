@@ -1,0 +1,84 @@
+-- A word as bytes: one function on every byte, or on every byte of two words; and the byte network's own functions on one byte. Assumes nothing.
+use Prim.Native.Nat.{ℕ, zero, suc, _+_, _-_, _*_, _/_, _%_, _^_}
+use mathlib.Core.Bool.{Bool, true, false}
+use mathlib.Core.List.{List}
+use lib.Dec.{ltb}
+use lib.ListN.{getD}
+use lib.Count.{ones}
+use lib.Bits.{bitAnd, bitOr, bitXor}
+
+-- f of each of the n low bytes of x and of y
+unfoldable pub each2 : (ℕ → ℕ → ℕ) → ℕ → ℕ → ℕ → ℕ
+each2 f zero x y = zero
+each2 f (suc n) x y = each2 f n (x / 256) (y / 256) * 256 + f (x % 256) (y % 256)
+
+-- f of each of the n low bytes of y
+abbrev pub each : (ℕ → ℕ) → ℕ → ℕ → ℕ
+each f n y = each2 (λ a b. f b) n y y
+
+-- b in each of n bytes
+unfoldable pub inEach : ℕ → ℕ → ℕ
+inEach zero b = zero
+inEach (suc n) b = inEach n b * 256 + b
+
+-- in byte j, a and the set digits of m in the bytes below byte j
+unfoldable pub before : ℕ → ℕ → ℕ → ℕ
+before zero a m = zero
+before (suc n) a m = before n (a + ones (m % 256)) (m / 256) * 256 + a
+
+-- in byte j, the 8 digits of s from the number in byte j of x on
+unfoldable pub gathered : ℕ → ℕ → ℕ → ℕ
+gathered zero s x = zero
+gathered (suc n) s x = gathered n s (x / 256) * 256 + (s / 2 ^ (x % 256)) % 256
+
+-- ---- on one byte
+
+abbrev pub up8 : ℕ → ℕ → ℕ
+up8 k a = (a * 2 ^ k) % 256
+
+abbrev pub down8 : ℕ → ℕ → ℕ
+down8 k a = a / 2 ^ k
+
+abbrev pub pick : Bool → ℕ → ℕ → ℕ
+pick true a b = a
+pick false a b = b
+
+-- parity from the length len on, doubled up to 8
+unfoldable pub parityFrom : ℕ → ℕ → ℕ → ℕ
+parityFrom zero len z = z
+parityFrom (suc f) len z = pick (ltb len 8) (parityFrom f (len * 2) (bitXor z (up8 len z))) z
+
+unfoldable pub parity8 : ℕ → ℕ → ℕ
+parity8 len z = parityFrom 4 len z
+
+-- what a stage leaves of the zeros z, and of the packed mask p; and where the bits that it moves land
+unfoldable pub zeros8 : ℕ → ℕ → ℕ
+zeros8 k z = bitXor (bitAnd z (255 - parity8 k z)) (bitAnd z (255 - parity8 k z) / 2 ^ k)
+
+unfoldable pub landed8 : ℕ → ℕ → ℕ → ℕ
+landed8 k z p = bitAnd p (parity8 k z) / 2 ^ k
+
+unfoldable pub packed8 : ℕ → ℕ → ℕ → ℕ
+packed8 k z p = bitXor p (bitXor (bitAnd p (parity8 k z)) (bitAnd p (parity8 k z) / 2 ^ k))
+
+-- before stage i: the zeros of the mask byte b, and its bits
+unfoldable pub zerosAt : ℕ → ℕ → ℕ
+zerosAt zero b = 255 - b
+zerosAt (suc i) b = zeros8 (2 ^ i) (zerosAt i b)
+
+unfoldable pub packedAt : ℕ → ℕ → ℕ
+packedAt zero b = b
+packedAt (suc i) b = packed8 (2 ^ i) (zerosAt i b) (packedAt i b)
+
+-- where the bits that stage i moves land
+unfoldable pub landedAt : ℕ → ℕ → ℕ
+landedAt i b = landed8 (2 ^ i) (zerosAt i b) (packedAt i b)
+
+-- a stage undone, on a word of w digits: the bits of r at l move up by k
+abbrev pub undo : ℕ → ℕ → ℕ → ℕ → ℕ
+undo w k l r = bitOr (bitAnd r (2 ^ w - 1 - l)) ((bitAnd r l * 2 ^ k) % 2 ^ w)
+
+-- the stages below i undone, the last one first, where the bits of each landed at the entry of ls
+unfoldable pub undoFrom : ℕ → List ℕ → ℕ → ℕ → ℕ
+undoFrom w ls zero r = r
+undoFrom w ls (suc i) r = undoFrom w ls i (undo w (2 ^ i) (getD ls i 0) r)

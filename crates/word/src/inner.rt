@@ -1,0 +1,72 @@
+// What the kernels call of the word layer: the two ways to deposit, and select. Each asks what its caller has checked.
+ghost use mathlib.Core.Path.{_≡_};
+ghost use Prim.Native.Nat.{_<_};
+ghost use lib.Count.{ones};
+ghost use Rattle.rows.specs.Word.{bitsOf};
+ghost use Rattle.rows.specs.Lists.{select};
+ghost use Rattle.rows.specs.Pdep.{pdep};
+use super::forms::deposit_two_holes;
+use super::forms::deposit_two_lowest;
+use super::network::deposit_bytewise;
+use super::num::if_odd;
+use super::num::lowest;
+
+// The network choice: closed forms for at most two set bits or two clear bits, the byte network otherwise.
+pub fn deposit_portable(source: u64, mask: u64, count: u32) -> u64
+    requires { ⌜ count ≡ ones mask ⌝ }
+    ensures { λ r. ⌜ r ≡ pdep 64 source mask ⌝ }
+{
+    match count {
+        0..=2 => deposit_two_lowest(source, mask),
+        62.. => deposit_two_holes(source, mask),
+        _ => deposit_bytewise(source, mask),
+    }
+}
+
+// The loop form, for a sparse self: bit by bit, until the mask or the source has no bit left.
+pub fn deposit_portable_loop(source: u64, mask: u64, count: u32) -> u64
+    requires { ⌜ count ≡ ones mask ⌝ }
+    ensures { λ r. ⌜ r ≡ pdep 64 source mask ⌝ }
+{
+    if count <= 2 {
+        return deposit_two_lowest(source, mask);
+    }
+    let mut s = source;
+    let mut m = mask;
+    let mut result: u64 = 0;
+    while m != 0 && s != 0 {
+        result |= if_odd(lowest(m), s);
+        s >>= 1;
+        m &= m - 1;
+    }
+    result
+}
+
+// The position of the set bit that has the rank. Bytes are skipped by their counts; in the byte that holds the rank, low
+// bits are cleared until the bit is the lowest.
+pub fn select_bit_position(word: u64, rank: u32) -> u32
+    requires { ⌜ rank < ones word ⌝ }
+    ensures { λ r. ⌜ r ≡ select (bitsOf 64 word) rank ⌝ }
+{
+    let mut left = rank;
+    let mut rest = word;
+    let mut bit_offset: u32 = 0;
+    let position = 'bytes: loop {
+        if bit_offset >= 64 {
+            break 'bytes 64;
+        }
+        let byte = rest & 0xff;
+        let count = u64::count_ones(byte);
+        if left < count {
+            let mut bits = byte;
+            for _ in 0..left {
+                bits &= bits - 1;
+            }
+            break 'bytes bit_offset + u64::trailing_zeros(bits);
+        }
+        left -= count;
+        rest >>= 8;
+        bit_offset += 8;
+    };
+    position
+}
