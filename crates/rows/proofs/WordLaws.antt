@@ -1,14 +1,14 @@
 -- A word and its bits, at any width.
 -- Assumes nothing.
-use Prim.Native.Nat.{ℕ, zero, suc, _+_, _-_, _*_, _/_, _%_, _^_, _≤_, _<_, min, max, zero-le, suc-le-suc}
-use native.Mathlib.Nat.{add-zero, zero-add, suc-add, add-suc, pow-suc, mod-one, div-one, mod-lt, mod-eq-of-lt, le-of-suc-le-suc, not-suc-le-zero, zero-lt-suc, le-refl, add-comm, mul-assoc, mul-comm, zero-mul, add-mul, add-assoc, div-div-eq-div-mul, suc-inj}
-use mathlib.Core.Path.{_≡_, refl, sym, ap, ap₂, _∙_, subst}
+use Prim.Native.Nat.{ℕ, zero, suc, _+_, _-_, _*_, _/_, _%_, _^_, _<_, min, max}
+use native.Mathlib.Nat.{zero-add, suc-add, pow-suc, mod-one, div-one, mod-lt, mod-eq-of-lt, le-of-suc-le-suc, zero-lt-suc, mul-assoc, mul-comm, add-mul, add-assoc, div-div-eq-div-mul}
+use mathlib.Core.Path.{_≡_, refl, sym, ap, ap₂, _∙_}
 use mathlib.Core.Bool.{Bool, true, false, not, _&&_, _||_}
 use mathlib.Core.List.{List, [], _∷_, _++_, map}
 use native.Mathlib.Omega.{arith}
-use lib.ListN.{length, take, drop, getD}
-use lib.Arith.{digits-lt, digits-div, digits-mod, mod-mul, lt-one}
-use lib.Pow.{pow-pos, pow-add}
+use lib.ListN.{length, getD}
+use lib.Arith.{digits-lt, digits-div, digits-mod, mod-mul}
+use lib.Pow.{pow-pos}
 use lib.Bits.{bitAnd, bitOr, bitXor, differ, and-step, or-step, xor-step}
 use lib.Count.{ones, ones-step, ones-le}
 use Rattle.rows.specs.Rows.{count}

@@ -1,14 +1,14 @@
--- One byte of the network, by a test that antt computes at each of the 256 mask bytes and at each source that the mask byte has room for. Assumes nothing.
-use mathlib.Core.Path.{_≡_, refl, sym, ap, ap₂, _∙_, subst}
-use mathlib.Core.Bool.{Bool, true, false}
-use mathlib.Core.List.{List, [], _∷_}
-use Prim.Native.Nat.{ℕ, zero, suc, _+_, _-_, _*_, _/_, _%_, _^_, _≤_, _<_}
+-- One byte of the network gives the deposit on 8 digits.
+-- By a test that antt computes at each of the 256 mask bytes and at each source that the mask byte has room for. Assumes nothing.
+use mathlib.Core.Path.{_≡_, ap, _∙_}
+use mathlib.Core.Bool.{Bool}
+use Prim.Native.Nat.{ℕ, _-_, _%_, _^_, _<_}
 use native.Mathlib.Nat.{mod-lt}
 use lib.Dec.{T, eqb, eqb→eq, ltb, ltb→lt}
 use lib.Pow.{pow-pos}
 use lib.Bits.{bitAnd, and-mask}
 use lib.Count.{ones, onesIn}
-use Rattle.word.specs.Lanes.{parity8, parityFrom, zeros8, landed8, packed8, zerosAt, packedAt, landedAt, undo, undoFrom}
+use Rattle.word.specs.Lanes.{parity8, parityFrom, zeros8, landed8, packed8, zerosAt, packedAt, landedAt, undo}
 use Rattle.word.proofs.DealtLaws.{dealt, dealt-room}
 use Rattle.word.proofs.EveryBelow.{both, both-left, both-right, allBelow, at-below}
 

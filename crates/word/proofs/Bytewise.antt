@@ -1,22 +1,23 @@
--- The byte network gives the deposit. Assumes nothing.
+-- The byte network gives the published PDEP: each stage undone acts on each byte by itself, and a byte is the computed test.
+-- The bytes together are the deposit by the split law, a byte at a time. Assumes nothing.
 use mathlib.Core.Path.{_≡_, refl, sym, ap, ap₂, _∙_, subst}
-use mathlib.Core.Logic.{_⊎_, inl, inr, ⊎-elim}
-use mathlib.Core.List.{List, [], _∷_}
-use Prim.Native.Nat.{ℕ, zero, suc, _+_, _-_, _*_, _/_, _%_, _^_, _≤_, _<_}
-use native.Mathlib.Nat.{mod-one, lt-of-lt-of-le, mod-eq-of-lt, lt-of-le-of-lt, mul-lt-mul-of-pos-right, add-zero, div-one, pow-suc}
+use mathlib.Core.Logic.{_⊎_, ⊎-elim}
+use mathlib.Core.List.{[], _∷_}
+use Prim.Native.Nat.{ℕ, zero, suc, _+_, _-_, _*_, _/_, _%_, _^_, _<_}
+use native.Mathlib.Nat.{lt-of-lt-of-le, mod-eq-of-lt, lt-of-le-of-lt, mul-lt-mul-of-pos-right, add-zero, div-one}
 use native.Mathlib.Numerals.{one-add}
 use native.Mathlib.Omega.{arith}
 use lib.Pow.{pow-pos, pow-add, pow-mono, mod-mod-pow}
-use lib.Bits.{bitAnd, bitOr, and-le-l, and-le-r, or-lt}
-use lib.Count.{ones, onesIn, ones-step}
+use lib.Bits.{bitAnd, bitOr, and-le-r, or-lt}
+use lib.Count.{ones}
 use Rattle.rows.specs.Pdep.{pdep}
 use Rattle.word.specs.Lanes.{each2, each, before, gathered, undo, undoFrom, packedAt, landedAt}
-use Rattle.word.proofs.LowestLaws.{digit}
-use Rattle.word.proofs.DealtLaws.{dealt, dealt-even, dealt-odd, dealt-split, mod-digit, ones-low, pdep-dealt}
+use Rattle.word.proofs.DigitLaws.{digit, mod-digit}
+use Rattle.word.proofs.DealtLaws.{dealt, dealt-even, dealt-odd, dealt-split, ones-low, pdep-dealt}
 use Rattle.word.proofs.LaneLaws.{Bounded, each2-lt, each2-not, each2-and, each2-or, each2-ext, each2-fst, each2-snd, each2-only, each2-scale}
 use Rattle.word.proofs.NetworkLaws.{snd-bound, fst-bound, and-bound, packedAt-bound}
 use Rattle.word.proofs.GatherLaws.{unit, incl, incl-is, excl-is, excl-before, room-counts, lows, lows-lt, gathered-lows}
-use Rattle.word.proofs.ByteLaw.{net, byte-passes, byte-law}
+use Rattle.word.proofs.ByteLaw.{byte-passes, byte-law}
 
 -- ---- a stage undone, byte by byte
 module _ (j k : ℕ) (e : j + k ≡ 8) (l : ℕ → ℕ) (hl : (b : ℕ) → b < 256 → l b < 2 ^ j) (f : ℕ → ℕ → ℕ) (hf : Bounded f) where

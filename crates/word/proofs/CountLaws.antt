@@ -1,15 +1,16 @@
--- The counts of a word's bytes, all at once, as the code has them. Assumes nothing.
-use mathlib.Core.Path.{_≡_, refl, sym, ap, ap₂, _∙_, subst}
-use mathlib.Core.Bool.{Bool, true, false}
+-- The counts of a word's bytes, all at once, as the code has them.
+-- A computed test at each byte, and laws that carry it to every byte of a word. Assumes nothing.
+use mathlib.Core.Path.{_≡_, refl, sym, ap, ap₂, _∙_}
+use mathlib.Core.Bool.{Bool}
 use Prim.Native.Nat.{ℕ, zero, suc, _+_, _-_, _*_, _/_, _%_, _^_, _≤_, _<_}
-use native.Mathlib.Nat.{le-trans, lt-of-le-of-lt, div-le-self}
+use native.Mathlib.Nat.{le-trans, div-le-self}
 use native.Mathlib.Omega.{arith}
 use lib.Dec.{T, eqb, eqb→eq, ltb, ltb→lt}
 use lib.Bits.{bitAnd, and-block, and-mask, and-le-l, and-le-r}
 use lib.Count.{ones, onesIn}
 use Rattle.word.specs.Lanes.{each2, each}
 use Rattle.word.proofs.EveryBelow.{both, both-left, both-right, allBelow, at-below}
-use Rattle.word.proofs.LaneLaws.{Bounded, each2-snd, each2-add, each2-and, each2-shr, each2-const, each2-ext, each2-lt}
+use Rattle.word.proofs.LaneLaws.{Bounded, each2-snd, each2-add, each2-and, each2-shr, each2-const, each2-ext}
 use Rattle.word.proofs.NetworkLaws.{snd-bound}
 
 -- ---- on one byte
@@ -53,15 +54,7 @@ high-nibble b h = ltb→lt (nibbles8 b / 16) 5 (both-right (ltb (nibbles8 b % 16
 pairs-bound : Bounded (λ a b. pairs8 b)
 unfolding pairs8
 pairs-bound a b ha hb = omega arith
-
-nibbles-bound : Bounded (λ a b. nibbles8 b)
-unfolding nibbles8
-nibbles-bound a b ha hb = omega (arith, and-le-r (pairs8 b) 0x33, and-le-r (pairs8 b / 4) 0x33)
-
 module _ (m : ℕ) (h : m < 2 ^ 64) where
-  pub pairs-le : bitAnd (m / 2) (0x55 * K) ≤ m
-  pairs-le = le-trans (and-le-l (m / 2) (0x55 * K)) (div-le-self m 2)
-
   pub pairs-is : m - bitAnd (m / 2) (0x55 * K) ≡ each pairs8 8 m
   unfolding pairs8
   pairs-is =

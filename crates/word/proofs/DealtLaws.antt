@@ -1,13 +1,14 @@
--- Laws of `dealt`, over the width: one set digit of the mask at a time, and a run of digits at a time. Assumes nothing.
-use mathlib.Core.Path.{_≡_, refl, sym, ap, ap₂, _∙_, subst}
-use mathlib.Core.Logic.{_⊎_, inl, inr, ⊎-elim}
-use Prim.Native.Nat.{ℕ, zero, suc, _+_, _-_, _*_, _/_, _%_, _^_, _≤_, _<_, min, max}
-use native.Mathlib.Numerals.{add-one, one-add}
-use native.Mathlib.Nat.{zero-add, add-zero, pow-suc, div-one, max-zero, zero-max, add-assoc, mul-one, mul-zero, zero-mul, add-comm, suc-add, mod-one, mul-assoc}
+-- PDEP digit by digit: one set digit of the mask at a time, a run of digits at a time; and it is the published PDEP.
+-- By recursion over the width; the published loop comes in by the law that it is composition. Assumes nothing.
+use mathlib.Core.Path.{_≡_, refl, sym, ap, ap₂, _∙_}
+use mathlib.Core.Logic.{_⊎_, ⊎-elim}
+use Prim.Native.Nat.{ℕ, zero, suc, _+_, _-_, _*_, _/_, _%_, _^_, _≤_, _<_, max}
+use native.Mathlib.Numerals.{one-add}
+use native.Mathlib.Nat.{zero-add, add-zero, pow-suc, div-one, max-zero, zero-mul, suc-add, mod-one, mul-assoc}
 use native.Mathlib.Omega.{arith}
 use lib.Arith.{bin-ind}
-use lib.Pow.{pow-add, shr-shr, mod-pow-add}
-use lib.Bits.{bitAnd, bitOr, or-step, and-step, or-zero-r}
+use lib.Pow.{shr-shr}
+use lib.Bits.{bitAnd, bitOr, or-step, or-zero-r}
 use lib.Count.{ones, onesIn, ones-step}
 use mathlib.Core.Bool.{Bool}
 use mathlib.Core.List.{List, _∷_}
@@ -19,7 +20,8 @@ use Rattle.rows.proofs.WordLaws.{bitsOf-length, digit-isOne}
 use Rattle.rows.proofs.FitLaws.{take-bits, compose-cut}
 use Rattle.rows.proofs.PdepLaws.{pdep-is}
 use Rattle.word.specs.Lowest.{lowestSet, withoutLowest}
-use Rattle.word.proofs.LowestLaws.{digit, and-pred, withoutLowest-lt, ones-none, ones-clear-sub, lowestSet-even, lowestSet-odd, withoutLowest-even, withoutLowest-odd}
+use Rattle.word.proofs.DigitLaws.{digit, mod-digit, or-at}
+use Rattle.word.proofs.LowestLaws.{and-pred, withoutLowest-lt, ones-none, ones-clear-sub, lowestSet-even, lowestSet-odd, withoutLowest-even, withoutLowest-odd}
 
 -- PDEP, digit by digit from the lowest: where the mask's lowest digit is set it takes the source's lowest digit, and the rest of the source goes on to
 -- the rest of the mask; where it is clear the digit is 0, and the whole source goes on
@@ -57,9 +59,6 @@ dealt-lt (suc w) s m =
     ⊎-elim (λ (x : m % 2 ≡ 0). omega (arith, dealt-even w s m x, dealt-lt w s (m / 2))) (λ (x : m % 2 ≡ 1). omega (arith, dealt-odd w s m x, dealt-lt w (s / 2) (m / 2))) (digit m)
 
 -- ---- `or`
-or-at : (a b x y : ℕ) → a % 2 ≡ x → b % 2 ≡ y → bitOr a b ≡ bitOr (a / 2) (b / 2) * 2 + max x y
-or-at a b x y e f = or-step a b ∙ ap₂ (λ (p q : ℕ). bitOr (a / 2) (b / 2) * 2 + max p q) e f
-
 -- of two numbers that are written by their lowest digits, one of them even
 pub or-even : (a b : ℕ) → bitOr (a * 2) (b * 2) ≡ bitOr a b * 2
 or-even a b =
@@ -135,9 +134,6 @@ turn w r s m h l =
     ∙ or-assoc r (lowestSet w m * (s % 2)) (dealt w (s / 2) (withoutLowest w m)) ∙ ap (bitOr r) (sym (peel w s m))
 
 -- ---- source digits from the mask's count on do not count
-pub mod-digit : (w n : ℕ) → n % 2 ^ suc w ≡ (n / 2 % 2 ^ w) * 2 + n % 2
-mod-digit w n = ap (λ (e : ℕ). n % 2 ^ e) (sym (add-one w)) ∙ mod-pow-add n w 1
-
 pub dealt-room : (w s m : ℕ) → m < 2 ^ w → dealt w (s % 2 ^ ones m) m ≡ dealt w s m
 unfolding dealt
 dealt-room zero s m h = refl

@@ -1,13 +1,13 @@
--- The source bits of each byte: the sums of the counts below it by one multiplication, and the 8 digits of the source from there on. Assumes nothing.
+-- The source bits of each byte: the set bits below it by one product, and the 8 digits of the source from there on.
+-- By recursion over the bytes; no sum passes a byte. Assumes nothing.
 use mathlib.Core.Path.{_≡_, refl, sym, ap, ap₂, _∙_, subst}
 use Prim.Native.Nat.{ℕ, zero, suc, _+_, _-_, _*_, _/_, _%_, _^_, _≤_, _<_}
-use native.Mathlib.Nat.{pow-suc, mod-lt, mod-eq-of-lt, mul-suc, mul-assoc, add-mul, mul-add, mul-right-comm, mul-one, mod-one, zero-div, add-mul-mod-self-right, zero-mul, add-zero, div-one, lt-of-le-of-lt}
+use native.Mathlib.Nat.{pow-suc, mul-suc, mul-assoc, add-mul, mul-add, mul-right-comm, mul-one, mod-one, zero-div, add-mul-mod-self-right, div-one}
 use native.Mathlib.Omega.{arith}
 use lib.Arith.{mod-mul}
-use lib.Pow.{pow-pos, pow-add, shr-shr}
+use lib.Pow.{pow-add, shr-shr}
 use lib.Count.{ones, ones-le}
 use Rattle.word.specs.Lanes.{each2, each, before, gathered}
-use Rattle.word.proofs.LaneLaws.{Bounded}
 
 -- ---- a loop over the bytes, from the lowest
 width-suc : (n : ℕ) → 2 ^ (8 * suc n) ≡ 2 ^ (8 * n) * 256
@@ -108,10 +108,6 @@ excl-is (suc n) a x r =
     let y : ℕ = a + x % 256 in
     ap (λ (d : ℕ). ((incl n y X * 256 + y) * 256 + a) % d) (pow-suc 256 n) ∙ mod-byte (incl n y X * 256 + y) (256 ^ n) a (pow-pos' n) (r .0)
     ∙ ap (λ (m : ℕ). m * 256 + a) (excl-is n y X (r .1))
-
--- ---- at the counts of a mask
-count-bound : Bounded (λ a b. ones b)
-count-bound a b ha hb = lt-of-le-of-lt (ones-le 8 b hb) (omega arith)
 
 module _ (n m : ℕ) where
   count-low : each ones (suc n) m % 256 ≡ ones (m % 256)

@@ -1,20 +1,18 @@
--- A mask by its holes: the source moved up past the lowest hole, and the hole filled, deposits the same outside the hole. Assumes nothing.
-use mathlib.Core.Path.{_≡_, refl, sym, ap, ap₂, _∙_, subst}
+-- A mask by its holes: the source moved up past the lowest hole, and the hole filled, deposits the same outside the hole.
+-- By recursion over the width, on the holes instead of the mask. Assumes nothing.
+use mathlib.Core.Path.{_≡_, refl, sym, ap, ap₂, _∙_}
 use mathlib.Core.Logic.{_⊎_, inl, inr, ⊎-elim}
-use Prim.Native.Nat.{ℕ, zero, suc, _+_, _-_, _*_, _/_, _%_, _^_, _≤_, _<_, min, max}
-use native.Mathlib.Nat.{pow-suc, mod-lt, mod-eq-of-lt, mod-one, max-zero, min-zero, div-add-mod'}
+use Prim.Native.Nat.{ℕ, zero, suc, _+_, _-_, _*_, _/_, _%_, _^_, _≤_, _<_, min}
+use native.Mathlib.Nat.{pow-suc, mod-lt, mod-eq-of-lt, max-zero, min-zero}
 use native.Mathlib.Numerals.{add-one, one-add}
 use native.Mathlib.Omega.{arith}
-use lib.Pow.{pow-pos, mod-pow-add, mod-mod-pow}
-use lib.Bits.{bitAnd, bitOr, and-zero-r, and-mask, and-step, or-step}
+use lib.Pow.{pow-pos, mod-mod-pow}
+use lib.Bits.{bitAnd, bitOr, and-zero-r, and-mask}
 use lib.Count.{ones, ones-step}
 use Rattle.word.specs.Lowest.{lowestSet, withoutLowest, pastHole, ifSet}
-use Rattle.word.proofs.LowestLaws.{digit, lowestSet-even, lowestSet-odd, withoutLowest-even, withoutLowest-odd, withoutLowest-lt, ones-none, ones-clear-sub, ones-zero}
+use Rattle.word.proofs.DigitLaws.{digit, mod-digit, and-by, or-by}
+use Rattle.word.proofs.LowestLaws.{lowestSet-even, lowestSet-odd, withoutLowest-even, withoutLowest-odd, withoutLowest-lt, ones-none, ones-clear-sub, ones-zero}
 use Rattle.word.proofs.DealtLaws.{dealt, dealt-even, dealt-odd}
-
--- ---- one digit more in a remainder
-pub mod-digit : (w n : ℕ) → n % 2 ^ suc w ≡ (n / 2 % 2 ^ w) * 2 + n % 2
-mod-digit w n = ap (λ (e : ℕ). n % 2 ^ e) (sym (add-one w)) ∙ mod-pow-add n w 1
 
 -- ---- the digits below the lowest set digit of h; all w where none is set
 unfoldable pub under : ℕ → ℕ → ℕ
@@ -73,12 +71,6 @@ pastHole-lt (suc w) h c s =
     ⊎-elim (λ (x : h % 2 ≡ 0). omega (arith, pastHole-even w h c s x, pastHole-lt w (h / 2) (s % 2) (s / 2)))
     (λ (x : h % 2 ≡ 1). omega (arith, pastHole-odd w h c s x, mod-lt (s * 2 + c) (pow-pos (suc w)))) (digit h)
 
-and-at : (a b p q x y : ℕ) → a / 2 ≡ p → b / 2 ≡ q → a % 2 ≡ x → b % 2 ≡ y → bitAnd a b ≡ bitAnd p q * 2 + min x y
-and-at a b p q x y i j e f = and-step a b ∙ ap₂ (λ (m n : ℕ). bitAnd m n * 2 + min (a % 2) (b % 2)) i j ∙ ap₂ (λ (m n : ℕ). bitAnd p q * 2 + min m n) e f
-
-or-at : (a b p q x y : ℕ) → a / 2 ≡ p → b / 2 ≡ q → a % 2 ≡ x → b % 2 ≡ y → bitOr a b ≡ bitOr p q * 2 + max x y
-or-at a b p q x y i j e f = or-step a b ∙ ap₂ (λ (m n : ℕ). bitOr m n * 2 + max (a % 2) (b % 2)) i j ∙ ap₂ (λ (m n : ℕ). bitOr p q * 2 + max m n) e f
-
 min-one : (d : ℕ) → d < 2 → min d 1 ≡ d
 min-one zero h = refl
 min-one (suc zero) h = refl
@@ -97,13 +89,13 @@ pastHole-is (suc w) h c s hs hc =
     let e : under (suc w) h ≡ u * 2 + 1 = under-even w h x in
     let same : s / 2 * 2 + s % 2 ≡ s = omega arith in
     let a : bitAnd s (under (suc w) h) ≡ bitAnd (s / 2) u * 2 + s % 2 =
-    and-at s (under (suc w) h) (s / 2) u (s % 2) 1 refl (omega arith) refl (omega arith) ∙ ap (λ (n : ℕ). bitAnd (s / 2) u * 2 + n) (min-one (s % 2) (omega arith)) in
+    and-by s (under (suc w) h) (s / 2) u (s % 2) 1 refl (omega arith) refl (omega arith) ∙ ap (λ (n : ℕ). bitAnd (s / 2) u * 2 + n) (min-one (s % 2) (omega arith)) in
     let b : bitAnd ((s * 2 + c) % 2 ^ suc w) (2 ^ suc w - 1 - under (suc w) h) ≡ bitAnd (s % 2 ^ w) (2 ^ w - 1 - u) * 2 + 0 =
-    and-at ((s * 2 + c) % 2 ^ suc w) (2 ^ suc w - 1 - under (suc w) h) (s % 2 ^ w) (2 ^ w - 1 - u) c 0 (omega arith) (omega arith) (omega arith) (omega arith)
+    and-by ((s * 2 + c) % 2 ^ suc w) (2 ^ suc w - 1 - under (suc w) h) (s % 2 ^ w) (2 ^ w - 1 - u) c 0 (omega arith) (omega arith) (omega arith) (omega arith)
     ∙ ap (λ (n : ℕ). bitAnd (s % 2 ^ w) (2 ^ w - 1 - u) * 2 + n) (min-zero c) in
     let i : bitOr (bitAnd (s / 2) u) (bitAnd (s % 2 ^ w) (2 ^ w - 1 - u)) ≡ pastHole w (h / 2) (s % 2) (s / 2) =
     ap (λ (n : ℕ). bitOr (bitAnd (s / 2) u) (bitAnd (n % 2 ^ w) (2 ^ w - 1 - u))) (sym same) ∙ pastHole-is w (h / 2) (s % 2) (s / 2) (omega arith) (omega arith) in
-    or-at (bitAnd s (under (suc w) h)) (bitAnd ((s * 2 + c) % 2 ^ suc w) (2 ^ suc w - 1 - under (suc w) h)) (bitAnd (s / 2) u) (bitAnd (s % 2 ^ w) (2 ^ w - 1 - u)) (s % 2) 0
+    or-by (bitAnd s (under (suc w) h)) (bitAnd ((s * 2 + c) % 2 ^ suc w) (2 ^ suc w - 1 - under (suc w) h)) (bitAnd (s / 2) u) (bitAnd (s % 2 ^ w) (2 ^ w - 1 - u)) (s % 2) 0
     (omega arith) (omega arith) (omega arith) (omega arith)
     ∙ ap₂ (λ (m n : ℕ). m * 2 + n) i (max-zero (s % 2)) ∙ sym (pastHole-even w h c s x))
     (λ (x : h % 2 ≡ 1).
@@ -156,8 +148,8 @@ lack-and (suc w) x m h e l =
     let i : bitAnd (x / 2) (m / 2) ≡ lack w (x / 2) (h / 2) = lack-and w (x / 2) (m / 2) (h / 2) (omega arith) (omega arith) in
     ⊎-elim
     (λ (t : h % 2 ≡ 0).
-    omega (arith, and-at x m (x / 2) (m / 2) (x % 2) 1 refl refl refl (omega arith), min-one (x % 2) (omega arith), lack-even w x h t))
-    (λ (t : h % 2 ≡ 1). omega (arith, and-at x m (x / 2) (m / 2) (x % 2) 0 refl refl refl (omega arith), min-zero (x % 2), lack-odd w x h t)) (digit h)
+    omega (arith, and-by x m (x / 2) (m / 2) (x % 2) 1 refl refl refl (omega arith), min-one (x % 2) (omega arith), lack-even w x h t))
+    (λ (t : h % 2 ≡ 1). omega (arith, and-by x m (x / 2) (m / 2) (x % 2) 0 refl refl refl (omega arith), min-zero (x % 2), lack-odd w x h t)) (digit h)
 
 pub ones-comp : (w m h : ℕ) → m + h + 1 ≡ 2 ^ w → ones m + ones h ≡ w
 ones-comp zero m h e =

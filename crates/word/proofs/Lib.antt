@@ -1,3 +1,4 @@
+pub mod DigitLaws
 pub mod EveryBelow
 pub mod LowestLaws
 pub mod NumLaws

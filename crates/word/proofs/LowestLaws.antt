@@ -1,22 +1,14 @@
--- The lowest set digit of a word: by the word and its negative, and the word without it. Stated over the width. Assumes nothing.
-use mathlib.Core.Path.{_≡_, refl, sym, ap, ap₂, _∙_, subst}
-use mathlib.Core.Logic.{_⊎_, inl, inr, ⊎-elim}
-use Prim.Native.Nat.{ℕ, zero, suc, _+_, _-_, _*_, _/_, _%_, _^_, _≤_, _<_, min, max}
-use native.Mathlib.Nat.{eq-zero-or-pos, pow-suc, not-suc-le-zero, le-of-suc-le-suc}
+-- The lowest set digit of a word: by the word and its negative, and the word without it.
+-- By recursion over the width, on the lowest digit. Assumes nothing.
+use mathlib.Core.Path.{_≡_, refl, ap}
+use mathlib.Core.Logic.{_⊎_, ⊎-elim}
+use Prim.Native.Nat.{ℕ, zero, suc, _+_, _-_, _*_, _/_, _%_, _^_, _<_}
+use native.Mathlib.Nat.{eq-zero-or-pos, pow-suc}
 use native.Mathlib.Omega.{arith}
-use lib.Arith.{lt-one}
-use lib.Bits.{bitAnd, bitOr, bitXor, differ, and-step, or-step, xor-step, and-self, xor-zero-r, and-zero-r}
+use lib.Bits.{bitAnd, bitXor, and-self, xor-zero-r}
 use lib.Count.{ones, ones-step}
 use Rattle.word.specs.Lowest.{lowestSet, withoutLowest}
-
-pub below-two : (d : ℕ) → d < 2 → (d ≡ 0) ⊎ (d ≡ 1)
-below-two zero h = inl refl
-below-two (suc zero) h = inr refl
-below-two (suc (suc d)) h = absurd (not-suc-le-zero (le-of-suc-le-suc (le-of-suc-le-suc h)))
-
--- a number's lowest digit
-pub digit : (n : ℕ) → (n % 2 ≡ 0) ⊎ (n % 2 ≡ 1)
-digit n = below-two (n % 2) (omega arith)
+use Rattle.word.proofs.DigitLaws.{digit, and-at, xor-at}
 
 -- ---- each definition, at a lowest digit that is known
 pub lowestSet-even : (w n : ℕ) → n % 2 ≡ 0 → lowestSet (suc w) n ≡ lowestSet w (n / 2) * 2
@@ -39,10 +31,6 @@ pub lowestSet-zero : (w : ℕ) → lowestSet w 0 ≡ 0
 unfolding lowestSet
 lowestSet-zero zero = refl
 lowestSet-zero (suc w) = ap (λ (x : ℕ). x * 2) (lowestSet-zero w)
-
--- ---- the digits of the operations, at digits that are known
-and-at : (a b x y : ℕ) → a % 2 ≡ x → b % 2 ≡ y → bitAnd a b ≡ bitAnd (a / 2) (b / 2) * 2 + min x y
-and-at a b x y e f = and-step a b ∙ ap₂ (λ (p q : ℕ). bitAnd (a / 2) (b / 2) * 2 + min p q) e f
 
 -- a number and its complement have no digit in common
 pub and-comp : (w a b : ℕ) → a + b + 1 ≡ 2 ^ w → bitAnd a b ≡ 0
@@ -74,9 +62,6 @@ and-pred (suc w) m h l =
     (λ (x : m % 2 ≡ 1).
     let half : (m - 1) / 2 ≡ m / 2 = omega arith in
     omega (arith, and-at m (m - 1) 1 0 x (omega arith), ap (bitAnd (m / 2)) half, and-self (m / 2), withoutLowest-odd w m x)) (digit m)
-
-xor-at : (a b x y : ℕ) → a % 2 ≡ x → b % 2 ≡ y → bitXor a b ≡ bitXor (a / 2) (b / 2) * 2 + differ x y
-xor-at a b x y e f = xor-step a b ∙ ap₂ (λ (p q : ℕ). bitXor (a / 2) (b / 2) * 2 + differ p q) e f
 
 -- the same, by the digit itself
 pub xor-low : (w m : ℕ) → m < 2 ^ w → bitXor m (lowestSet w m) ≡ withoutLowest w m

@@ -1,15 +1,16 @@
--- What the functions of the byte network give, byte by byte. Assumes nothing.
+-- What the functions of the byte network give, byte by byte.
+-- Each is a lane law at the function's masks and shifts. Assumes nothing.
 use mathlib.Core.Path.{_≡_, refl, sym, ap, ap₂, _∙_, subst}
 use mathlib.Core.Logic.{_⊎_, inl, inr, ⊎-elim}
-use Prim.Native.Nat.{ℕ, zero, suc, _+_, _-_, _*_, _/_, _%_, _^_, _≤_, _<_}
-use native.Mathlib.Nat.{mod-lt, mod-eq-of-lt, add-zero, lt-of-le-of-lt, div-le-self, not-suc-le-zero}
+use Prim.Native.Nat.{ℕ, zero, suc, _+_, _-_, _*_, _/_, _%_, _^_, _<_}
+use native.Mathlib.Nat.{mod-eq-of-lt, add-zero, lt-of-le-of-lt}
 use native.Mathlib.Omega.{arith}
 use lib.Dec.{eqb, eqb→eq}
 use lib.Pow.{pow-pos, shr-le, shr-lt}
-use lib.Bits.{bitAnd, bitOr, bitXor, and-mask, and-le-l, and-le-r, xor-lt}
-use Rattle.word.specs.Lanes.{each2, each, up8, down8, parity8, parityFrom, zeros8, landed8, packed8, zerosAt, packedAt, landedAt, pick}
+use lib.Bits.{bitAnd, bitXor, and-mask, and-le-l, xor-lt}
+use Rattle.word.specs.Lanes.{each2, each, up8, down8, parity8, parityFrom, zeros8, landed8, packed8, zerosAt, packedAt, landedAt}
 use Rattle.word.proofs.EveryBelow.{at-below}
-use Rattle.word.proofs.LaneLaws.{Bounded, each2-lt, each2-comp, each2-not, each2-and, each2-or, each2-xor, each2-ext, each2-snd, each2-fst, each2-only, each2-first, each2-comp2, each2-const, each2-shr, each2-shl, and-trunc}
+use Rattle.word.proofs.LaneLaws.{Bounded, each2-lt, each2-comp, each2-not, each2-and, each2-xor, each2-ext, each2-snd, each2-first, each2-comp2, each2-const, each2-shr, each2-shl, and-trunc}
 
 pub snd-bound : Bounded (λ a b. b)
 snd-bound a b ha hb = hb

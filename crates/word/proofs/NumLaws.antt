@@ -1,18 +1,16 @@
--- What the functions of `num` compute, as laws on numbers. Assumes nothing.
-use mathlib.Core.Path.{_≡_, refl, sym, ap, ap₂, _∙_, subst}
-use mathlib.Core.Logic.{_⊎_, inl, inr, ⊎-elim}
-use Prim.Native.Nat.{ℕ, zero, suc, _+_, _-_, _*_, _/_, _%_, _^_, _≤_, _<_}
+-- What the functions of `num` compute, as laws on numbers.
+-- By the cases of a digit, and by halves of 32 digits. Assumes nothing.
+use mathlib.Core.Path.{_≡_, sym, ap, ap₂, _∙_}
+use mathlib.Core.Logic.{_⊎_, ⊎-elim}
+use Prim.Native.Nat.{ℕ, _+_, _-_, _*_, _/_, _%_, _^_, _<_}
 use native.Mathlib.Nat.{eq-zero-or-pos, mul-zero, mul-one, mod-eq-of-lt, add-mul, mul-add, mul-assoc, mul-right-comm, lt-of-le-of-lt, le-of-lt, mul-le-mul-left, mul-lt-mul-of-pos-right, mul-add-mod-self-right, add-mod-mod}
 use native.Mathlib.Omega.{arith}
 use lib.Pow.{pow-pos, split}
 use lib.Bits.{bitAnd, and-zero-r, and-mask}
 use Rattle.word.specs.Lanes.{inEach}
 use Rattle.word.specs.Lowest.{lowestSet}
-use Rattle.word.proofs.LowestLaws.{digit, and-neg, lowestSet-zero}
-
--- zero minus x is x's negative, where x is not 0
-pub zero-minus-word : (x r : ℕ) → x < 2 ^ 64 → r < 2 ^ 64 → (r + x) % 2 ^ 64 ≡ 0 → r ≡ (2 ^ 64 - x) % 2 ^ 64
-zero-minus-word x r hx hr e = omega arith
+use Rattle.word.proofs.DigitLaws.{digit}
+use Rattle.word.proofs.LowestLaws.{and-neg, lowestSet-zero}
 
 pub low-word : (x r : ℕ) → x < 2 ^ 64 → r ≡ (2 ^ 64 - x) % 2 ^ 64 → bitAnd x r ≡ lowestSet 64 x
 low-word x r hx e = ⊎-elim (λ (z : x ≡ 0). rw z (sym (lowestSet-zero 64))) (λ (p : 0 < x). and-neg 64 x r hx (omega arith)) (eq-zero-or-pos x)

@@ -3,21 +3,22 @@
 -- Assumes nothing.
 use mathlib.Core.Path.{_≡_, refl, sym, ap, ap₂, _∙_, subst}
 use mathlib.Core.Bool.{Bool, false}
-use mathlib.Core.List.{List, _∷_, _++_}
+use mathlib.Core.List.{List, _∷_}
 use mathlib.Core.Logic.{⊎-elim}
 use Prim.Native.Nat.{ℕ, zero, suc, _+_, _-_, _*_, _/_, _%_, _^_, _≤_, _<_}
 use native.Mathlib.Nat.{mod-lt, mod-mod}
 use native.Mathlib.Omega.{arith}
 use lib.Bits.{bitAnd}
 use lib.Pow.{pow-pos, split}
-use lib.Count.{ones, trailingZeros, under, ones-cat}
+use lib.Count.{ones, trailingZeros, ones-cat}
 use Rattle.rows.specs.Rows.{count}
 use Rattle.rows.specs.Word.{isOne, bitsOf}
 use Rattle.rows.specs.Lists.{select}
 use Rattle.rows.proofs.WordLaws.{bitsOf-length, bitsOf-add, bits-mod, count-bits-mod}
 use Rattle.rows.proofs.SelectLaws.{select-unset, select-in, select-skip, clearFirst, select-cleared}
 use Rattle.word.specs.Lowest.{withoutLowest}
-use Rattle.word.proofs.LowestLaws.{digit, and-pred, withoutLowest-even, withoutLowest-odd}
+use Rattle.word.proofs.DigitLaws.{digit}
+use Rattle.word.proofs.LowestLaws.{and-pred, withoutLowest-even, withoutLowest-odd}
 
 -- the rank is past the k low bits
 pub skip-bits : (k w n r : ℕ) → ones (n % 2 ^ k) ≤ r → select (bitsOf (k + w) n) r ≡ k + select (bitsOf w (n / 2 ^ k)) (r - ones (n % 2 ^ k))

@@ -3,25 +3,22 @@
 -- Assumes nothing.
 use Prim.Native.Nat.{ℕ, _<_}
 use mathlib.Core.Path.{_≡_, refl, sym, ap, _∙_}
-use mathlib.Core.Logic.{_↔_, _⊎_, inl, inr}
-use mathlib.Core.Bool.{Bool, true, false}
-use mathlib.Core.List.{List}
+use mathlib.Core.Logic.{_↔_, inl, inr}
+use mathlib.Core.Bool.{true}
 use native.Mathlib.Omega.{arith}
-use lib.ListN.{length, take}
 use contract.Lifetimes.{Lfts}
 use borrow.Fn.Kinds.{Dens, resT, endedOf}
 use denote.Triple.Clauses.{Lasts, atExit}
-use Rattle.rows.specs.declared.Verdict.{Verdict}
 use Rattle.rows.specs.declared.Verdict.the-variants.{Fine, Refused}
 use Rattle.rows.specs.Rows.{count}
 use Rattle.rows.specs.Word.{testBit, bitsOf}
 use Rattle.rows.specs.Lists.{select}
 use Rattle.rows.specs.Pdep.{pdep}
-use Rattle.rows.specs.Table.{Line, First, refusal, noRefusal}
+use Rattle.rows.specs.Table.{First, refusal, noRefusal}
 use Rattle.rows.proofs.WordLaws.{bitsOf-length, bitsOf-at}
 use Rattle.rows.proofs.FitLaws.{take-bits}
 use Rattle.rows.proofs.SelectLaws.{selects}
-use Rattle.rows.proofs.TableLaws.{told-exactly, accepts-exactly, tells}
+use Rattle.rows.proofs.TableLaws.{told-exactly, tells}
 use Rattle.word.specs.Answer.{depositChecks, selectChecks, depositedBy, selectedBy, deposited, selected}
 use Rattle.word.proofs.inner.deposit_portable.Kinds as network-kinds
 use Rattle.word.proofs.inner.deposit_portable.Reads as network

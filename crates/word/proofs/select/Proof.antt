@@ -1,7 +1,7 @@
 -- `word::select` meets its contract: each return is one line of its table of checks. Assumes nothing.
 use mathlib.Core.Path.{_≡_, refl, sym, ap, _∙_}
 use mathlib.Core.Logic.{inl, inr}
-use Prim.Native.Nat.{ℕ, _^_, _<_}
+use Prim.Native.Nat.{ℕ}
 use native.Mathlib.Omega.{arith}
 use lib.Count.{ones, ones-le}
 use borrow.Author.Needs.{needs}

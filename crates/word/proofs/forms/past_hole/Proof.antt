@@ -6,7 +6,6 @@ use native.Mathlib.Omega.{arith}
 use lib.Bits.{bitAnd, bitOr, bitXor}
 use borrow.Author.Needs.{needs}
 use Rattle.word.specs.Lowest.{pastHole, withoutLowest}
-use Rattle.word.specs.declared.forms.Moved.{Moved}
 use Rattle.word.proofs.LowestLaws.{xor-low}
 use Rattle.word.proofs.HoleLaws.{under, below-hole, pastHole-is}
 use Rattle.word.proofs.forms.past_hole.Statement.{statement}

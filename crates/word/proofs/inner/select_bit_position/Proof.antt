@@ -1,14 +1,13 @@
 -- `word::inner::select_bit_position` meets its contract. The outer invariant: the place in what is left of the word, after the bytes passed, is the place that is asked.
 -- The inner one: the place of the rank that is left in the byte, with its low bits cleared, is the place in the byte. Assumes nothing.
-use mathlib.Core.Path.{_≡_, refl, sym, ap, ap₂, _∙_, subst}
-use Prim.Native.Nat.{ℕ, zero, suc, _+_, _-_, _*_, _/_, _%_, _^_, _<_, _≤_}
+use mathlib.Core.Path.{_≡_, refl, sym, ap, _∙_, subst}
+use Prim.Native.Nat.{ℕ, suc, _+_, _-_, _/_, _%_, _^_, _<_, _≤_}
 use native.Mathlib.Omega.{arith}
 use mathlib.Core.Logic.{⊎-elim}
 use native.Mathlib.Nat.{eq-zero-or-pos, lt-of-le-of-lt, zero-add}
-use native.Mathlib.Numerals.{add-one}
 use lib.Pow.{shr-lt}
 use lib.Bits.{bitAnd, and-mask, and-le-l, and-le-r}
-use lib.Count.{ones, ones-le, trailingZeros, trailing-le}
+use lib.Count.{ones, ones-le, trailing-le}
 use Rattle.rows.specs.Word.{bitsOf}
 use Rattle.word.specs.Lowest.{withoutLowest}
 use Rattle.rows.specs.Lists.{select}

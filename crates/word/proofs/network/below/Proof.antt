@@ -1,5 +1,5 @@
 -- `word::network::below` meets its contract: the product sums the counts of the bytes below each byte. Assumes nothing.
-use mathlib.Core.Path.{_≡_, ap, ap₂, _∙_}
+use mathlib.Core.Path.{ap, ap₂, _∙_}
 use Prim.Native.Nat.{ℕ, _*_, _%_, _^_}
 use borrow.Author.Needs.{needs}
 use Rattle.word.proofs.NumLaws.{in-each}

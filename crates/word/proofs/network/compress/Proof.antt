@@ -1,16 +1,14 @@
 -- `word::network::compress` meets its contract. The invariant: the stages so far, byte by byte. Assumes nothing.
 use mathlib.Core.Path.{_≡_, refl, sym, ap, ap₂, _∙_, subst}
-use Prim.Native.Nat.{ℕ, zero, suc, _+_, _-_, _*_, _/_, _%_, _^_, _<_, _≤_}
+use Prim.Native.Nat.{ℕ, _-_, _*_, _%_, _^_, _<_, _≤_}
 use native.Mathlib.Omega.{arith}
-use mathlib.Core.Logic.{_⊎_, inl, inr, ⊎-elim}
+use mathlib.Core.Logic.{_⊎_, ⊎-elim}
 use mathlib.Core.List.{List, [], _∷_}
 use native.Mathlib.Numerals.{add-one}
 use native.Mathlib.Nat.{eq-or-lt-of-le, le-of-suc-le-suc}
-use lib.Dec.{eqb, eqb→eq}
 use lib.ListN.{length, getD, set, length-set}
 use lib.Seq.{getD-set-same, getD-set-other}
 use Rattle.word.specs.Lanes.{each, each2, zerosAt, packedAt, landedAt, zeros8, packed8, landed8}
-use Rattle.word.proofs.EveryBelow.{at-below}
 use Rattle.word.proofs.NetworkLaws.{Length, zeros-next, packed-next, landed-next, zeros-start, packed-start, shift-is, shift-length}
 use Rattle.word.proofs.network.compress.Statement.{statement}
 use Rattle.word.proofs.network.compress.Tie as tie

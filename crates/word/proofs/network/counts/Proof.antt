@@ -1,6 +1,7 @@
--- `word::network::counts` meets its contract. Assumes nothing.
-use mathlib.Core.Path.{_≡_, refl, sym, ap, ap₂, _∙_, subst}
-use Prim.Native.Nat.{ℕ, zero, suc, _+_, _-_, _*_, _/_, _%_, _^_, _<_, _≤_}
+-- `word::network::counts` meets its contract: pairs, nibbles and bytes are each counted in every byte at once.
+-- No sum passes its field, so each step acts on each byte by itself. Assumes nothing.
+use mathlib.Core.Path.{_∙_}
+use Prim.Native.Nat.{_-_, _/_}
 use native.Mathlib.Omega.{arith}
 use native.Mathlib.Nat.{le-trans, div-le-self}
 use lib.Bits.{and-le-l}

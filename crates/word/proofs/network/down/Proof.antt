@@ -1,7 +1,7 @@
--- `word::network::down` meets its contract. Assumes nothing.
-use mathlib.Core.Path.{_≡_, refl, sym, ap, ap₂, _∙_, subst}
-use Prim.Native.Nat.{ℕ, zero, suc, _+_, _-_, _*_, _/_, _%_, _^_, _<_, _≤_}
-use native.Mathlib.Omega.{arith}
+-- `word::network::down` meets its contract: what a shift brings in from the byte above, the mask takes off.
+-- By the law of masked shifts, over the number of bytes. Assumes nothing.
+use mathlib.Core.Path.{ap, _∙_}
+use Prim.Native.Nat.{ℕ, _-_, _/_, _^_}
 use lib.Bits.{bitAnd}
 use Rattle.word.proofs.NetworkLaws.{down-is}
 use borrow.Author.Needs.{needs}

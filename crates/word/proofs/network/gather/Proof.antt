@@ -1,8 +1,7 @@
 -- `word::network::gather` meets its contract. The invariant: the bytes so far. Assumes nothing.
-use mathlib.Core.Path.{_≡_, refl, sym, ap, ap₂, _∙_, subst}
-use Prim.Native.Nat.{ℕ, zero, suc, _+_, _-_, _*_, _/_, _%_, _^_, _<_, _≤_}
+use mathlib.Core.Path.{_≡_, refl, sym, ap, ap₂, _∙_}
+use Prim.Native.Nat.{ℕ, _-_, _*_, _/_, _%_, _^_, _<_, _≤_}
 use native.Mathlib.Omega.{arith}
-use native.Mathlib.Nat.{mul-zero, mul-suc, mod-lt}
 use native.Mathlib.Numerals.{add-one}
 use lib.Pow.{shl-exact}
 use lib.Bits.{bitAnd, bitOr, and-mask, or-shifted-r}

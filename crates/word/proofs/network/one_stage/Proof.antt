@@ -1,8 +1,9 @@
--- `word::network::one_stage` meets its contract. Assumes nothing.
-use mathlib.Core.Path.{_≡_, refl, sym, ap, ap₂, _∙_, subst}
-use Prim.Native.Nat.{ℕ, zero, suc, _+_, _-_, _*_, _/_, _%_, _^_, _<_, _≤_}
+-- `word::network::one_stage` meets its contract: what is left, what is packed and where it landed, in every byte.
+-- Each operation acts on each byte by itself. Assumes nothing.
+use mathlib.Core.Path.{_≡_, ap, ap₂, _∙_}
+use Prim.Native.Nat.{ℕ, _-_, _^_, _<_}
 use native.Mathlib.Omega.{arith}
-use mathlib.Core.Logic.{_⊎_, inl, inr, ⊎-elim}
+use mathlib.Core.Logic.{inl, inr}
 use lib.Bits.{bitAnd, bitXor}
 use Rattle.word.specs.Lanes.{each, each2, parity8, down8, landed8}
 use Rattle.word.proofs.NetworkLaws.{Length, landed-is, packed-is, zeros-is}

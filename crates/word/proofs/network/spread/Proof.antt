@@ -1,15 +1,15 @@
--- `word::network::spread` meets its contract. Assumes nothing.
-use mathlib.Core.Path.{_≡_, refl, sym, ap, ap₂, _∙_, subst}
-use Prim.Native.Nat.{ℕ, zero, suc, _+_, _-_, _*_, _/_, _%_, _^_, _<_, _≤_}
+-- `word::network::spread` meets its contract.
+-- The invariant: the stages undone so far, with those still to undo, are all of them. Assumes nothing.
+use mathlib.Core.Path.{_≡_, refl, sym, ap, _∙_, subst}
+use Prim.Native.Nat.{ℕ, suc, _-_, _*_, _%_, _^_, _<_, _≤_}
 use native.Mathlib.Omega.{arith}
-use mathlib.Core.Logic.{_⊎_, inl, inr, ⊎-elim}
 use mathlib.Core.List.{List}
 use native.Mathlib.Nat.{lt-of-le-of-lt}
 use lib.Dec.{lit<}
 use lib.Pow.{pow-mono}
 use lib.Bits.{bitAnd, bitOr}
-use lib.ListN.{length, getD}
-use Rattle.word.specs.Lanes.{undo, undoFrom}
+use lib.ListN.{getD}
+use Rattle.word.specs.Lanes.{undoFrom}
 use Rattle.word.proofs.NetworkLaws.{shift-is}
 use Rattle.word.proofs.network.spread.Statement.{statement}
 use Rattle.word.proofs.network.spread.Tie as tie

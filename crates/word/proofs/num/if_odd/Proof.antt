@@ -1,4 +1,5 @@
--- `word::num::if_odd` meets its contract. Assumes nothing.
+-- `word::num::if_odd` meets its contract: zero minus a digit is no bits or all of them.
+-- By the two cases of the digit. Assumes nothing.
 use borrow.Author.Needs.{needs}
 use Rattle.word.proofs.NumLaws.{if-odd-word}
 use Rattle.word.proofs.num.if_odd.Statement.{statement}

@@ -1,4 +1,5 @@
--- `word::num::lowest` meets its contract. Assumes nothing.
+-- `word::num::lowest` meets its contract: a word and its negative share the lowest set digit alone.
+-- By the law of a word and its negative, over the width. Assumes nothing.
 use borrow.Author.Needs.{needs}
 use Rattle.word.proofs.NumLaws.{low-word}
 use Rattle.word.proofs.num.lowest.Statement.{statement}

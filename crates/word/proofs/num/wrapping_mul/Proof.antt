@@ -1,7 +1,7 @@
--- `word::num::wrapping_mul` meets its contract. Assumes nothing.
-use mathlib.Core.Path.{_≡_, ap, _∙_, sym}
-use Prim.Native.Nat.{ℕ, _+_, _*_, _/_, _%_, _^_, _<_}
-use native.Mathlib.Nat.{mod-lt}
+-- `word::num::wrapping_mul` meets its contract: of the four products of halves one is a multiple of 2^64.
+-- The other three are added modulo 2^64. Assumes nothing.
+use mathlib.Core.Path.{ap, _∙_}
+use Prim.Native.Nat.{ℕ, _+_, _*_, _/_, _%_, _^_}
 use lib.Pow.{shr-lt}
 use lib.Bits.{bitAnd, and-mask, mask-lt}
 use borrow.Author.Needs.{needs}
