@@ -6,4 +6,5 @@ pub mod FitLaws
 pub mod ListLaws
 pub mod SelectLaws
 pub mod PdepLaws
+pub mod LaidLaws
 pub mod TableLaws

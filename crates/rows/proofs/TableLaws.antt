@@ -9,7 +9,7 @@ use native.Mathlib.Omega.{arith}
 use Rattle.rows.specs.declared.Refusal.{Refusal}
 use Rattle.rows.specs.declared.Verdict.{Verdict}
 use Rattle.rows.specs.declared.Verdict.the-variants.{Fine, Refused}
-use Rattle.rows.specs.Table.{Line, choose, first, First, Met, Numbered, told, ifFine}
+use Rattle.rows.specs.Table.{Line, need, refusal, choose, first, First, Met, Numbered, told, ifFine}
 
 -- a decision of what holds, and of what does not
 pub chosen : {A : Type 0} {X : Type 0} (d : Dec A) (x y : X) → A → choose d x y ≡ x
@@ -53,6 +53,10 @@ met-first (l ∷ ls) m = inl (m .0, met-first ls (m .1))
 pub fine-exactly : (ls : List Line) → (first ls ≡ Fine) ↔ Met ls
 fine-exactly ls = (λ e. first-met ls (first-exactly ls Fine .0 e), λ m. tells ls Fine (met-first ls m))
 
+pub met-append : (ls ms : List Line) → Met (ls ++ ms) ↔ (Met ls × Met ms)
+met-append [] ms = (λ m. (tt, m), λ p. p .1)
+met-append (l ∷ ls) ms = (λ m. (let p = met-append ls ms .0 (m .1) in ((m .0, p .0), p .1)), λ p. (p .0 .0, met-append ls ms .1 (p .0 .1, p .1)))
+
 -- two tables, one after the other: the second speaks where the first has nothing to say
 pub first-append : (ls ms : List Line) → first (ls ++ ms) ≡ ifFine (first ls) (first ms) (first ls)
 unfolding first
@@ -82,3 +86,19 @@ first-number (l ∷ ls) v n (inr h) e = let z : l .refusal .number ≡ 0 = ap (�
 -- number 0 is told exactly where every need is met
 pub accepts-exactly : (ls : List Line) → Numbered ls → (told (first ls) .number ≡ 0) ↔ Met ls
 accepts-exactly ls n = (first-number ls (first ls) n (is-first ls), λ m. ap (λ (v : Verdict). told v .number) (fine-exactly ls .1 m))
+
+-- ---- a table of one line
+
+module _ {A : Type 0} (d : Dec A) (n k : ℕ) where
+  pub alone-fine : A → first (need d n k ∷ []) ≡ Fine
+  alone-fine a = tells (need d n k ∷ []) Fine (inl (a, refl))
+
+  pub alone-refused : ¬ A → first (need d n k ∷ []) ≡ Refused (refusal n k)
+  alone-refused h = tells (need d n k ∷ []) (Refused (refusal n k)) (inr (h, refl))
+
+  pub alone-exactly : zero < n → (told (first (need d n k ∷ [])) ≡ refusal n k) ↔ (¬ A)
+  alone-exactly p = (λ e. only (told-exactly (need d n k ∷ []) (refusal n k) p .0 e), λ h. ap told (alone-refused h))
+    where
+      only : First (need d n k ∷ []) (Refused (refusal n k)) → ¬ A
+      only (inl h) = let e : Refused (refusal n k) ≡ Fine = h .1 in let z : _≡_ {A = ℕ} 0 1 = cc in absurd (omega arith)
+      only (inr h) = h .0

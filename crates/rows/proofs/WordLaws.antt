@@ -187,3 +187,6 @@ count-bits (suc w) n h =
 
 pub count-bits-mod : (w n : ℕ) → count (bitsOf w n) ≡ ones (n % 2 ^ w)
 count-bits-mod w n = ap count (sym (bits-mod w n)) ∙ count-bits w (n % 2 ^ w) (mod-lt n (pow-pos w))
+
+pub ones-word : (bs : List Bool) → ones (wordOf bs) ≡ count bs
+ones-word bs = sym (count-bits (length bs) (wordOf bs) (wordOf-lt bs)) ∙ ap count (bitsOf-wordOf bs)

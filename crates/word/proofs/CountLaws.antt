@@ -54,6 +54,7 @@ high-nibble b h = ltb→lt (nibbles8 b / 16) 5 (both-right (ltb (nibbles8 b % 16
 pairs-bound : Bounded (λ a b. pairs8 b)
 unfolding pairs8
 pairs-bound a b ha hb = omega arith
+
 module _ (m : ℕ) (h : m < 2 ^ 64) where
   pub pairs-is : m - bitAnd (m / 2) (0x55 * K) ≡ each pairs8 8 m
   unfolding pairs8

@@ -2,24 +2,24 @@
 -- of checks that the contracts cite; and the two ways to deposit agree, by their contracts.
 -- Assumes nothing.
 use Prim.Native.Nat.{ℕ, _<_}
-use mathlib.Core.Path.{_≡_, refl, sym, ap, _∙_}
-use mathlib.Core.Logic.{_↔_, inl, inr}
+use mathlib.Core.Path.{_≡_, sym, ap, _∙_}
+use mathlib.Core.Logic.{_↔_}
 use mathlib.Core.Bool.{true}
+use native.Mathlib.Decide.{ℕ-discrete, decLt}
 use native.Mathlib.Omega.{arith}
 use contract.Lifetimes.{Lfts}
 use borrow.Fn.Kinds.{Dens, resT, endedOf}
 use denote.Triple.Clauses.{Lasts, atExit}
-use Rattle.rows.specs.declared.Verdict.the-variants.{Fine, Refused}
 use Rattle.rows.specs.Rows.{count}
 use Rattle.rows.specs.Word.{testBit, bitsOf}
 use Rattle.rows.specs.Lists.{select}
 use Rattle.rows.specs.Pdep.{pdep}
-use Rattle.rows.specs.Table.{First, refusal, noRefusal}
+use Rattle.rows.specs.Table.{refusal, noRefusal}
 use Rattle.rows.proofs.WordLaws.{bitsOf-length, bitsOf-at}
 use Rattle.rows.proofs.FitLaws.{take-bits}
 use Rattle.rows.proofs.SelectLaws.{selects}
-use Rattle.rows.proofs.TableLaws.{told-exactly, tells}
-use Rattle.word.specs.Answer.{depositChecks, selectChecks, depositedBy, selectedBy, deposited, selected}
+use Rattle.rows.proofs.TableLaws.{alone-exactly, alone-refused, alone-fine}
+use Rattle.word.specs.Answer.{depositedBy, selectedBy, deposited, selected}
 use Rattle.word.proofs.inner.deposit_portable.Kinds as network-kinds
 use Rattle.word.proofs.inner.deposit_portable.Reads as network
 use Rattle.word.proofs.inner.deposit_portable_loop.Kinds as loop-kinds
@@ -30,36 +30,28 @@ use Rattle.word.proofs.inner.deposit_portable_loop.Reads as loop
 -- 4 exactly where the claimed count differs from the set bits in the mask word
 pub deposit-refuses : (source mask claimed : ℕ) → (deposited source mask claimed .refusal ≡ refusal 4 0) ↔ (¬ (claimed ≡ count (bitsOf 64 mask)))
 unfolding deposited
-deposit-refuses source mask claimed = (λ e. only (told-exactly (depositChecks mask claimed) (refusal 4 0) (omega arith) .0 e), λ h. told-exactly (depositChecks mask claimed) (refusal 4 0) (omega arith) .1 (inr (h, refl)))
-  where
-    only : First (depositChecks mask claimed) (Refused (refusal 4 0)) → ¬ (claimed ≡ count (bitsOf 64 mask))
-    only (inl h) = let e : Refused (refusal 4 0) ≡ Fine = h .1 in let z : _≡_ {A = ℕ} 0 1 = cc in absurd (omega arith)
-    only (inr h) = h .0
+deposit-refuses source mask claimed = alone-exactly (ℕ-discrete claimed (count (bitsOf 64 mask))) 4 0 (omega arith)
 
 -- then the whole answer is this
 pub deposit-refused : (source mask claimed : ℕ) → ¬ (claimed ≡ count (bitsOf 64 mask)) → deposited source mask claimed ≡ record { refusal = refusal 4 0; word = 0 }
 unfolding deposited
-deposit-refused source mask claimed h = ap (λ v. depositedBy v (pdep 64 source mask)) (tells (depositChecks mask claimed) (Refused (refusal 4 0)) (inr (h, refl)))
+deposit-refused source mask claimed h = ap (λ v. depositedBy v (pdep 64 source mask)) (alone-refused (ℕ-discrete claimed (count (bitsOf 64 mask))) 4 0 h)
 
 -- and otherwise this: the published PDEP
 pub deposit-answers : (source mask claimed : ℕ) → claimed ≡ count (bitsOf 64 mask) → deposited source mask claimed ≡ record { refusal = noRefusal; word = pdep 64 source mask }
 unfolding deposited
-deposit-answers source mask claimed h = ap (λ v. depositedBy v (pdep 64 source mask)) (tells (depositChecks mask claimed) Fine (inl (h, refl)))
+deposit-answers source mask claimed h = ap (λ v. depositedBy v (pdep 64 source mask)) (alone-fine (ℕ-discrete claimed (count (bitsOf 64 mask))) 4 0 h)
 
 -- ---- select
 
 -- 9 exactly where the rank is not below the word's set bits
 pub select-refuses : (word rank : ℕ) → (selected word rank .refusal ≡ refusal 9 0) ↔ (¬ (rank < count (bitsOf 64 word)))
 unfolding selected
-select-refuses word rank = (λ e. only (told-exactly (selectChecks word rank) (refusal 9 0) (omega arith) .0 e), λ h. told-exactly (selectChecks word rank) (refusal 9 0) (omega arith) .1 (inr (h, refl)))
-  where
-    only : First (selectChecks word rank) (Refused (refusal 9 0)) → ¬ (rank < count (bitsOf 64 word))
-    only (inl h) = let e : Refused (refusal 9 0) ≡ Fine = h .1 in let z : _≡_ {A = ℕ} 0 1 = cc in absurd (omega arith)
-    only (inr h) = h .0
+select-refuses word rank = alone-exactly (decLt rank (count (bitsOf 64 word))) 9 0 (omega arith)
 
 pub select-refused : (word rank : ℕ) → ¬ (rank < count (bitsOf 64 word)) → selected word rank ≡ record { refusal = refusal 9 0; position = 0 }
 unfolding selected
-select-refused word rank h = ap (λ v. selectedBy v (select (bitsOf 64 word) rank)) (tells (selectChecks word rank) (Refused (refusal 9 0)) (inr (h, refl)))
+select-refused word rank h = ap (λ v. selectedBy v (select (bitsOf 64 word) rank)) (alone-refused (decLt rank (count (bitsOf 64 word))) 9 0 h)
 
 -- the position is in range, its bit is set, and exactly `rank` set bits stand below it
 pub record Position (word rank p : ℕ) : Type 0 where
@@ -74,7 +66,7 @@ select-answers word rank h =
     let s = selects (bitsOf 64 word) rank h in
     let lt : p < 64 = omega (arith, s .within, bitsOf-length 64 word) in (
       p,
-      ap (λ v. selectedBy v p) (tells (selectChecks word rank) Fine (inl (h, refl))),
+      ap (λ v. selectedBy v p) (alone-fine (decLt rank (count (bitsOf 64 word))) 9 0 h),
       record {
         inRange = lt;
         isSet = sym (bitsOf-at 64 word p lt) ∙ s .set;

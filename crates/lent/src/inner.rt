@@ -1,0 +1,124 @@
+// What the kernels call: reads and writes of lent words at any bit, each told in bits. None changes a bit that it was not
+// asked to lay.
+ghost use mathlib.Core.Path.{_≡_};
+ghost use mathlib.Core.Bool.{true, false};
+ghost use mathlib.Core.List.{[], _∷_, _++_};
+ghost use Prim.Native.Nat.{_+_, _-_, _*_, _/_, _%_, _^_, _≤_, _<_, min};
+ghost use lib.ListN.{length, take, drop, getD, replicate};
+ghost use denote.Ref.{now};
+ghost use Rattle.rows.specs.Rows.{count};
+ghost use Rattle.rows.specs.Word.{bitsOf, wordOf};
+ghost use Rattle.rows.specs.Words.{fit, bitsOfAll, view};
+ghost use Rattle.rows.specs.Laid.{laid};
+ghost use Rattle.lent.specs.Read.{wordFrom};
+
+// Word i, and 0 past the end.
+pub fn word_at(words: &[u64], i: u64) -> u64
+    ensures { λ r. ⌜ r ≡ getD (now (words .entry)) i 0 ⌝ }
+{
+    if i < words.len() as u64 {
+        return words[i as usize];
+    }
+    0
+}
+
+// 64 bits from bit shift of a word on, joined with the next word. Shift 0 is apart: no shift is by 64.
+pub fn joined(here: u64, next: u64, shift: u64) -> u64
+    requires { ⌜ shift < 64 ⌝ }
+    ensures { λ r. ⌜ r ≡ wordOf (bitsOf (64 - shift) (here / 2 ^ shift) ++ bitsOf shift next) ⌝ }
+{
+    if shift == 0 {
+        return here;
+    }
+    (here >> shift) | (next << (64 - shift))
+}
+
+// The 64 bits from bit start + offset on, 0 past the end. The sum is not made: words and bits are added apart.
+pub fn read(words: &[u64], start: u64, offset: u64) -> u64
+    ensures { λ r. ⌜ r ≡ wordFrom (start + offset) (now (words .entry)) ⌝ }
+{
+    let bit = start % 64 + offset % 64;
+    let at = start / 64 + offset / 64 + bit / 64;
+    let here = word_at(words, at);
+    let next = word_at(words, at + 1);
+    joined(here, next, bit % 64)
+}
+
+// The n lowest bits set.
+pub fn ones(n: u64) -> u64
+    requires { ⌜ (0 < n) × (n ≤ 64) ⌝ }
+    ensures { λ r. ⌜ r ≡ 2 ^ n - 1 ⌝ }
+{
+    0xffff_ffff_ffff_ffffu64 >> (64 - n)
+}
+
+// The n bits from bit start + row on, what lies past them cut off, 0 past the end.
+pub fn chunk(words: &[u64], start: u64, row: u64, n: u64) -> u64
+    requires { ⌜ (0 < n) × (n ≤ 64) ⌝ }
+    ensures { λ r. ⌜ r ≡ wordOf (fit n (drop (start + row) (bitsOfAll 64 (now (words .entry))))) ⌝ }
+{
+    read(words, start, row) & ones(n)
+}
+
+// How many rows the chunk at row has: 64, and fewer at the end.
+pub fn chunk_len(len: u64, row: u64) -> u64
+    requires { ⌜ row ≤ len ⌝ }
+    ensures { λ r. ⌜ r ≡ min 64 (len - row) ⌝ }
+{
+    if len - row < 64 {
+        return len - row;
+    }
+    64
+}
+
+// The set bits in view.
+pub fn count_view(words: &[u64], start: u64, len: u64) -> u64
+    requires { ⌜ (start ≤ 63) × (len ≤ 1048576) × (start + len ≤ length (now words) * 64) ⌝ }
+    ensures { λ r. ⌜ r ≡ count (view start len (now (words .entry))) ⌝ }
+{
+    let mut sum: u64 = 0;
+    let mut row: u64 = 0;
+    while row < len {
+        let n = chunk_len(len, row);
+        sum += u64::count_ones(chunk(words, start, row, n)) as u64;
+        row += n;
+    }
+    sum
+}
+
+// The low n bits of bits over out, from bit at on: in one word, or in two.
+pub fn put(out: &mut [u64], at: u64, n: u64, bits: u64)
+    requires { ⌜ (0 < n) × (n ≤ 64) × (at + n ≤ length (now out) * 64) ⌝ }
+    ensures { λ _. ⌜ now (out .exit) ≡ laid at (bitsOf n bits) (now (out .entry)) ⌝ }
+{
+    let i = (at / 64) as usize;
+    let shift = at % 64;
+    let mask = ones(n);
+    let low = bits & mask;
+    out[i] = (out[i] & !(mask << shift)) | (low << shift);
+    if shift + n > 64 {
+        let past = 64 - shift;
+        out[i + 1] = (out[i + 1] & !(mask >> past)) | (low >> past);
+    }
+}
+
+// Zeros over out, n of them, from bit at on.
+pub fn clear(out: &mut [u64], at: u64, n: u64)
+    requires { ⌜ (at + n ≤ length (now out) * 64) × (at + n < 2 ^ 64) ⌝ }
+    ensures { λ _. ⌜ now (out .exit) ≡ laid at (replicate n false) (now (out .entry)) ⌝ }
+{
+    let mut row: u64 = 0;
+    while row < n {
+        let k = chunk_len(n, row);
+        put(out, at + row, k, 0);
+        row += k;
+    }
+}
+
+// One bit set.
+pub fn set_bit(out: &mut [u64], at: u64)
+    requires { ⌜ at < length (now out) * 64 ⌝ }
+    ensures { λ _. ⌜ now (out .exit) ≡ laid at (true ∷ []) (now (out .entry)) ⌝ }
+{
+    put(out, at, 1, 1);
+}
