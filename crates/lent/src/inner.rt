@@ -9,7 +9,7 @@ ghost use denote.Ref.{now};
 ghost use Rattle.rows.specs.Rows.{count};
 ghost use Rattle.rows.specs.Word.{bitsOf, wordOf};
 ghost use Rattle.rows.specs.Words.{fit, bitsOfAll, view};
-ghost use Rattle.rows.specs.Laid.{laid};
+ghost use Rattle.rows.specs.Laid.{wordsFor, laid, lastCleared};
 ghost use Rattle.lent.specs.Read.{wordFrom};
 
 // Word i, and 0 past the end.
@@ -121,4 +121,26 @@ pub fn set_bit(out: &mut [u64], at: u64)
     ensures { λ _. ⌜ now (out .exit) ≡ laid at (true ∷ []) (now (out .entry)) ⌝ }
 {
     put(out, at, 1, 1);
+}
+
+// How many words hold so many bits: ceil(bits / 64), for any number.
+pub fn words_for(bits: u64) -> u64
+    ensures { λ r. ⌜ r ≡ wordsFor bits ⌝ }
+{
+    if bits % 64 == 0 {
+        return bits / 64;
+    }
+    bits / 64 + 1
+}
+
+// The last word that so many bits need is 0.
+pub fn clear_last(out: &mut [u64], bits: u64)
+    requires { ⌜ wordsFor bits ≤ length (now out) ⌝ }
+    ensures { λ _. ⌜ now (out .exit) ≡ lastCleared bits (now (out .entry)) ⌝ }
+{
+    if bits == 0 {
+        return;
+    }
+    let last = ((bits - 1) / 64) as usize;
+    out[last] = 0;
 }

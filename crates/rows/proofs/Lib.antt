@@ -5,6 +5,9 @@ pub mod WordsLaws
 pub mod FitLaws
 pub mod ListLaws
 pub mod SelectLaws
+pub mod ClearLaws
 pub mod PdepLaws
 pub mod LaidLaws
+pub mod MarkLaws
+pub mod WrittenLaws
 pub mod TableLaws

@@ -1,11 +1,13 @@
 -- The verdict of a table is the first line whose need is not met, and no other; and the verdict of two tables, one after
 -- the other. By recursion over the table.
 -- Assumes nothing.
-use mathlib.Core.Path.{_≡_, refl, sym, ap, _∙_}
+use mathlib.Core.Path.{_≡_, refl, sym, ap, _∙_, subst}
+use mathlib.Core.Bool.{Bool, true, false}
 use mathlib.Core.Logic.{_↔_, _⊎_, inl, inr}
 use mathlib.Core.List.{List, [], _∷_, _++_}
 use Prim.Native.Nat.{ℕ, zero, _<_}
 use native.Mathlib.Omega.{arith}
+use lib.Dec.{T}
 use Rattle.rows.specs.declared.Refusal.{Refusal}
 use Rattle.rows.specs.declared.Verdict.{Verdict}
 use Rattle.rows.specs.declared.Verdict.the-variants.{Fine, Refused}
@@ -67,6 +69,24 @@ first-append (l ∷ ls) ms = go (l .decided) (first-append ls ms)
         → choose d (first (ls ++ ms)) (Refused (l .refusal)) ≡ ifFine (choose d (first ls) (Refused (l .refusal))) (first ms) (choose d (first ls) (Refused (l .refusal)))
     go (yes a) ih = ih
     go (no n) ih = refl
+
+pub append-refused : (ls ms : List Line) (r : Refusal) → first ls ≡ Refused r → first (ls ++ ms) ≡ Refused r
+append-refused ls ms r e = first-append ls ms ∙ ap (λ (v : Verdict). ifFine v (first ms) v) e
+
+pub append-fine : (ls ms : List Line) → first ls ≡ Fine → first (ls ++ ms) ≡ first ms
+append-fine ls ms e = first-append ls ms ∙ ap (λ (v : Verdict). ifFine v (first ms) v) e
+
+-- a line that is met leaves it to the rest
+pub met-skips : (l : Line) (ls : List Line) → l .Needs → first (l ∷ ls) ≡ first ls
+unfolding first
+met-skips l ls h = chosen (l .decided) (first ls) (Refused (l .refusal)) h
+
+-- the need of a test that is computed
+pub is-true : {b : Bool} → b ≡ true → T b
+is-true {b} e = subst (λ (x : Bool). T x) (sym e) tt
+
+pub is-false : {b : Bool} → b ≡ false → ¬ T b
+is-false {b} e t = subst (λ (x : Bool). T x) e t
 
 -- ---- what an answer tells
 

@@ -67,7 +67,7 @@ loop-again c =
       omega arith,
       lt-of-le-of-lt (and-le-l n (n - 1)) (at .inv .1),
       omega (arith, ap ones e, ones-clear 64 n (at .inv .1) pos, at .inv .2),
-      select-and-pred 64 n (left - (at .counter + 1)) (at .inv .1) pos ∙ ap (select (bitsOf 64 n)) (sym q) ∙ at .inv .3,
+      select-and-pred 64 n (left - (at .counter + 1)) ∙ ap (select (bitsOf 64 n)) (sym q) ∙ at .inv .3,
     )
 
 add-position : tie.Need-add-position Inv-loop μ-loop Inv-bytes μ-bytes

@@ -1,0 +1,67 @@
+-- `mask::inner::lay_rows` meets its contract: a list is marked, any other form laid chunk by chunk.
+-- By what acceptance gives of each. Assumes nothing.
+use mathlib.Core.Path.{_≡_, sym, ap, _∙_}
+use Prim.Native.Nat.{ℕ}
+use mathlib.Core.Bool.{Bool, true, false}
+use mathlib.Core.List.{List}
+use denote.Ref.{now}
+use Rattle.rows.specs.Lists.{listed}
+use Rattle.rows.specs.Laid.{laid}
+use Rattle.mask.specs.Operand.{isList}
+use Rattle.mask.proofs.OperandLaws.{accepted-list, accepted-flat, list-rows, flat-rows}
+use borrow.Author.Needs.{needs}
+use Rattle.mask.proofs.inner.lay_rows.Statement.{statement}
+use Rattle.mask.proofs.inner.lay_rows.Tie as tie
+
+is-list-requires : tie.Need-is-list-requires
+is-list-requires c κs = search needs
+
+length-of-requires : tie.Need-length-of-requires
+length-of-requires c κs = search needs
+
+lay-list-requires : tie.Need-lay-list-requires
+lay-list-requires c κs =
+    let s = c .before .before .before .before .before .before .before in
+    let e : isList (s .args .form) ≡ true = sym (c .before .before .before .is-list .ensures) ∙ c .before .before .if1 .taken in
+    rw (c .before .length-of .ensures) (accepted-list (s .args .form) (now (s .args .words)) (now (s .args .rows)) e (s .pre .0), s .pre .1, s .pre .2)
+
+same-length : tie.Need-same-length
+same-length c = search needs
+
+returns : tie.Need-returns
+returns c =
+    let s = c .before .before .before .before .before .before .before .before .before .before in
+    let a = s .args in
+    let e : isList (a .form) ≡ true = sym (c .before .before .before .before .before .before .is-list .ensures) ∙ c .before .before .before .before .before .if1 .taken in
+    c .before .before .lay-list .ensures ∙ ap (λ (n : ℕ). laid (a .at) (listed n (now (a .rows))) (now (a .out))) (c .before .before .before .before .length-of .ensures)
+    ∙ ap (λ (z : List Bool). laid (a .at) z (now (a .out))) (sym (list-rows (a .form) (now (a .words)) (now (a .rows)) e))
+
+lay-flat-requires : tie.Need-lay-flat-requires
+lay-flat-requires c κs =
+    let s = c .before .before .before .before .before .before in
+    let e : isList (s .args .form) ≡ false = sym (c .before .before .is-list .ensures) ∙ c .before .if1 .left in
+    (accepted-flat (s .args .form) (now (s .args .words)) (now (s .args .rows)) e (s .pre .0), s .pre .1, s .pre .2)
+
+same-length-2 : tie.Need-same-length-2
+same-length-2 c = search needs
+
+returns-2 : tie.Need-returns-2
+returns-2 c =
+    let s = c .before .before .before .before .before .before .before .before .before in
+    let a = s .args in
+    let e : isList (a .form) ≡ false = sym (c .before .before .before .before .before .is-list .ensures) ∙ c .before .before .before .before .if1 .left in
+    c .before .before .lay-flat .ensures
+    ∙ ap (λ (z : List Bool). laid (a .at) z (now (a .out))) (sym (flat-rows (a .form) (now (a .words)) (now (a .rows)) (accepted-flat (a .form) (now (a .words)) (now (a .rows)) e (s .pre .0))))
+
+pub lay-rows-spec : {M : Type 1} → statement M
+lay-rows-spec =
+    tie.close
+    (tie.spec
+    is-list-requires
+    length-of-requires
+    lay-list-requires
+    same-length
+    returns
+    lay-flat-requires
+    same-length-2
+    returns-2)

@@ -1,0 +1,3 @@
+pub mod Operand
+pub mod Answer
+pub mod Convert

@@ -1,0 +1,66 @@
+// An operand's set rows as a list.
+ghost use mathlib.Core.Path.{_≡_};
+ghost use mathlib.Core.List.{[], _++_};
+ghost use Prim.Native.Nat.{_+_, _≤_};
+ghost use lib.ListN.{length, drop};
+ghost use denote.Ref.{now};
+ghost use Rattle.rows.specs.Rows.{count, splice};
+ghost use Rattle.rows.specs.Word.{bitsOf};
+ghost use Rattle.rows.specs.Lists.{setRows};
+ghost use Rattle.mask.specs.Operand.{rowsOf, countOf, Accepted, Flat};
+use super::Form;
+use super::inner::chunk_of;
+use super::inner::is_list;
+use super::inner::length_of;
+use lent::inner::chunk_len;
+
+fn copy_list(rows: &[u32], out: &mut [u32])
+    requires { ⌜ length (now rows) ≤ length (now out) ⌝ }
+    ensures { λ _. ⌜ now (out .exit) ≡ splice 0 (now (out .entry)) (now (rows .entry)) ⌝ }
+{
+    for i in 0..rows.len() {
+        out[i] = rows[i];
+    }
+}
+
+// The set bits of a chunk whose first row is base, from entry k of out on; the entry after them.
+fn list_chunk(chunk: u64, base: u32, k: usize, out: &mut [u32]) -> usize
+    requires { ⌜ (base ≤ 1048576) × (k + count (bitsOf 64 chunk) ≤ length (now out)) ⌝ }
+    ensures { λ r. ⌜ (r ≡ k + count (bitsOf 64 chunk)) × (now (out .exit) ≡ splice k (now (out .entry)) (setRows base (bitsOf 64 chunk))) ⌝ }
+{
+    let mut rest = chunk;
+    let mut p = k;
+    while rest != 0 {
+        out[p] = base + u64::trailing_zeros(rest);
+        rest = rest & (rest - 1);
+        p += 1;
+    }
+    p
+}
+
+// All, none or words: chunk by chunk.
+fn list_flat(form: Form, words: &[u64], out: &mut [u32])
+    requires { ⌜ Flat form (now words) × (count (rowsOf form (now words) []) ≤ length (now out)) ⌝ }
+    ensures { λ _. ⌜ now (out .exit) ≡ splice 0 (now (out .entry)) (setRows 0 (rowsOf form (now (words .entry)) [])) ⌝ }
+{
+    let len = length_of(form);
+    let mut k: usize = 0;
+    let mut row: u64 = 0;
+    while row < len {
+        let n = chunk_len(len, row);
+        k = list_chunk(chunk_of(form, words, row, n), row as u32, k, out);
+        row += n;
+    }
+}
+
+// The set rows, ascending, over the front of out; later entries stay.
+pub fn write_list(form: Form, words: &[u64], rows: &[u32], out: &mut [u32])
+    requires { ⌜ Accepted form (now words) (now rows) × (countOf form (now rows) ≤ length (now out)) ⌝ }
+    ensures { λ _. ⌜ now (out .exit) ≡ setRows 0 (rowsOf form (now (words .entry)) (now (rows .entry))) ++ drop (countOf form (now (rows .entry))) (now (out .entry)) ⌝ }
+{
+    if is_list(form) {
+        copy_list(rows, out);
+        return;
+    }
+    list_flat(form, words, out);
+}
