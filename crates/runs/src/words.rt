@@ -1,6 +1,7 @@
 // Slices of words told as runs: the number of runs, then each run.
+ghost use mathlib.Core.Path.{_≡_};
 ghost use Prim.Native.Nat.{_≤_};
-ghost use lib.ListN.{length};
+ghost use lib.ListN.{length, take};
 ghost use denote.Ref.{now};
 use super::Compared;
 use super::Cursor;
@@ -11,9 +12,10 @@ use super::is_whole;
 use super::read_number;
 use super::read_run;
 
-// The told slice laid over the front of `into`. One that has no room there is malformed.
+// The told slice laid over the front of `into`. One that has no room there is malformed. Of the two facts about the length
+// the second follows from the first; both are what a caller has to show who lends `&into[..length]`.
 pub fn fill(text: &[u8], cursor: Cursor, into: &mut [u64]) -> Filled
-    ensures { λ r. ⌜ r .length ≤ length (now (into .entry)) ⌝ }
+    ensures { λ r. ⌜ (r .length ≤ length (now (into .exit))) × (r .length ≡ length (take (r .length) (now (into .exit)))) ⌝ }
 {
     let runs = read_number(text, cursor);
     let mut next = runs.next;

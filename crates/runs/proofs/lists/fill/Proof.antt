@@ -3,7 +3,9 @@
 use Prim.Native.Nat.{_≤_}
 use borrow.Author.Needs.{needs}
 use lib.ListN.{length}
-use mathlib.Core.Path.{_≡_}
+use native.Mathlib.Omega.{arith}
+use lib.Seq.{length-take-le}
+use mathlib.Core.Path.{_≡_, sym}
 use Rattle.runs.proofs.lists.fill.Statement.{statement}
 use Rattle.runs.proofs.lists.fill.Tie as tie
 
@@ -35,7 +37,7 @@ same-length : tie.Need-same-length Inv-loop μ-loop
 same-length c = search needs
 
 returns : tie.Need-returns Inv-loop μ-loop
-returns c = search needs
+returns c = (omega arith, sym (length-take-le _ _ (omega arith)))
 
 sub-left : tie.Need-sub-left Inv-loop μ-loop
 sub-left c = search needs
@@ -50,7 +52,7 @@ same-length-2 : tie.Need-same-length-2 Inv-loop μ-loop
 same-length-2 c = search needs
 
 returns-2 : tie.Need-returns-2 Inv-loop μ-loop
-returns-2 c = search needs
+returns-2 c = (omega arith, sym (length-take-le _ _ (omega arith)))
 
 pub fill-spec : {M : Type 1} → statement M
 fill-spec =
