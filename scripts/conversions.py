@@ -227,7 +227,7 @@ def output(dice, operation, size):
 
 
 def converted(dice, operand, rooms=(0,)):
-    """The operand to words and to a list, with an output that is by so many elements longer than what is needed."""
+    """The operand to words and to a list, each with outputs by so many elements longer than what is needed."""
     cases = []
     for operation in (TO_WORDS, TO_LIST):
         for more in rooms:
@@ -269,15 +269,16 @@ def over_the_limit(dice):
     for length in (LIMIT + 1, 2**32 + 5, 2**64 - 1):
         for form in (ALL, NONE, LIST):
             cases += refused(dice, Operand(form, length, words=dice.words(1), rows=[0, 4]))
-    sums = [(LIMIT + 1, 0), (LIMIT + 1, 63), (2**32, 0), (2**64 - 1, 0), (2**64 - 63, 63), (2**64 - 1, 63)]
-    for length, start in sums:
+    near = [(LIMIT + 1, 0), (LIMIT + 1, 1), (LIMIT + 1, 63)]
+    far = [(2**32, 0), (2**64 - 1, 0), (2**64 - 63, 63), (2**64 - 1, 63)]
+    for length, start in near + far:
         cases += refused(dice, Operand(WORDS, length, start, 0, [0], [7]))
     return cases
 
 
 def starts_over_63(dice):
     cases = []
-    for length in SMALL_LENGTHS:
+    for length in SMALL_LENGTHS + [LIMIT]:
         cases += refused(dice, Operand(WORDS, length, 64, length, [FULL] * 5))
     for start in (65, 2**32, 2**64 - 64, 2**64 - 1):
         cases += refused(dice, Operand(WORDS, 64, start, 64, [FULL] * 5))
@@ -451,7 +452,7 @@ def all_cases():
     cases += more_than_one_refusal(dice)
     cases += at_the_limit_to_words(dice)
     cases += at_the_limit_to_list(dice)
-    cases += random_cases(dice, 63)
+    cases += random_cases(dice, 59)
     return cases
 
 

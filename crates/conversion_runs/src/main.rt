@@ -265,7 +265,7 @@ fn run_all(
     }
     Tally {
         agreed,
-        finding: end_finding(runs::at_end(text, next)),
+        finding: end_finding(next.fine, runs::at_end(text, next)),
     }
 }
 
@@ -276,12 +276,15 @@ fn differs(finding: Finding) -> bool {
     }
 }
 
-// Text after the last case is malformed.
-fn end_finding(ended: bool) -> Finding {
-    if ended {
-        return Finding::Agrees;
+// Nothing may stand after the last case, and a file without its number of cases is malformed too.
+fn end_finding(fine: bool, ended: bool) -> Finding {
+    if !fine {
+        return Finding::Malformed;
     }
-    Finding::Malformed
+    if !ended {
+        return Finding::Malformed;
+    }
+    Finding::Agrees
 }
 
 fn print_finding(finding: Finding) {

@@ -1,9 +1,9 @@
 -- `conversion_runs::run_all` is safe and ends.
 -- The invariant: the slices keep their lengths. The measure is the number of cases left. Assumes nothing.
 use Prim.Native.Nat.{_-_}
-use borrow.Author.Needs.{needs}
-use lib.ListN.{length}
 use mathlib.Core.Path.{_≡_}
+use lib.ListN.{length}
+use borrow.Author.Needs.{needs}
 use Rattle.conversion_runs.proofs.run_all.Statement.{statement}
 use Rattle.conversion_runs.proofs.run_all.Tie as tie
 

@@ -1,8 +1,8 @@
 -- `runs::digits::digits_value` is safe and ends: each place that it reads is below the text's length.
 -- The measure is what is left of the text. Assumes nothing.
 use Prim.Native.Nat.{_-_}
-use borrow.Author.Needs.{needs}
 use lib.ListN.{length}
+use borrow.Author.Needs.{needs}
 use Rattle.runs.proofs.digits.digits_value.Statement.{statement}
 use Rattle.runs.proofs.digits.digits_value.Tie as tie
 

@@ -1,11 +1,11 @@
 -- `runs::lists::fill` meets its contract: what it has laid ends within the slice.
 -- The invariant: the place is at most the slice's length, which stays. The measure is the runs left. Assumes nothing.
 use Prim.Native.Nat.{_≤_}
-use borrow.Author.Needs.{needs}
-use lib.ListN.{length}
-use native.Mathlib.Omega.{arith}
-use lib.Seq.{length-take-le}
 use mathlib.Core.Path.{_≡_, sym}
+use native.Mathlib.Omega.{arith}
+use lib.ListN.{length}
+use lib.Seq.{length-take-le}
+use borrow.Author.Needs.{needs}
 use Rattle.runs.proofs.lists.fill.Statement.{statement}
 use Rattle.runs.proofs.lists.fill.Tie as tie
 

@@ -1,8 +1,8 @@
 -- `runs::lists::follow` is safe and ends: each place that it reads is below the slice's length.
 -- The measure is what is left of the slice. Assumes nothing.
 use Prim.Native.Nat.{_-_}
-use borrow.Author.Needs.{needs}
 use lib.ListN.{length}
+use borrow.Author.Needs.{needs}
 use Rattle.runs.proofs.lists.follow.Statement.{statement}
 use Rattle.runs.proofs.lists.follow.Tie as tie
 

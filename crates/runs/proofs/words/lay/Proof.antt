@@ -1,10 +1,10 @@
 -- `runs::words::lay` meets its contract: no place that it comes to is past the slice's end.
 -- The invariant: the place is at most the slice's length, which stays. Assumes nothing.
 use Prim.Native.Nat.{_-_, _≤_}
-use borrow.Author.Needs.{needs}
-use lib.ListN.{length, length-set}
-use native.Mathlib.Omega.{arith}
 use mathlib.Core.Path.{_≡_}
+use native.Mathlib.Omega.{arith}
+use lib.ListN.{length, length-set}
+use borrow.Author.Needs.{needs}
 use Rattle.runs.proofs.words.lay.Statement.{statement}
 use Rattle.runs.proofs.words.lay.Tie as tie
 
