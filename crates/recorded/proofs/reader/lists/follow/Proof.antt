@@ -1,0 +1,68 @@
+-- `recorded::reader::lists::follow` is safe and ends: each place that it reads is below the slice's length.
+-- The measure is what is left of the slice. Assumes nothing.
+use Prim.Native.Nat.{_-_}
+use lib.ListN.{length}
+use borrow.Author.Needs.{needs}
+use Rattle.recorded.proofs.reader.lists.follow.Statement.{statement}
+use Rattle.recorded.proofs.reader.lists.follow.Tie as tie
+
+abbrev Inv-loop : tie.InvT-loop
+Inv-loop run from slice value₀ left₀ at₀ value left at = Unit {0}
+
+abbrev μ-loop : tie.MeasureT-loop
+μ-loop run from slice value₀ left₀ at₀ value left at = length slice - at
+
+loop-holds : tie.Need-loop-holds Inv-loop μ-loop
+loop-holds c = tt
+
+returns : tie.Need-returns Inv-loop μ-loop
+returns c = search needs
+
+mul-wide : tie.Need-mul-wide Inv-loop μ-loop
+mul-wide c = search needs
+
+shared-slice-read-wide : tie.Need-shared-slice-read-wide Inv-loop μ-loop
+shared-slice-read-wide c = search needs
+
+wide-requires : tie.Need-wide-requires Inv-loop μ-loop
+wide-requires c κs = search needs
+
+returns-2 : tie.Need-returns-2 Inv-loop μ-loop
+returns-2 c = search needs
+
+wrapping-add-u64-requires : tie.Need-wrapping-add-u64-requires Inv-loop μ-loop
+wrapping-add-u64-requires c κs = search needs
+
+sub-left : tie.Need-sub-left Inv-loop μ-loop
+sub-left c = search needs
+
+add-at : tie.Need-add-at Inv-loop μ-loop
+add-at c = search needs
+
+loop-less : tie.Need-loop-less Inv-loop μ-loop
+loop-less c = search needs
+
+loop-again : tie.Need-loop-again Inv-loop μ-loop
+loop-again c = tt
+
+returns-3 : tie.Need-returns-3 Inv-loop μ-loop
+returns-3 c = search needs
+
+pub follow-spec : {M : Type 1} → statement M
+follow-spec =
+    tie.close
+    (tie.spec
+    Inv-loop
+    μ-loop
+    loop-holds
+    returns
+    mul-wide
+    shared-slice-read-wide
+    wide-requires
+    returns-2
+    wrapping-add-u64-requires
+    sub-left
+    add-at
+    loop-less
+    loop-again
+    returns-3)

@@ -1,0 +1,77 @@
+// Reads recorded cases: a text of hex numbers with blanks between them, and slices told as arithmetic runs. Nothing here
+// traps: what is malformed turns the cursor's `fine` off for good, and the values that come after it mean nothing.
+use digits::read_number;
+
+pub mod digits;
+pub mod lists;
+pub mod words;
+
+// Where the reader stands, and whether all that it has read was well formed.
+pub struct Cursor {
+    pub at: usize,
+    pub fine: bool,
+}
+
+pub struct Number {
+    pub value: u64,
+    pub next: Cursor,
+}
+
+// The elements first, first + step, first + 2 * step and so on modulo 2^64, `count` of them.
+pub struct Run {
+    pub count: u64,
+    pub first: u64,
+    pub step: u64,
+    pub next: Cursor,
+}
+
+// How many elements were laid into a lent slice.
+pub struct Filled {
+    pub length: usize,
+    pub next: Cursor,
+}
+
+// Whether a slice is the one that the text tells.
+pub struct Compared {
+    pub same: bool,
+    pub next: Cursor,
+}
+
+// The start of a text.
+pub fn start() -> Cursor {
+    Cursor { at: 0, fine: true }
+}
+
+// A run is told as its count, its first element and its step.
+pub fn read_run(text: &[u8], cursor: Cursor) -> Run {
+    let count = read_number(text, cursor);
+    let first = read_number(text, count.next);
+    let step = read_number(text, first.next);
+    let next = step.next;
+    Run {
+        count: count.value,
+        first: first.value,
+        step: step.value,
+        next,
+    }
+}
+
+// The places from `from` to `to` hold all of the run.
+fn is_whole(run: Run, from: usize, to: usize) -> bool {
+    if to < from {
+        return false;
+    }
+    (to - from) as u64 == run.count
+}
+
+// The cursor after a run, off where the run did not fit.
+fn after_run(run: Run, fitted: bool) -> Cursor {
+    let next = run.next;
+    if !fitted {
+        return Cursor {
+            at: next.at,
+            fine: false,
+        };
+    }
+    next
+}
