@@ -5,6 +5,7 @@ pub mod WordsLaws
 pub mod FitLaws
 pub mod ListLaws
 pub mod SelectLaws
+pub mod KeptLaws
 pub mod ClearLaws
 pub mod PdepLaws
 pub mod LaidLaws
