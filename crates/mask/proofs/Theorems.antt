@@ -41,16 +41,16 @@ Wrong (Listed len) ws es n =
     ⊎ ((n ≡ 5) × (len ≤ limit) × (¬ T (climbs es)))
     ⊎ ((n ≡ 6) × (len ≤ limit) × T (climbs es) × (¬ T (lastBelow len es)))
 
-never {ℓ} : {X : Type ℓ} {r : Refusal} → Refused r ≡ Fine → X
+pub never {ℓ} : {X : Type ℓ} {r : Refusal} → Refused r ≡ Fine → X
 never e = absurd (let z : _≡_ {A = ℕ} 0 1 = cc in omega arith)
 
-number : {n k m j : ℕ} → Refused (refusal n k) ≡ Refused (refusal m j) → n ≡ m
+pub number : {n k m j : ℕ} → Refused (refusal n k) ≡ Refused (refusal m j) → n ≡ m
 number e = ap (λ (v : Verdict). told v .number) e
 
-names : {n k m j : ℕ} → Refused (refusal n k) ≡ Refused (refusal m j) → k ≡ j
+pub names : {n k m j : ℕ} → Refused (refusal n k) ≡ Refused (refusal m j) → k ≡ j
 names e = ap (λ (v : Verdict). told v .operand) e
 
-same : {n m k j : ℕ} → n ≡ m → k ≡ j → Refused (refusal n k) ≡ Refused (refusal m j)
+pub same : {n m k j : ℕ} → n ≡ m → k ≡ j → Refused (refusal n k) ≡ Refused (refusal m j)
 same e f = cc
 
 -- operand k tells number n and names operand j
@@ -100,7 +100,7 @@ operand-numbered k (Listed len) ws es = (omega arith, (omega arith, (omega arith
 
 -- ---- a table in two parts
 
-first-parts : (ls ms : List Line) (v : Verdict) → First (ls ++ ms) v → (Met ls × First ms v) ⊎ (First ls v × (v ≢ Fine))
+pub first-parts : (ls ms : List Line) (v : Verdict) → First (ls ++ ms) v → (Met ls × First ms v) ⊎ (First ls v × (v ≢ Fine))
 first-parts [] ms v h = inl (tt, h)
 first-parts (l ∷ ls) ms v (inr h) = inr (inr h, λ z. never (sym (h .1) ∙ z))
 first-parts (l ∷ ls) ms v (inl h) = go (first-parts ls ms v (h .1))
@@ -109,16 +109,16 @@ first-parts (l ∷ ls) ms v (inl h) = go (first-parts ls ms v (h .1))
     go (inl p) = inl ((h .0, p .0), p .1)
     go (inr p) = inr (inl (h .0, p .0), p .1)
 
-first-left : (ls ms : List Line) (r : Refusal) → First ls (Refused r) → First (ls ++ ms) (Refused r)
+pub first-left : (ls ms : List Line) (r : Refusal) → First ls (Refused r) → First (ls ++ ms) (Refused r)
 first-left [] ms r h = never h
 first-left (l ∷ ls) ms r (inl h) = inl (h .0, first-left ls ms r (h .1))
 first-left (l ∷ ls) ms r (inr h) = inr h
 
-first-right : (ls ms : List Line) (v : Verdict) → Met ls → First ms v → First (ls ++ ms) v
+pub first-right : (ls ms : List Line) (v : Verdict) → Met ls → First ms v → First (ls ++ ms) v
 first-right [] ms v m h = h
 first-right (l ∷ ls) ms v m h = inl (m .0, first-right ls ms v (m .1) h)
 
-numbered-append : (ls ms : List Line) → Numbered ls → Numbered ms → Numbered (ls ++ ms)
+pub numbered-append : (ls ms : List Line) → Numbered ls → Numbered ms → Numbered (ls ++ ms)
 numbered-append [] ms a b = b
 numbered-append (l ∷ ls) ms a b = (a .0, numbered-append ls ms (a .1) b)
 

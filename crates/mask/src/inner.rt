@@ -61,7 +61,8 @@ pub fn judge(form: Form, words: &[u64], rows: &[u32], needed: u64, room: u64) ->
     }
 }
 
-fn has_room(needed: u64, room: u64) -> Verdict
+// The output is no shorter than what is needed.
+pub fn has_room(needed: u64, room: u64) -> Verdict
     ensures { λ r. ⌜ r ≡ first (need (decLe needed room) 8 0 ∷ []) ⌝ }
 {
     if room < needed {

@@ -4,14 +4,14 @@
 use mathlib.Core.Path.{_≡_, refl, sym, ap, _∙_, subst}
 use mathlib.Core.Bool.{Bool, true, false}
 use mathlib.Core.Logic.{_↔_, _⊎_, inl, inr}
-use mathlib.Core.List.{List, [], _∷_, _++_}
+use mathlib.Core.List.{List, [], _∷_, _++_, append-nil}
 use Prim.Native.Nat.{ℕ, zero, _<_}
 use native.Mathlib.Omega.{arith}
 use lib.Dec.{T}
 use Rattle.rows.specs.declared.Refusal.{Refusal}
 use Rattle.rows.specs.declared.Verdict.{Verdict}
 use Rattle.rows.specs.declared.Verdict.the-variants.{Fine, Refused}
-use Rattle.rows.specs.Table.{Line, need, refusal, choose, first, First, Met, Numbered, told, ifFine}
+use Rattle.rows.specs.Table.{Line, need, refusal, choose, first, inOrder, First, Met, Numbered, told, ifFine}
 
 -- a decision of what holds, and of what does not
 pub chosen : {A : Type 0} {X : Type 0} (d : Dec A) (x y : X) → A → choose d x y ≡ x
@@ -75,6 +75,14 @@ append-refused ls ms r e = first-append ls ms ∙ ap (λ (v : Verdict). ifFine v
 
 pub append-fine : (ls ms : List Line) → first ls ≡ Fine → first (ls ++ ms) ≡ first ms
 append-fine ls ms e = first-append ls ms ∙ ap (λ (v : Verdict). ifFine v (first ms) v) e
+
+pub parts-first : (t u : List Line) (ts : List (List Line)) → first (inOrder (t ∷ u ∷ ts)) ≡ ifFine (first t) (first (inOrder (u ∷ ts))) (first t)
+unfolding inOrder
+parts-first t u ts = first-append t (u ++ inOrder ts)
+
+pub parts-last : (t : List Line) → first (inOrder (t ∷ [])) ≡ first t
+unfolding inOrder
+parts-last t = ap first (append-nil t)
 
 -- a line that is met leaves it to the rest
 pub met-skips : (l : Line) (ls : List Line) → l .Needs → first (l ∷ ls) ≡ first ls

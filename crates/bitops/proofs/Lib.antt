@@ -1,0 +1,4 @@
+pub mod BothLaws
+pub mod OpLaws
+pub mod WriteLaws
+pub mod SetLaws

@@ -1,0 +1,62 @@
+-- `bitops::judge::judge_two` meets its contract: the first part of the table that refuses is told.
+-- By the law of parts in order, whatever their order is. Assumes nothing.
+use mathlib.Core.Path.{_∙_}
+use Rattle.rows.proofs.TableLaws.{parts-first, parts-last}
+use borrow.Author.Needs.{needs}
+use Rattle.bitops.proofs.judge.judge_two.Statement.{statement}
+use Rattle.bitops.proofs.judge.judge_two.Tie as tie
+
+check-set-requires : tie.Need-check-set-requires
+check-set-requires c κs = search needs
+
+check-set-requires-2 : tie.Need-check-set-requires-2
+check-set-requires-2 c κs = search needs
+
+length-of-requires : tie.Need-length-of-requires
+length-of-requires c κs = search needs
+
+length-of-requires-2 : tie.Need-length-of-requires-2
+length-of-requires-2 c κs = search needs
+
+same-length-requires : tie.Need-same-length-requires
+same-length-requires c κs = search needs
+
+length-of-requires-3 : tie.Need-length-of-requires-3
+length-of-requires-3 c κs = search needs
+
+words-for-requires : tie.Need-words-for-requires
+words-for-requires c κs = search needs
+
+has-room-requires : tie.Need-has-room-requires
+has-room-requires c κs = search needs
+
+then-requires : tie.Need-then-requires
+then-requires c κs = search needs
+
+then-requires-2 : tie.Need-then-requires-2
+then-requires-2 c κs = search needs
+
+then-requires-3 : tie.Need-then-requires-3
+then-requires-3 c κs = search needs
+
+returns : tie.Need-returns
+returns c =
+    c .then3 .ensures
+    ∙ rw (c .before .then2 .ensures, c .before .before .then .ensures, c .before .before .before .has-room .ensures, c .before .before .before .before .words-for .ensures, c .before .before .before .before .before .length-of3 .ensures, c .before .before .before .before .before .before .same-length .ensures, c .before .before .before .before .before .before .before .length-of2 .ensures, c .before .before .before .before .before .before .before .before .length-of .ensures, c .before .before .before .before .before .before .before .before .before .check-set2 .ensures, c .before .before .before .before .before .before .before .before .before .before .check-set .ensures, parts-first, parts-first, parts-first, parts-last)
+
+pub judge-two-spec : {M : Type 1} → statement M
+judge-two-spec =
+    tie.close
+    (tie.spec
+    check-set-requires
+    check-set-requires-2
+    length-of-requires
+    length-of-requires-2
+    same-length-requires
+    length-of-requires-3
+    words-for-requires
+    has-room-requires
+    then-requires
+    then-requires-2
+    then-requires-3
+    returns)

@@ -1,0 +1,51 @@
+-- `bitops::op::chunk` meets its contract: the operation on a chunk of each operand, cut to n bits, is a chunk of the result.
+-- By the law of what is cut off, and that a part of the result is the result of the parts. Assumes nothing.
+use Prim.Native.Nat.{ℕ}
+use mathlib.Core.Path.{_≡_, sym, ap, ap₂, _∙_}
+use mathlib.Core.List.{[]}
+use native.Mathlib.Omega.{arith}
+use lib.Bits.{bitAnd}
+use lib.ListN.{length, take, drop}
+use denote.Ref.{now}
+use Rattle.rows.specs.Word.{bitsOf, wordOf, both}
+use Rattle.mask.specs.Operand.{rowsOf}
+use Rattle.mask.proofs.OperandLaws.{flat-length}
+use Rattle.mask.proofs.ChunkLaws.{chunk-bits}
+use Rattle.bitops.specs.SetOps.{rowOf}
+use Rattle.bitops.proofs.BothLaws.{both-part}
+use Rattle.bitops.proofs.OpLaws.{cut-word}
+use borrow.Author.Needs.{needs}
+use Rattle.bitops.proofs.op.chunk.Statement.{statement}
+use Rattle.bitops.proofs.op.chunk.Tie as tie
+
+chunk-of-requires : tie.Need-chunk-of-requires
+chunk-of-requires c κs = search needs
+
+chunk-of-requires-2 : tie.Need-chunk-of-requires-2
+chunk-of-requires-2 c κs = search needs
+
+apply-requires : tie.Need-apply-requires
+apply-requires c κs = search needs
+
+ones-requires : tie.Need-ones-requires
+ones-requires c κs = search needs
+
+returns : tie.Need-returns
+returns c =
+    let s = c .before .before .before .before .before .before in
+    let g = rowOf (s .args .op) in
+    let n : ℕ = s .args .n in
+    let row : ℕ = s .args .row in
+    let xs = rowsOf (s .args .a) (now (s .args .awords)) [] in
+    let ys = rowsOf (s .args .b) (now (s .args .bwords)) [] in
+    let x : ℕ = c .before .before .before .chunk-of .result in
+    let y : ℕ = c .before .before .chunk-of2 .result in
+    let ex = ap (bitsOf n) (c .before .before .before .chunk-of .ensures) ∙ chunk-bits row n xs (omega (arith, flat-length (s .args .a) (now (s .args .awords)) (s .pre .0), s .pre .5)) in
+    let ey = ap (bitsOf n) (c .before .before .chunk-of2 .ensures) ∙ chunk-bits row n ys (omega (arith, flat-length (s .args .b) (now (s .args .bwords)) (s .pre .1), s .pre .2, s .pre .5)) in
+    ap₂ bitAnd (c .before .apply .ensures) (c .ones .ensures)
+    ∙ cut-word g 64 n x y (s .pre .4)
+    ∙ ap wordOf (ap₂ (both g) ex ey ∙ sym (both-part g row n xs ys))
+
+pub chunk-spec : {M : Type 1} → statement M
+chunk-spec =
+    tie.close (tie.spec chunk-of-requires chunk-of-requires-2 apply-requires ones-requires returns)

@@ -1,0 +1,51 @@
+-- `bitops::write::answer` meets its contract: the count that the loop gives is the count of the rows that it wrote.
+-- By the loop's promise and the result's length. Assumes nothing.
+use Prim.Native.Nat.{ℕ}
+use mathlib.Core.Path.{_≡_, sym, ap₂, _∙_}
+use mathlib.Core.List.{[]}
+use native.Mathlib.Omega.{arith}
+use lib.ListN.{length}
+use denote.Ref.{now}
+use Rattle.rows.specs.Word.{both}
+use Rattle.rows.specs.Table.{noRefusal}
+use Rattle.rows.proofs.RowLaws.{count-le-length}
+use Rattle.mask.specs.Operand.{rowsOf, lengthOf}
+use Rattle.mask.specs.Answer.{densityOf}
+use Rattle.mask.proofs.OperandLaws.{flat-limit}
+use Rattle.bitops.specs.SetOps.{rowOf}
+use Rattle.bitops.proofs.SetLaws.{result-length}
+use borrow.Author.Needs.{needs}
+use Rattle.bitops.proofs.write.answer.Statement.{statement}
+use Rattle.bitops.proofs.write.answer.Tie as tie
+
+write-requires : tie.Need-write-requires
+write-requires c κs = search needs
+
+length-of-requires : tie.Need-length-of-requires
+length-of-requires c κs = search needs
+
+accepted-requires : tie.Need-accepted-requires
+accepted-requires c κs =
+    let s = c .before .before .before .before .before .before .before .before in
+    let rows = both (rowOf (s .args .op)) (rowsOf (s .args .a) (now (s .args .awords)) []) (rowsOf (s .args .b) (now (s .args .bwords)) []) in
+    let long : length rows ≡ lengthOf (s .args .a) = result-length _ (s .args .a) (now (s .args .awords)) (s .args .b) (now (s .args .bwords)) (s .pre .0) (s .pre .1) (s .pre .2) in
+    let most = flat-limit (s .args .a) (now (s .args .awords)) (s .pre .0) in
+    (omega (arith, c .before .before .before .write .ensures .0, count-le-length rows), omega (arith, c .length-of .ensures))
+
+same-length : tie.Need-same-length
+same-length c = search needs
+
+returns : tie.Need-returns
+returns c =
+    let s = c .before .before .before .before .before .before .before .before .before in
+    let rows = both (rowOf (s .args .op)) (rowsOf (s .args .a) (now (s .args .awords)) []) (rowsOf (s .args .b) (now (s .args .bwords)) []) in
+    let long : length rows ≡ lengthOf (s .args .a) = result-length _ (s .args .a) (now (s .args .awords)) (s .args .b) (now (s .args .bwords)) (s .pre .0) (s .pre .1) (s .pre .2) in (
+      c .accepted .ensures
+          ∙ ap₂ (λ (n l : ℕ). record { refusal = noRefusal; summary = record { count = n; route = 0; density = densityOf n l } })
+          (c .before .before .before .before .write .ensures .0) (c .before .length-of .ensures ∙ sym long),
+      c .before .before .before .before .write .ensures .1,
+    )
+
+pub answer-spec : {M : Type 1} → statement M
+answer-spec =
+    tie.close (tie.spec write-requires length-of-requires accepted-requires same-length returns)
