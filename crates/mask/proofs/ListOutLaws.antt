@@ -62,7 +62,7 @@ rows-zero b w = ap (setRows b) (zero-word w) ∙ none b w
 
 -- ---- chunk after chunk
 
-rows-append : (b : ℕ) (s t : List Bool) → setRows b (s ++ t) ≡ setRows b s ++ setRows (b + length s) t
+pub rows-append : (b : ℕ) (s t : List Bool) → setRows b (s ++ t) ≡ setRows b s ++ setRows (b + length s) t
 rows-append b [] t = rw add-zero
 rows-append b (false ∷ s) t = rows-append (suc b) s t ∙ ap (λ (k : ℕ). setRows (suc b) s ++ setRows k t) (suc-add b (length s) ∙ sym (add-suc b (length s)))
 rows-append b (true ∷ s) t = ap (λ (l : List ℕ). b ∷ l) (rows-append (suc b) s t ∙ ap (λ (k : ℕ). setRows (suc b) s ++ setRows k t) (suc-add b (length s) ∙ sym (add-suc b (length s))))
@@ -75,7 +75,7 @@ rows-fit b (suc m) (false ∷ s) h = rows-fit (suc b) m s (le-of-suc-le-suc h)
 rows-fit b (suc m) (true ∷ s) h = ap (λ (l : List ℕ). b ∷ l) (rows-fit (suc b) m s (le-of-suc-le-suc h))
 
 -- the rows of a chunk's word are the chunk's
-rows-word : (b w : ℕ) (s : List Bool) → length s ≤ w → setRows b (bitsOf w (wordOf s)) ≡ setRows b s
+pub rows-word : (b w : ℕ) (s : List Bool) → length s ≤ w → setRows b (bitsOf w (wordOf s)) ≡ setRows b s
 rows-word b w s h = ap (setRows b) (bitsOf-wordOf-fit w s) ∙ rows-fit b w s h
 
 count-word : (w : ℕ) (s : List Bool) → length s ≤ w → count (bitsOf w (wordOf s)) ≡ count s

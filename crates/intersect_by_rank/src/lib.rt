@@ -1,0 +1,3 @@
+// Composition by rank: a rank mask laid back onto the rows of self.
+mod deposit;
+mod driven;
