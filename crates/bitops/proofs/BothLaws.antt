@@ -1,6 +1,6 @@
 -- An operation on two lists of rows, row by row: its length, its rows, its parts, and not as an operation of two.
 -- By recursion over both lists. Assumes nothing.
-use Prim.Native.Nat.{ℕ, zero, suc, _≤_, _<_}
+use Prim.Native.Nat.{ℕ, zero, suc, _<_}
 use native.Mathlib.Nat.{le-of-suc-le-suc, suc-inj}
 use mathlib.Core.Path.{_≡_, refl, sym, ap, _∙_}
 use mathlib.Core.Bool.{Bool, false, not, _&&_}

@@ -1,9 +1,8 @@
 -- The operations on words, over the width: each is its operation on the rows, and so is what is cut off it.
 -- By the laws of a word's bits. Assumes nothing.
-use Prim.Native.Nat.{ℕ, _-_, _%_, _^_, _≤_, _<_}
+use Prim.Native.Nat.{ℕ, _-_, _^_, _≤_, _<_}
 use mathlib.Core.Path.{_≡_, sym, ap, ap₂, _∙_}
 use mathlib.Core.Bool.{Bool, not, _&&_, _||_}
-use mathlib.Core.List.{List, map}
 use native.Mathlib.Omega.{arith}
 use lib.Bits.{bitAnd, bitOr, and-mask, and-le-l, or-lt}
 use lib.ListN.{length}

@@ -1,26 +1,25 @@
 -- A set operation's table, met and not met: what is known of the operands where every need is met, and what is then answered
 -- and written. By the laws of tables. Assumes nothing.
 use Prim.Native.Nat.{ℕ, _≤_}
-use mathlib.Core.Path.{_≡_, refl, sym, ap, ap₂, _∙_}
+use mathlib.Core.Path.{_≡_, refl, sym, _∙_}
 use mathlib.Core.Logic.{_↔_}
 use mathlib.Core.Bool.{Bool, true, false, not}
-use mathlib.Core.List.{List, [], _∷_, _++_, map}
-use native.Mathlib.Decide.{ℕ-discrete, decLe}
+use mathlib.Core.List.{List, [], _∷_}
+use native.Mathlib.Decide.{decLe}
 use native.Mathlib.Omega.{arith}
 use lib.Dec.{T}
 use lib.ListN.{length}
 use Rattle.rows.specs.declared.Refusal.{Refusal}
-use Rattle.rows.specs.declared.Verdict.{Verdict}
 use Rattle.rows.specs.declared.Verdict.the-variants.{Fine, Refused}
 use Rattle.rows.specs.Word.{both}
 use Rattle.rows.specs.Laid.{wordsFor, written}
-use Rattle.rows.specs.Table.{Met, first, inOrder, need, ifFine}
+use Rattle.rows.specs.Table.{Met, first, inOrder, need}
 use Rattle.rows.proofs.TableLaws.{fine-exactly, met-append}
 use Rattle.mask.specs.declared.Form.{Form}
 use Rattle.mask.specs.Operand.{rowsOf, lengthOf, isList, setChecks, Accepted, Flat}
 use Rattle.mask.specs.Answer.{answered}
 use Rattle.mask.proofs.OperandLaws.{accepted-as, accepted-flat, flat-rows, flat-length}
-use Rattle.bitops.specs.SetOps.{rowOf, pairChecks, notChecks, combined, combinedOut, negated, negatedOut}
+use Rattle.bitops.specs.SetOps.{pairChecks, notChecks, combined, combinedOut, negated, negatedOut}
 use Rattle.bitops.proofs.BothLaws.{both-length, both-not}
 
 -- an operand that a set operation takes: no list, and accepted

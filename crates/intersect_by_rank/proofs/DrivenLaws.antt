@@ -21,6 +21,7 @@ use Rattle.rows.proofs.WordLaws.{ones-word}
 use Rattle.rows.proofs.WordsLaws.{bitsOf-wordOf-fit, view-length}
 use Rattle.rows.proofs.FitLaws.{fit-append}
 use Rattle.rows.proofs.ListLaws.{tab-length, rows-listed, rows-ascending}
+use Rattle.rows.proofs.MarkLaws.{marked-append}
 use Rattle.rows.proofs.KeptLaws.{rows-compose-list}
 use Rattle.rows.proofs.SelectLaws.{selects, select-in, select-skip}
 use Rattle.mask.proofs.ChunkLaws.{view-chunk}
@@ -140,10 +141,6 @@ chunk-ranks r i b e h l m =
     let c = chunkAt r i in
     rw (rows-word i 64 c (omega (arith, chunk-length r i)))
     (ascending-in b i (i + length c) e (setRows i c) h (omega (arith, chunk-length r i)) (rows-ascending i (i + length c) c refl))
-
-marked-append : (at : ℕ) (rs ts ws : List ℕ) → marked at (rs ++ ts) ws ≡ marked at ts (marked at rs ws)
-marked-append at [] ts ws = refl
-marked-append at (r ∷ rs) ts ws = marked-append at rs ts (laid (at + r) (true ∷ []) ws)
 
 -- one chunk more
 pub chunk-marks : (at : ℕ) (f : ℕ → ℕ) (r : List Bool) (i : ℕ) (ws : List ℕ) → i ≤ length r

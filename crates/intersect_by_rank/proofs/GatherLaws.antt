@@ -1,9 +1,8 @@
 -- A list of ranks, gathered as words: which entries count, and the word that they make. By recursion over the entries and
 -- over the bits of a word.
 -- Assumes nothing.
-use Prim.Native.Nat.{ℕ, zero, suc, _+_, _-_, _*_, _/_, _%_, _^_, _≤_, _<_, max}
-use native.Mathlib.Nat.{add-zero, zero-add, suc-add, add-suc, add-assoc, le-of-suc-le-suc, pow-suc}
-use native.Mathlib.Numerals.{add-one}
+use Prim.Native.Nat.{ℕ, zero, suc, _+_, _-_, _*_, _^_, _≤_, _<_, max}
+use native.Mathlib.Nat.{add-zero, suc-add, add-suc, pow-suc}
 use native.Mathlib.Decide.{ℕ-discrete}
 use mathlib.Core.Path.{_≡_, refl, sym, ap, ap₂, _∙_, subst}
 use mathlib.Core.Logic.{_≢_}
@@ -11,16 +10,14 @@ use mathlib.Core.Bool.{Bool, true, false, _||_}
 use mathlib.Core.List.{List, [], _∷_, _++_}
 use native.Mathlib.Omega.{arith}
 use lib.ListN.{length, take, drop, getD, take-append-drop}
-use lib.Seq.{take-suc, drop-cons, drop-drop}
+use lib.Seq.{take-suc, drop-cons}
 use lib.Arith.{digits-div, digits-mod}
 use lib.Bits.{bitOr, or-step}
 use lib.Dec.{eqb}
-use Rattle.rows.specs.Rows.{count}
 use Rattle.rows.specs.Word.{digit, wordOf}
 use Rattle.rows.specs.Words.{Below}
-use Rattle.rows.specs.Lists.{tab, member, listed, Ascending}
+use Rattle.rows.specs.Lists.{tab, member, Ascending}
 use Rattle.intersect_by_rank.specs.Gathers.{Climbs}
-use Rattle.rows.proofs.RowLaws.{count-append}
 use Rattle.rows.proofs.WordLaws.{digit-lt}
 use Rattle.rows.proofs.ListLaws.{eqb-same, eqb-other}
 

@@ -1,3 +1,4 @@
 pub mod DepositLaws
 pub mod GatherLaws
 pub mod DrivenLaws
+pub mod ListLaws

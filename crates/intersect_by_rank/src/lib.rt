@@ -1,3 +1,4 @@
 // Composition by rank: a rank mask laid back onto the rows of self.
 mod deposit;
 mod driven;
+mod lists;

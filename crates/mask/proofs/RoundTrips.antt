@@ -1,9 +1,9 @@
 -- Conversions keep length and rows: what was written as words, read as words, is the same mask, and what was written as a
 -- list, read as a list; the tail is 0 and what stands after is as it was. By the laws of whole words and of lists of rows.
 -- Assumes nothing.
-use Prim.Native.Nat.{ℕ, zero, suc, _*_, _≤_, _<_}
+use Prim.Native.Nat.{ℕ, suc, _*_, _≤_, _<_}
 use native.Mathlib.Nat.{zero-add}
-use mathlib.Core.Path.{_≡_, refl, sym, ap, _∙_}
+use mathlib.Core.Path.{_≡_, sym, ap, _∙_}
 use mathlib.Core.Bool.{Bool, true, false, _&&_}
 use mathlib.Core.List.{List, [], _∷_, _++_}
 use native.Mathlib.Decide.{decLe}
@@ -23,8 +23,8 @@ use Rattle.rows.proofs.ListLaws.{rows-count, rows-ascending, listed-rows}
 use Rattle.rows.proofs.WrittenLaws.{written-rows, written-tail, written-later, written-length}
 use Rattle.mask.specs.declared.Form.{Form}
 use Rattle.mask.specs.declared.Form.the-variants.{Words, List as Listed}
-use Rattle.mask.specs.Operand.{limit, climbs, lastBelow, rowsOf, lengthOf, countOf, operandChecks, Accepted}
-use Rattle.mask.specs.Convert.{toWordsChecks, toListChecks, toWordsOut, toListOut}
+use Rattle.mask.specs.Operand.{climbs, lastBelow, rowsOf, lengthOf, countOf, operandChecks, Accepted}
+use Rattle.mask.specs.Convert.{toWordsOut, toListOut}
 use Rattle.mask.proofs.OperandLaws.{accepted-as, accepted-length, accepted-count, accepted-limit}
 
 T-both : (a b : Bool) → T a → T b → T (a && b)

@@ -100,13 +100,13 @@ marked-after at n ps (r ∷ rs) ws b =
 pub marked-listed : (at n : ℕ) (rs ws : List ℕ) → Below n rs → marked at rs (laid at (replicate n false) ws) ≡ laid at (listed n rs) ws
 marked-listed at n rs ws b = ap (λ (l : List Bool). marked at rs (laid at l ws)) (sym (tab-none 0 n)) ∙ marked-after at n [] rs ws b
 
--- one mark more
-pub marked-snoc : (at r : ℕ) (rs ws : List ℕ) → marked at (rs ++ r ∷ []) ws ≡ laid (at + r) (true ∷ []) (marked at rs ws)
-marked-snoc at r [] ws = refl
-marked-snoc at r (x ∷ rs) ws = marked-snoc at r rs (laid (at + x) (true ∷ []) ws)
+-- marks after marks
+pub marked-append : (at : ℕ) (rs ss ws : List ℕ) → marked at (rs ++ ss) ws ≡ marked at ss (marked at rs ws)
+marked-append at [] ss ws = refl
+marked-append at (r ∷ rs) ss ws = marked-append at rs ss (laid (at + r) (true ∷ []) ws)
 
 pub marked-next : (at i : ℕ) (rs ws : List ℕ) → i < length rs → laid (at + getD rs i 0) (true ∷ []) (marked at (take i rs) ws) ≡ marked at (take (suc i) rs) ws
-marked-next at i rs ws h = sym (ap (λ (l : List ℕ). marked at l ws) (take-suc rs i 0 h) ∙ marked-snoc at (getD rs i 0) (take i rs) ws)
+marked-next at i rs ws h = sym (ap (λ (l : List ℕ). marked at l ws) (take-suc rs i 0 h) ∙ marked-append at (take i rs) (getD rs i 0 ∷ []) ws)
 
 pub marked-length : (at : ℕ) (rs ws : List ℕ) → length (marked at rs ws) ≡ length ws
 marked-length at [] ws = refl

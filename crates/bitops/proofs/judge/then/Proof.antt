@@ -1,6 +1,6 @@
 -- `bitops::judge::then` meets its contract: the earlier verdict is handed up whole where it refuses.
 -- By its two cases. Assumes nothing.
-use mathlib.Core.Path.{sym, ap, _∙_}
+use mathlib.Core.Path.{sym, ap}
 use Rattle.rows.specs.declared.Verdict.{Verdict}
 use Rattle.rows.specs.Table.{ifFine}
 use borrow.Author.Needs.{needs}

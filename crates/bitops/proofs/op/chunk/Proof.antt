@@ -1,11 +1,10 @@
 -- `bitops::op::chunk` meets its contract: the operation on a chunk of each operand, cut to n bits, is a chunk of the result.
 -- By the law of what is cut off, and that a part of the result is the result of the parts. Assumes nothing.
 use Prim.Native.Nat.{ℕ}
-use mathlib.Core.Path.{_≡_, sym, ap, ap₂, _∙_}
+use mathlib.Core.Path.{sym, ap, ap₂, _∙_}
 use mathlib.Core.List.{[]}
 use native.Mathlib.Omega.{arith}
 use lib.Bits.{bitAnd}
-use lib.ListN.{length, take, drop}
 use denote.Ref.{now}
 use Rattle.rows.specs.Word.{bitsOf, wordOf, both}
 use Rattle.mask.specs.Operand.{rowsOf}

@@ -1,6 +1,6 @@
 -- `intersect_by_rank::deposit::push_result_chunk` meets its contract: what is laid is the deposit's low bits.
 -- By the contracts of `put` and of the deposit. Assumes nothing.
-use mathlib.Core.Path.{_≡_, ap, _∙_}
+use mathlib.Core.Path.{ap, _∙_}
 use Prim.Native.Nat.{ℕ}
 use denote.Ref.{now}
 use Rattle.rows.specs.Word.{bitsOf}

@@ -8,7 +8,7 @@ use native.Mathlib.Omega.{arith}
 use borrow.Author.Needs.{needs}
 use denote.Ref.{now}
 use Rattle.rows.specs.Laid.{laid}
-use Rattle.intersect_by_rank.proofs.DrivenLaws.{view-row}
+use Rattle.intersect_by_rank.proofs.DrivenLaws.{view-few, view-row}
 use Rattle.intersect_by_rank.proofs.driven.mark_rank.Statement.{statement}
 use Rattle.intersect_by_rank.proofs.driven.mark_rank.Tie as tie
 
@@ -18,17 +18,18 @@ seek-requires c κs = search needs
 row-in-requires : tie.Need-row-in-requires
 row-in-requires c κs = search needs
 
+-- the row's bit has room. So has the rank's, by `view-few`: were it marked instead, only the promise would fail
 add-set-bit : tie.Need-add-set-bit
 add-set-bit c =
     let s = c .before .before .before .before .before .before in
     let a = s .args in
-    omega (arith, c .before .before .row-in .ensures, view-row (a .start) (a .len) (now (a .words)) (s .pre .0 .1) (a .rank .0) (s .pre .4))
+    omega (arith, c .before .before .row-in .ensures, view-row (a .start) (a .len) (now (a .words)) (s .pre .0 .1) (a .rank .0) (s .pre .4), view-few (a .start) (a .len) (now (a .words)) (s .pre .0 .1))
 
 set-bit-requires : tie.Need-set-bit-requires
 set-bit-requires c κs =
     let s = c .before .before .before .before .before .before in
     let a = s .args in
-    omega (arith, c .before .before .row-in .ensures, view-row (a .start) (a .len) (now (a .words)) (s .pre .0 .1) (a .rank .0) (s .pre .4))
+    omega (arith, c .before .before .row-in .ensures, view-row (a .start) (a .len) (now (a .words)) (s .pre .0 .1) (a .rank .0) (s .pre .4), view-few (a .start) (a .len) (now (a .words)) (s .pre .0 .1))
 
 same-length : tie.Need-same-length
 same-length c = search needs
