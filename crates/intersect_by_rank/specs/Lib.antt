@@ -1,2 +1,4 @@
-pub mod Gathers
+pub mod Compose
 pub mod Driven
+pub mod Gathers
+pub mod Route

@@ -2,3 +2,4 @@
 mod deposit;
 mod driven;
 mod lists;
+mod route;
