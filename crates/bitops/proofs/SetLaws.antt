@@ -26,7 +26,7 @@ use Rattle.bitops.proofs.BothLaws.{both-length, both-not}
 abbrev pub Taken : Form → List ℕ → List ℕ → Type 0
 Taken f ws es = (isList f ≡ false) × Accepted f ws es
 
-no-list : (b : Bool) → T (not b) ↔ (b ≡ false)
+pub no-list : (b : Bool) → T (not b) ↔ (b ≡ false)
 no-list true = (λ t. absurd t, λ e. (let z : _≡_ {A = ℕ} 0 1 = cc in absurd (omega arith)))
 no-list false = (λ t. refl, λ e. tt)
 

@@ -1,0 +1,269 @@
+-- Demands 1 and 2 for the set operations, as statements that can be held against document 01: which refusal exactly when, that a
+-- refusal changes nothing, and what an accepted operation writes, row by row. One law for every operation of two operands, by the laws of tables.
+-- Assumes nothing.
+use Prim.Native.Nat.{ℕ, zero, suc, _*_, _≤_, _<_}
+use native.Mathlib.Nat.{le-of-suc-le-suc}
+use mathlib.Core.Path.{_≡_, refl, sym, ap, _∙_}
+use mathlib.Core.Logic.{_↔_, _≢_, _⊎_, inl, inr}
+use mathlib.Core.Bool.{Bool, true, false, not, _&&_, _||_}
+use mathlib.Core.List.{List, [], _∷_, _++_, map}
+use native.Mathlib.Decide.{ℕ-discrete, decLe}
+use native.Mathlib.Omega.{arith}
+use lib.Dec.{T}
+use lib.ListN.{length, take, drop, getD, length-map}
+use lib.Seq.{getD-take}
+use Rattle.rows.specs.declared.Refusal.{Refusal}
+use Rattle.rows.specs.declared.Verdict.{Verdict}
+use Rattle.rows.specs.declared.Verdict.the-variants.{Fine, Refused}
+use Rattle.rows.specs.Rows.{count}
+use Rattle.rows.specs.Word.{both}
+use Rattle.rows.specs.Words.{bitsOfAll}
+use Rattle.rows.specs.Laid.{wordsFor, written}
+use Rattle.rows.specs.Table.{Line, First, Met, Numbered, first, inOrder, need, refusal, noRefusal, ifFine}
+use Rattle.rows.proofs.TableLaws.{told-exactly, accepts-exactly}
+use Rattle.rows.proofs.WrittenLaws.{written-rows, written-tail, written-later}
+use Rattle.mask.specs.declared.Answer.{Answer}
+use Rattle.mask.specs.declared.Form.{Form}
+use Rattle.mask.specs.Operand.{rowsOf, lengthOf, isList, setChecks}
+use Rattle.mask.specs.Answer.{answered, densityOf}
+use Rattle.mask.proofs.OperandLaws.{accepted-length}
+use Rattle.mask.proofs.Theorems.{Wrong, Bare, operand-refuses, operand-numbered, first-parts, first-left, first-right, numbered-append, answered-told, nothing-done, never, number, names, same}
+use Rattle.bitops.specs.SetOps.{andNot, pairChecks, notChecks, combined, combinedOut, negated, negatedOut}
+use Rattle.bitops.proofs.BothLaws.{both-length, both-at}
+use Rattle.bitops.proofs.SetLaws.{Taken, taken-as, no-list, pair-met, pair-fine, one-met, one-fine}
+
+-- ---- demand 1: which number is told of an operand. A list is 12, before all else
+
+abbrev pub SetWrong : Form → List ℕ → List ℕ → ℕ → Type 0
+SetWrong f ws es n = ((n ≡ 12) × (isList f ≡ true)) ⊎ ((isList f ≡ false) × Wrong f ws es n)
+
+is-list : (b : Bool) → (¬ T (not b)) ↔ (b ≡ true)
+is-list true = (λ h. refl, λ e t. t)
+is-list false = (λ h. absurd (h tt), λ e. (let z : _≡_ {A = ℕ} 0 1 = cc in absurd (omega arith)))
+
+pub set-refuses : (k j n : ℕ) (f : Form) (ws es : List ℕ) → First (setChecks k f ws es) (Refused (refusal n j)) ↔ ((j ≡ k) × SetWrong f ws es n)
+set-refuses k j n f ws es = (to, λ w. from (w .0) (w .1))
+  where
+    to : First (setChecks k f ws es) (Refused (refusal n j)) → (j ≡ k) × SetWrong f ws es n
+    to (inr (a, e)) = (names e, inl (number e, is-list (isList f) .0 a))
+    to (inl (a, h)) = let w = operand-refuses k j n f ws es .0 h in (w .0, inr (no-list (isList f) .0 a, w .1))
+
+    from : j ≡ k → SetWrong f ws es n → First (setChecks k f ws es) (Refused (refusal n j))
+    from q (inl (e, l)) = inr (is-list (isList f) .1 l, same e q)
+    from q (inr (l, w)) = inl (no-list (isList f) .1 l, operand-refuses k j n f ws es .1 (q, w))
+
+set-numbered : (k : ℕ) (f : Form) (ws es : List ℕ) → Numbered (setChecks k f ws es)
+set-numbered k f ws es = (omega arith, operand-numbered k f ws es)
+
+-- ---- demand 2: accepted, with n rows that are as said, their own count and density, route 0; the last word's tail 0, later words as before
+
+abbrev pub bitAt : List ℕ → ℕ → Bool
+bitAt ws i = getD (bitsOfAll 64 ws) i false
+
+pub record Writes (n : ℕ) (row : ℕ → Bool) (answer : Answer) (left out : List ℕ) : Type 0 where
+  pub accepted : answer .refusal ≡ noRefusal
+  pub rows : (i : ℕ) → i < n → bitAt left i ≡ row i
+  pub counted : answer .summary .count ≡ count (take n (bitsOfAll 64 left))
+  pub route : answer .summary .route ≡ 0
+  pub dense : answer .summary .density ≡ densityOf (answer .summary .count) n
+  pub tail : (i : ℕ) → n ≤ i → i < wordsFor n * 64 → bitAt left i ≡ false
+  pub later : drop (wordsFor n) left ≡ drop (wordsFor n) out
+
+writes : (v : Verdict) → v ≡ Fine → (n : ℕ) (rows : List Bool) (out : List ℕ) → length rows ≡ n → (row : ℕ → Bool) → ((i : ℕ) → i < n → getD rows i false ≡ row i)
+    → Writes n row (answered v rows 0) (ifFine v (written n rows out) out) out
+writes v e n rows out long row law =
+    rw e
+    (record {
+      accepted = refl;
+      rows = λ i h. sym (getD-take n (bitsOfAll 64 (written n rows out)) i false h) ∙ ap (λ (l : List Bool). getD l i false) (written-rows n rows out long) ∙ law i h;
+      counted = ap count (sym (written-rows n rows out long));
+      route = refl;
+      dense = ap (densityOf (count rows)) long;
+      tail = written-tail n rows out long;
+      later = written-later n rows out long;
+    })
+
+-- row i of an operand
+abbrev pub row : Form → List ℕ → List ℕ → ℕ → Bool
+row f ws es i = getD (rowsOf f ws es) i false
+
+-- ---- the operations on a row
+
+unset {ℓ} : {X : Type ℓ} → false ≡ true → X
+unset e = absurd (let z : _≡_ {A = ℕ} 0 1 = cc in omega arith)
+
+in-both : (x y : Bool) → ((x && y) ≡ true) ↔ ((x ≡ true) × (y ≡ true))
+in-both true y = (λ e. (refl, e), λ p. p .1)
+in-both false y = (λ e. unset e, λ p. p .0)
+
+in-either : (x y : Bool) → ((x || y) ≡ true) ↔ ((x ≡ true) ⊎ (y ≡ true))
+in-either true y = (λ e. inl refl, λ p. refl)
+in-either false y = (λ e. inr e, either)
+  where
+    either : (false ≡ true) ⊎ (y ≡ true) → y ≡ true
+    either (inl e) = unset e
+    either (inr e) = e
+
+not-in : (x : Bool) → (not x ≡ true) ↔ (x ≡ false)
+not-in true = (λ e. unset e, λ e. sym e)
+not-in false = (λ e. refl, λ e. refl)
+
+in-first : (x y : Bool) → (andNot x y ≡ true) ↔ ((x ≡ true) × (y ≡ false))
+in-first true y = (λ e. (refl, not-in y .0 e), λ p. not-in y .1 (p .1))
+in-first false y = (λ e. unset e, λ p. p .0)
+
+not-at : (xs : List Bool) (i : ℕ) → i < length xs → getD (map not xs) i false ≡ not (getD xs i false)
+not-at [] i h = absurd (omega arith)
+not-at (x ∷ xs) zero h = refl
+not-at (x ∷ xs) (suc i) h = not-at xs i (le-of-suc-le-suc h)
+
+-- ---- two operands: the first's number, then the second's, then 7, then 8
+
+module _ (a : Form) (aws aes : List ℕ) (b : Form) (bws bes : List ℕ) where
+  abbrev pub Refuses : ℕ → ℕ → ℕ → Type 0
+  Refuses room n k =
+      ((k ≡ 1) × SetWrong a aws aes n)
+      ⊎ ((k ≡ 2) × Taken a aws aes × SetWrong b bws bes n)
+      ⊎ ((n ≡ 7) × (k ≡ 0) × Taken a aws aes × Taken b bws bes × (lengthOf a ≢ lengthOf b))
+      ⊎ ((n ≡ 8) × (k ≡ 0) × Taken a aws aes × Taken b bws bes × (lengthOf a ≡ lengthOf b) × (room < wordsFor (lengthOf a)))
+
+  abbrev pub Accepts : ℕ → Type 0
+  Accepts room = Taken a aws aes × Taken b bws bes × (lengthOf a ≡ lengthOf b) × (wordsFor (lengthOf a) ≤ room)
+
+  abbrev lengths : ℕ → List Line
+  lengths room = need (ℕ-discrete (lengthOf a) (lengthOf b)) 7 0 ∷ need (decLe (wordsFor (lengthOf a)) room) 8 0 ∷ []
+
+  pair-refuses : (room n k : ℕ) → First (pairChecks a aws aes b bws bes room) (Refused (refusal n k)) ↔ Refuses room n k
+  unfolding inOrder
+  pair-refuses room n k = (λ h. to (first-parts (setChecks 1 a aws aes) (setChecks 2 b bws bes ++ lengths room) (Refused (refusal n k)) h), from)
+    where
+      later : Taken a aws aes → (Met (setChecks 2 b bws bes) × First (lengths room) (Refused (refusal n k))) ⊎ (First (setChecks 2 b bws bes) (Refused (refusal n k)) × (Refused (refusal n k) ≢ Fine)) → Refuses room n k
+      later t (inr h) = let w = set-refuses 2 k n b bws bes .0 (h .0) in inr (inl (w .0, t, w .1))
+      later t (inl (m, inr (x, e))) = inr (inr (inl (number e, names e, t, taken-as 2 b bws bes .0 m, x)))
+      later t (inl (m, inl (x, inr (y, e)))) = inr (inr (inr (number e, names e, t, taken-as 2 b bws bes .0 m, x, omega (arith, y))))
+      later t (inl (m, inl (x, inl (y, e)))) = never e
+
+      to : (Met (setChecks 1 a aws aes) × First (setChecks 2 b bws bes ++ lengths room) (Refused (refusal n k))) ⊎ (First (setChecks 1 a aws aes) (Refused (refusal n k)) × (Refused (refusal n k) ≢ Fine)) → Refuses room n k
+      to (inr h) = inl (set-refuses 1 k n a aws aes .0 (h .0))
+      to (inl (m, h)) = later (taken-as 1 a aws aes .0 m) (first-parts (setChecks 2 b bws bes) (lengths room) (Refused (refusal n k)) h)
+
+      past : Taken a aws aes → First (setChecks 2 b bws bes ++ lengths room) (Refused (refusal n k)) → First (pairChecks a aws aes b bws bes room) (Refused (refusal n k))
+      past t h = first-right (setChecks 1 a aws aes) (setChecks 2 b bws bes ++ lengths room) (Refused (refusal n k)) (taken-as 1 a aws aes .1 t) h
+
+      both-past : Taken a aws aes → Taken b bws bes → First (lengths room) (Refused (refusal n k)) → First (pairChecks a aws aes b bws bes room) (Refused (refusal n k))
+      both-past t u h = past t (first-right (setChecks 2 b bws bes) (lengths room) (Refused (refusal n k)) (taken-as 2 b bws bes .1 u) h)
+
+      from : Refuses room n k → First (pairChecks a aws aes b bws bes room) (Refused (refusal n k))
+      from (inl w) = first-left (setChecks 1 a aws aes) (setChecks 2 b bws bes ++ lengths room) (refusal n k) (set-refuses 1 k n a aws aes .1 w)
+      from (inr (inl (q, t, w))) = past t (first-left (setChecks 2 b bws bes) (lengths room) (refusal n k) (set-refuses 2 k n b bws bes .1 (q, w)))
+      from (inr (inr (inl (e, q, t, u, x)))) = both-past t u (inr (x, same e q))
+      from (inr (inr (inr (e, q, t, u, x, y)))) = both-past t u (inl (x, inr (λ h. omega arith, same e q)))
+
+  pair-numbered : (room : ℕ) → Numbered (pairChecks a aws aes b bws bes room)
+  unfolding inOrder
+  pair-numbered room =
+      numbered-append (setChecks 1 a aws aes) (setChecks 2 b bws bes ++ lengths room) (set-numbered 1 a aws aes)
+      (numbered-append (setChecks 2 b bws bes) (lengths room) (set-numbered 2 b bws bes) (omega arith, (omega arith, tt)))
+
+  module _ (g : Bool → Bool → Bool) (out : List ℕ) where
+    -- each number exactly when, and with it the operand
+    pub combined-refuses : (n k : ℕ) → zero < n → (combined g a aws aes b bws bes out .refusal ≡ refusal n k) ↔ Refuses (length out) n k
+    unfolding combined
+    combined-refuses n k p =
+        let t = told-exactly (pairChecks a aws aes b bws bes (length out)) (refusal n k) p in
+        let q = answered-told (first (pairChecks a aws aes b bws bes (length out))) (both g (rowsOf a aws aes) (rowsOf b bws bes)) 0 in
+        (λ e. pair-refuses (length out) n k .0 (t .0 (sym q ∙ e)), λ w. q ∙ t .1 (pair-refuses (length out) n k .1 w))
+
+    -- and number 0, accepted, exactly otherwise
+    pub combined-accepts : (combined g a aws aes b bws bes out .refusal .number ≡ 0) ↔ Accepts (length out)
+    unfolding combined
+    combined-accepts =
+        let m = accepts-exactly (pairChecks a aws aes b bws bes (length out)) (pair-numbered (length out)) in
+        let q = ap (λ (r : Refusal). r .number) (answered-told (first (pairChecks a aws aes b bws bes (length out))) (both g (rowsOf a aws aes) (rowsOf b bws bes)) 0) in
+        (λ e. pair-met a aws aes b bws bes (length out) .0 (m .0 (sym q ∙ e)), λ t. q ∙ m .1 (pair-met a aws aes b bws bes (length out) .1 t))
+
+    -- a refusal changes nothing, and reports count 0, route 0 and density 0.0
+    pub combined-refused : combined g a aws aes b bws bes out .refusal .number ≢ 0 → (combinedOut g a aws aes b bws bes out ≡ out) × Bare (combined g a aws aes b bws bes out)
+    unfolding combined combinedOut
+    combined-refused = nothing-done (first (pairChecks a aws aes b bws bes (length out))) _ 0 _ out
+
+    -- g is what the operation does to a row of each
+    pub combined-writes : Accepts (length out) → Writes (lengthOf a) (λ i. g (row a aws aes i) (row b bws bes i)) (combined g a aws aes b bws bes out) (combinedOut g a aws aes b bws bes out) out
+    unfolding combined combinedOut
+    combined-writes t =
+        let la = accepted-length a aws aes (t .0 .1) in
+        let even : length (rowsOf a aws aes) ≡ length (rowsOf b bws bes) = la ∙ t .2 ∙ sym (accepted-length b bws bes (t .1 .1)) in
+        writes (first (pairChecks a aws aes b bws bes (length out))) (pair-fine a aws aes b bws bes (length out) .1 t) (lengthOf a) (both g (rowsOf a aws aes) (rowsOf b bws bes)) out
+        (both-length g (rowsOf a aws aes) (rowsOf b bws bes) even ∙ la) _ (λ i h. both-at g (rowsOf a aws aes) (rowsOf b bws bes) even i (omega arith))
+
+-- ---- not: the one operand's number, then 8
+
+module _ (a : Form) (aws aes : List ℕ) where
+  abbrev pub NotRefuses : ℕ → ℕ → ℕ → Type 0
+  NotRefuses room n k =
+      ((k ≡ 1) × SetWrong a aws aes n)
+      ⊎ ((n ≡ 8) × (k ≡ 0) × Taken a aws aes × (room < wordsFor (lengthOf a)))
+
+  abbrev pub NotAccepts : ℕ → Type 0
+  NotAccepts room = Taken a aws aes × (wordsFor (lengthOf a) ≤ room)
+
+  abbrev space : ℕ → List Line
+  space room = need (decLe (wordsFor (lengthOf a)) room) 8 0 ∷ []
+
+  one-refuses : (room n k : ℕ) → First (notChecks a aws aes room) (Refused (refusal n k)) ↔ NotRefuses room n k
+  unfolding inOrder
+  one-refuses room n k = (λ h. to (first-parts (setChecks 1 a aws aes) (space room) (Refused (refusal n k)) h), from)
+    where
+      to : (Met (setChecks 1 a aws aes) × First (space room) (Refused (refusal n k))) ⊎ (First (setChecks 1 a aws aes) (Refused (refusal n k)) × (Refused (refusal n k) ≢ Fine)) → NotRefuses room n k
+      to (inr h) = inl (set-refuses 1 k n a aws aes .0 (h .0))
+      to (inl (m, inr (x, e))) = inr (number e, names e, taken-as 1 a aws aes .0 m, omega (arith, x))
+      to (inl (m, inl (x, e))) = never e
+
+      from : NotRefuses room n k → First (notChecks a aws aes room) (Refused (refusal n k))
+      from (inl w) = first-left (setChecks 1 a aws aes) (space room) (refusal n k) (set-refuses 1 k n a aws aes .1 w)
+      from (inr (e, q, t, x)) = first-right (setChecks 1 a aws aes) (space room) (Refused (refusal n k)) (taken-as 1 a aws aes .1 t) (inr (λ h. omega arith, same e q))
+
+  one-numbered : (room : ℕ) → Numbered (notChecks a aws aes room)
+  unfolding inOrder
+  one-numbered room = numbered-append (setChecks 1 a aws aes) (space room) (set-numbered 1 a aws aes) (omega arith, tt)
+
+  module _ (out : List ℕ) where
+    pub not-refuses : (n k : ℕ) → zero < n → (negated a aws aes out .refusal ≡ refusal n k) ↔ NotRefuses (length out) n k
+    unfolding negated
+    not-refuses n k p =
+        let t = told-exactly (notChecks a aws aes (length out)) (refusal n k) p in
+        let q = answered-told (first (notChecks a aws aes (length out))) (map not (rowsOf a aws aes)) 0 in
+        (λ e. one-refuses (length out) n k .0 (t .0 (sym q ∙ e)), λ w. q ∙ t .1 (one-refuses (length out) n k .1 w))
+
+    pub not-accepts : (negated a aws aes out .refusal .number ≡ 0) ↔ NotAccepts (length out)
+    unfolding negated
+    not-accepts =
+        let m = accepts-exactly (notChecks a aws aes (length out)) (one-numbered (length out)) in
+        let q = ap (λ (r : Refusal). r .number) (answered-told (first (notChecks a aws aes (length out))) (map not (rowsOf a aws aes)) 0) in
+        (λ e. one-met a aws aes (length out) .0 (m .0 (sym q ∙ e)), λ t. q ∙ m .1 (one-met a aws aes (length out) .1 t))
+
+    pub not-refused : negated a aws aes out .refusal .number ≢ 0 → (negatedOut a aws aes out ≡ out) × Bare (negated a aws aes out)
+    unfolding negated negatedOut
+    not-refused = nothing-done (first (notChecks a aws aes (length out))) _ 0 _ out
+
+    pub not-writes : NotAccepts (length out) → Writes (lengthOf a) (λ i. not (row a aws aes i)) (negated a aws aes out) (negatedOut a aws aes out) out
+    unfolding negated negatedOut
+    not-writes t =
+        let la = accepted-length a aws aes (t .0 .1) in
+        writes (first (notChecks a aws aes (length out))) (one-fine a aws aes (length out) .1 t) (lengthOf a) (map not (rowsOf a aws aes)) out
+        (length-map (rowsOf a aws aes) not ∙ la) _ (λ i h. not-at (rowsOf a aws aes) i (omega arith))
+
+-- ---- in document 01's words: row i is in both, in either, in the first only, not in the one operand
+
+module _ (a : Form) (aws aes : List ℕ) (b : Form) (bws bes : List ℕ) (out : List ℕ) (t : Accepts a aws aes b bws bes (length out)) (i : ℕ) (within : i < lengthOf a) where
+  pub and-row : (bitAt (combinedOut _&&_ a aws aes b bws bes out) i ≡ true) ↔ ((row a aws aes i ≡ true) × (row b bws bes i ≡ true))
+  and-row = rw (combined-writes a aws aes b bws bes _&&_ out t .rows i within) (in-both (row a aws aes i) (row b bws bes i))
+
+  pub or-row : (bitAt (combinedOut _||_ a aws aes b bws bes out) i ≡ true) ↔ ((row a aws aes i ≡ true) ⊎ (row b bws bes i ≡ true))
+  or-row = rw (combined-writes a aws aes b bws bes _||_ out t .rows i within) (in-either (row a aws aes i) (row b bws bes i))
+
+  pub and-not-row : (bitAt (combinedOut andNot a aws aes b bws bes out) i ≡ true) ↔ ((row a aws aes i ≡ true) × (row b bws bes i ≡ false))
+  and-not-row = rw (combined-writes a aws aes b bws bes andNot out t .rows i within) (in-first (row a aws aes i) (row b bws bes i))
+
+pub not-row : (a : Form) (aws aes out : List ℕ) → NotAccepts a aws aes (length out) → (i : ℕ) → i < lengthOf a → (bitAt (negatedOut a aws aes out) i ≡ true) ↔ (row a aws aes i ≡ false)
+not-row a aws aes out t i h = rw (not-writes a aws aes out t .rows i h) (not-in (row a aws aes i))
