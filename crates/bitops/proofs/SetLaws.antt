@@ -4,8 +4,7 @@ use Prim.Native.Nat.{ℕ, _≤_}
 use mathlib.Core.Path.{_≡_, refl, sym, _∙_}
 use mathlib.Core.Logic.{_↔_}
 use mathlib.Core.Bool.{Bool, true, false, not}
-use mathlib.Core.List.{List, [], _∷_}
-use native.Mathlib.Decide.{decLe}
+use mathlib.Core.List.{List, []}
 use native.Mathlib.Omega.{arith}
 use lib.Dec.{T}
 use lib.ListN.{length}
@@ -13,8 +12,8 @@ use Rattle.rows.specs.declared.Refusal.{Refusal}
 use Rattle.rows.specs.declared.Verdict.the-variants.{Fine, Refused}
 use Rattle.rows.specs.Word.{both}
 use Rattle.rows.specs.Laid.{wordsFor, written}
-use Rattle.rows.specs.Table.{Met, first, inOrder, need}
-use Rattle.rows.proofs.TableLaws.{fine-exactly, met-append}
+use Rattle.rows.specs.Table.{Met, first}
+use Rattle.rows.proofs.TableLaws.{fine-exactly, parts-met, none-met}
 use Rattle.mask.specs.declared.Form.{Form}
 use Rattle.mask.specs.Operand.{rowsOf, lengthOf, isList, setChecks, Accepted, Flat}
 use Rattle.mask.specs.Answer.{answered}
@@ -46,20 +45,25 @@ result-length g a aws b bws fa fb e =
 -- ---- two operands
 
 module _ (a : Form) (aws aes : List ℕ) (b : Form) (bws bes : List ℕ) where
+  -- the needs part by part; `search` finds each where it stands, so that the order is the theorem's alone to say
   pub pair-met : (room : ℕ) → Met (pairChecks a aws aes b bws bes room) ↔ (Taken a aws aes × Taken b bws bes × (lengthOf a ≡ lengthOf b) × (wordsFor (lengthOf a) ≤ room))
-  unfolding inOrder
   pair-met room = (to, from)
     where
       to : Met (pairChecks a aws aes b bws bes room) → Taken a aws aes × Taken b bws bes × (lengthOf a ≡ lengthOf b) × (wordsFor (lengthOf a) ≤ room)
       to m =
-          let p = met-append (setChecks 1 a aws aes) _ .0 m in
-          let q = met-append (setChecks 2 b bws bes) _ .0 (p .1) in
-          (taken-as 1 a aws aes .0 (p .0), taken-as 2 b bws bes .0 (q .0), q .1 .0, q .1 .1 .0)
+          let p = parts-met _ _ .0 m in
+          let q = parts-met _ _ .0 (p .1) in
+          let r = parts-met _ _ .0 (q .1) in
+          let s = parts-met _ _ .0 (r .1) in
+          let ta = taken-as 1 a aws aes .0 in
+          let tb = taken-as 2 b bws bes .0 in
+          (ta (search), tb (search), search, search)
 
       from : Taken a aws aes × Taken b bws bes × (lengthOf a ≡ lengthOf b) × (wordsFor (lengthOf a) ≤ room) → Met (pairChecks a aws aes b bws bes room)
       from t =
-          met-append (setChecks 1 a aws aes) _ .1
-          (taken-as 1 a aws aes .1 (t .0), met-append (setChecks 2 b bws bes) _ .1 (taken-as 2 b bws bes .1 (t .1), (t .2, (t .3, tt))))
+          let ma = taken-as 1 a aws aes .1 (t .0) in
+          let mb = taken-as 2 b bws bes .1 (t .1) in
+          parts-met _ _ .1 (search, parts-met _ _ .1 (search, parts-met _ _ .1 (search, parts-met _ _ .1 (search, none-met))))
 
   pub pair-fine : (room : ℕ) → (first (pairChecks a aws aes b bws bes room) ≡ Fine) ↔ (Taken a aws aes × Taken b bws bes × (lengthOf a ≡ lengthOf b) × (wordsFor (lengthOf a) ≤ room))
   pair-fine room = (λ e. pair-met room .0 (fine-exactly (pairChecks a aws aes b bws bes room) .0 e), λ t. fine-exactly (pairChecks a aws aes b bws bes room) .1 (pair-met room .1 t))
@@ -82,10 +86,10 @@ module _ (a : Form) (aws aes : List ℕ) (b : Form) (bws bes : List ℕ) where
 
 module _ (a : Form) (aws aes : List ℕ) where
   pub one-met : (room : ℕ) → Met (notChecks a aws aes room) ↔ (Taken a aws aes × (wordsFor (lengthOf a) ≤ room))
-  unfolding inOrder
-  one-met room =
-      let m = met-append (setChecks 1 a aws aes) (need (decLe (wordsFor (lengthOf a)) room) 8 0 ∷ []) in
-      (λ h. (taken-as 1 a aws aes .0 (m .0 h .0), m .0 h .1 .0), λ t. m .1 (taken-as 1 a aws aes .1 (t .0), (t .1, tt)))
+  one-met room = (
+    λ m. (let p = parts-met _ _ .0 m in (taken-as 1 a aws aes .0 (p .0), parts-met _ _ .0 (p .1) .0 .0)),
+    λ t. parts-met _ _ .1 (taken-as 1 a aws aes .1 (t .0), parts-met _ _ .1 ((t .1, tt), none-met)),
+  )
 
   pub one-fine : (room : ℕ) → (first (notChecks a aws aes room) ≡ Fine) ↔ (Taken a aws aes × (wordsFor (lengthOf a) ≤ room))
   one-fine room = (λ e. one-met room .0 (fine-exactly (notChecks a aws aes room) .0 e), λ t. fine-exactly (notChecks a aws aes room) .1 (one-met room .1 t))
