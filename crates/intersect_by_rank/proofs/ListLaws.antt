@@ -7,12 +7,15 @@ use mathlib.Core.Path.{_≡_, refl, sym, ap, _∙_}
 use mathlib.Core.Bool.{Bool, true, false}
 use mathlib.Core.List.{List, [], _∷_, _++_, map}
 use native.Mathlib.Omega.{arith}
-use lib.ListN.{length, take, getD, length-map}
+use lib.ListN.{length, take, getD, replicate, length-map}
 use lib.Dec.{eqb}
 use Rattle.rows.specs.Rows.{compose}
 use Rattle.rows.specs.Word.{isOne, testBit}
 use Rattle.rows.specs.Lists.{member, listed, setRows, Ascending}
 use Rattle.rows.proofs.ListLaws.{tab-length, rows-listed}
+use Rattle.rows.specs.Laid.{laid, marked}
+use Rattle.rows.proofs.RowLaws.{compose-length}
+use Rattle.rows.proofs.MarkLaws.{marked-rows}
 use Rattle.rows.proofs.KeptLaws.{kept, rows-compose, kept-map}
 
 map-at : (f : ℕ → ℕ) (l : List ℕ) (i : ℕ) → i < length l → getD (map f l) i 0 ≡ f (getD l i 0)
@@ -60,3 +63,8 @@ low-bit n =
     go zero h = refl
     go (suc zero) h = refl
     go (suc (suc d)) h = absurd (omega arith)
+
+-- the rows of a composition, marked where its part was cleared, are the composition laid there
+pub marked-compose : (at len : ℕ) (s r : List Bool) (ws : List ℕ) → length s ≡ len → marked at (setRows 0 (compose s r)) (laid at (replicate len false) ws) ≡ laid at (compose s r) ws
+marked-compose at len s r ws e =
+    ap (λ (k : ℕ). marked at (setRows 0 (compose s r)) (laid at (replicate k false) ws)) (sym (compose-length s r ∙ e)) ∙ marked-rows at (compose s r) ws

@@ -1,5 +1,6 @@
 // Composition by rank: a rank mask laid back onto the rows of self.
 mod deposit;
 mod driven;
+mod lay;
 mod lists;
 mod route;

@@ -28,6 +28,13 @@ lengthOf (None n) = n
 lengthOf (Words start len claimed) = len
 lengthOf (Listed len) = len
 
+-- the bit of the lent words that has row 0
+abbrev pub startOf : Form → ℕ
+startOf (All n) = 0
+startOf (None n) = 0
+startOf (Words start len claimed) = start
+startOf (Listed len) = 0
+
 -- the count that the form has: where the operand is accepted, the number of its set rows (`accepted-count`)
 abbrev pub countOf : Form → List ℕ → ℕ
 countOf (All n) es = n

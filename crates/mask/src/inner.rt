@@ -11,7 +11,7 @@ ghost use Rattle.rows.specs.Word.{wordOf};
 ghost use Rattle.rows.specs.Laid.{wordsFor, written, laid};
 ghost use Rattle.rows.specs.Table.{first, need, noRefusal};
 ghost use Rattle.mask.specs.Answer.{densityOf, noDensity};
-ghost use Rattle.mask.specs.Operand.{rowsOf, lengthOf, countOf, isList, operandChecks, setChecks, Accepted, Flat};
+ghost use Rattle.mask.specs.Operand.{rowsOf, lengthOf, startOf, countOf, isList, operandChecks, setChecks, Accepted, Flat};
 use super::Answer;
 use super::Form;
 use super::Summary;
@@ -83,6 +83,22 @@ pub fn length_of(form: Form) -> u64
             claimed: _,
         } => length,
         Form::List { length } => length,
+    }
+}
+
+// The bit of the lent words that has row 0.
+pub fn start_of(form: Form) -> u64
+    ensures { λ r. ⌜ r ≡ startOf form ⌝ }
+{
+    match form {
+        Form::All { length: _ } => 0,
+        Form::None { length: _ } => 0,
+        Form::Words {
+            start,
+            length: _,
+            claimed: _,
+        } => start,
+        Form::List { length: _ } => 0,
     }
 }
 

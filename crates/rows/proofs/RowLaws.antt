@@ -4,9 +4,9 @@ use Prim.Native.Nat.{ℕ, zero, suc, _+_, _≤_}
 use mathlib.Core.Path.{_≡_, refl, ap}
 use mathlib.Core.Bool.{Bool, true, false, _&&_}
 use mathlib.Core.List.{List, [], _∷_, _++_}
-use native.Mathlib.Nat.{suc-inj}
+use native.Mathlib.Nat.{suc-inj, le-of-suc-le-suc}
 use native.Mathlib.Omega.{arith}
-use lib.ListN.{length, getD}
+use lib.ListN.{length, take, getD, replicate}
 use Rattle.rows.specs.Rows.{count, rankAt, compose}
 
 -- 1. length, rows, count
@@ -52,3 +52,40 @@ pub count-le-length : (s : List Bool) → count s ≤ length s
 count-le-length [] = omega arith
 count-le-length (false ∷ s) = omega (arith, count-le-length s)
 count-le-length (true ∷ s) = omega (arith, count-le-length s)
+
+-- 3. a mask that is full, or empty
+
+pub compose-full : (s r : List Bool) → count s ≡ length s → length r ≡ count s → compose s r ≡ r
+compose-full [] [] f e = refl
+compose-full [] (x ∷ r) f e = absurd (omega arith)
+compose-full (false ∷ s) r f e = absurd (omega (arith, count-le-length s))
+compose-full (true ∷ s) [] f e = absurd (omega arith)
+compose-full (true ∷ s) (x ∷ r) f e = ap (λ (l : List Bool). x ∷ l) (compose-full s r (suc-inj f) (suc-inj e))
+
+pub compose-by-full : (s r : List Bool) → count r ≡ length r → length r ≡ count s → compose s r ≡ s
+compose-by-full [] r f e = refl
+compose-by-full (false ∷ s) r f e = ap (λ (l : List Bool). false ∷ l) (compose-by-full s r f e)
+compose-by-full (true ∷ s) [] f e = absurd (omega arith)
+compose-by-full (true ∷ s) (false ∷ r) f e = absurd (omega (arith, count-le-length r))
+compose-by-full (true ∷ s) (true ∷ r) f e = ap (λ (l : List Bool). true ∷ l) (compose-by-full s r (suc-inj f) (suc-inj e))
+
+pub compose-empty : (s r : List Bool) → count s ≡ 0 → compose s r ≡ replicate (length s) false
+compose-empty [] r e = refl
+compose-empty (false ∷ s) r e = ap (λ (l : List Bool). false ∷ l) (compose-empty s r e)
+compose-empty (true ∷ s) r e = absurd (omega arith)
+
+pub compose-by-empty : (s r : List Bool) → count r ≡ 0 → compose s r ≡ replicate (length s) false
+compose-by-empty [] r e = refl
+compose-by-empty (false ∷ s) r e = ap (λ (l : List Bool). false ∷ l) (compose-by-empty s r e)
+compose-by-empty (true ∷ s) [] e = ap (λ (l : List Bool). false ∷ l) (compose-by-empty s [] e)
+compose-by-empty (true ∷ s) (false ∷ r) e = ap (λ (l : List Bool). false ∷ l) (compose-by-empty s r e)
+compose-by-empty (true ∷ s) (true ∷ r) e = absurd (omega arith)
+
+-- 4. ranks past self's count are not asked for
+
+pub compose-cut : (s r : List Bool) (n : ℕ) → count s ≤ n → compose s (take n r) ≡ compose s r
+compose-cut [] r n h = refl
+compose-cut (false ∷ s) r n h = ap (λ (l : List Bool). false ∷ l) (compose-cut s r n h)
+compose-cut (true ∷ s) r zero h = absurd (omega arith)
+compose-cut (true ∷ s) [] (suc n) h = refl
+compose-cut (true ∷ s) (x ∷ r) (suc n) h = ap (λ (l : List Bool). x ∷ l) (compose-cut s r n (le-of-suc-le-suc h))
