@@ -1,4 +1,5 @@
 pub mod DepositLaws
-pub mod GatherLaws
 pub mod DrivenLaws
+pub mod FitsLaws
+pub mod GatherLaws
 pub mod ListLaws
