@@ -1,7 +1,7 @@
 -- Demands 1 and 2 for the set operations, as statements that can be held against document 01: which refusal exactly when, that a
 -- refusal changes nothing, and what an accepted operation writes, row by row. One law for every operation of two operands, by the laws of tables.
 -- Assumes nothing.
-use Prim.Native.Nat.{ℕ, zero, suc, _*_, _≤_, _<_}
+use Prim.Native.Nat.{ℕ, zero, suc, _≤_, _<_}
 use native.Mathlib.Nat.{le-of-suc-le-suc}
 use mathlib.Core.Path.{_≡_, refl, sym, ap, _∙_}
 use mathlib.Core.Logic.{_↔_, _≢_, _⊎_, inl, inr}
@@ -10,23 +10,17 @@ use mathlib.Core.List.{List, [], _∷_, _++_, map}
 use native.Mathlib.Decide.{ℕ-discrete, decLe}
 use native.Mathlib.Omega.{arith}
 use lib.Dec.{T}
-use lib.ListN.{length, take, drop, getD, length-map}
-use lib.Seq.{getD-take}
+use lib.ListN.{length, getD, length-map}
 use Rattle.rows.specs.declared.Refusal.{Refusal}
-use Rattle.rows.specs.declared.Verdict.{Verdict}
 use Rattle.rows.specs.declared.Verdict.the-variants.{Fine, Refused}
-use Rattle.rows.specs.Rows.{count}
 use Rattle.rows.specs.Word.{both}
-use Rattle.rows.specs.Words.{bitsOfAll}
-use Rattle.rows.specs.Laid.{wordsFor, written}
-use Rattle.rows.specs.Table.{Line, First, Met, Numbered, first, inOrder, need, refusal, noRefusal, ifFine}
+use Rattle.rows.specs.Laid.{wordsFor}
+use Rattle.rows.specs.Table.{Line, First, Met, Numbered, first, inOrder, need, refusal}
 use Rattle.rows.proofs.TableLaws.{told-exactly, accepts-exactly}
-use Rattle.rows.proofs.WrittenLaws.{written-rows, written-tail, written-later}
-use Rattle.mask.specs.declared.Answer.{Answer}
 use Rattle.mask.specs.declared.Form.{Form}
 use Rattle.mask.specs.Operand.{rowsOf, lengthOf, isList, setChecks}
-use Rattle.mask.specs.Answer.{answered, densityOf}
 use Rattle.mask.proofs.OperandLaws.{accepted-length}
+use Rattle.mask.proofs.Writes.{row, Writes, bitAt, writes}
 use Rattle.mask.proofs.Theorems.{Wrong, Bare, operand-refuses, operand-numbered, first-parts, first-left, first-right, numbered-append, answered-told, nothing-done, never, number, names, same}
 use Rattle.bitops.specs.SetOps.{andNot, pairChecks, notChecks, combined, combinedOut, negated, negatedOut}
 use Rattle.bitops.proofs.BothLaws.{both-length, both-at}
@@ -55,39 +49,7 @@ set-refuses k j n f ws es = (to, λ w. from (w .0) (w .1))
 set-numbered : (k : ℕ) (f : Form) (ws es : List ℕ) → Numbered (setChecks k f ws es)
 set-numbered k f ws es = (omega arith, operand-numbered k f ws es)
 
--- ---- demand 2: accepted, with n rows that are as said, their own count and density, route 0; the last word's tail 0, later words as before
-
-abbrev pub bitAt : List ℕ → ℕ → Bool
-bitAt ws i = getD (bitsOfAll 64 ws) i false
-
-pub record Writes (n : ℕ) (row : ℕ → Bool) (answer : Answer) (left out : List ℕ) : Type 0 where
-  pub accepted : answer .refusal ≡ noRefusal
-  pub rows : (i : ℕ) → i < n → bitAt left i ≡ row i
-  pub counted : answer .summary .count ≡ count (take n (bitsOfAll 64 left))
-  pub route : answer .summary .route ≡ 0
-  pub dense : answer .summary .density ≡ densityOf (answer .summary .count) n
-  pub tail : (i : ℕ) → n ≤ i → i < wordsFor n * 64 → bitAt left i ≡ false
-  pub later : drop (wordsFor n) left ≡ drop (wordsFor n) out
-
-writes : (v : Verdict) → v ≡ Fine → (n : ℕ) (rows : List Bool) (out : List ℕ) → length rows ≡ n → (row : ℕ → Bool) → ((i : ℕ) → i < n → getD rows i false ≡ row i)
-    → Writes n row (answered v rows 0) (ifFine v (written n rows out) out) out
-writes v e n rows out long row law =
-    rw e
-    (record {
-      accepted = refl;
-      rows = λ i h. sym (getD-take n (bitsOfAll 64 (written n rows out)) i false h) ∙ ap (λ (l : List Bool). getD l i false) (written-rows n rows out long) ∙ law i h;
-      counted = ap count (sym (written-rows n rows out long));
-      route = refl;
-      dense = ap (densityOf (count rows)) long;
-      tail = written-tail n rows out long;
-      later = written-later n rows out long;
-    })
-
--- row i of an operand
-abbrev pub row : Form → List ℕ → List ℕ → ℕ → Bool
-row f ws es i = getD (rowsOf f ws es) i false
-
--- ---- the operations on a row
+-- ---- demand 2: the operations on a row; route 0 is told
 
 unset {ℓ} : {X : Type ℓ} → false ≡ true → X
 unset e = absurd (let z : _≡_ {A = ℕ} 0 1 = cc in omega arith)
@@ -188,12 +150,12 @@ module _ (a : Form) (aws aes : List ℕ) (b : Form) (bws bes : List ℕ) where
     combined-refused = nothing-done (first (pairChecks a aws aes b bws bes (length out))) _ 0 _ out
 
     -- g is what the operation does to a row of each
-    pub combined-writes : Accepts (length out) → Writes (lengthOf a) (λ i. g (row a aws aes i) (row b bws bes i)) (combined g a aws aes b bws bes out) (combinedOut g a aws aes b bws bes out) out
+    pub combined-writes : Accepts (length out) → Writes (lengthOf a) (λ i. g (row a aws aes i) (row b bws bes i)) 0 (combined g a aws aes b bws bes out) (combinedOut g a aws aes b bws bes out) out
     unfolding combined combinedOut
     combined-writes t =
         let la = accepted-length a aws aes (t .0 .1) in
         let even : length (rowsOf a aws aes) ≡ length (rowsOf b bws bes) = la ∙ t .2 ∙ sym (accepted-length b bws bes (t .1 .1)) in
-        writes (first (pairChecks a aws aes b bws bes (length out))) (pair-fine a aws aes b bws bes (length out) .1 t) (lengthOf a) (both g (rowsOf a aws aes) (rowsOf b bws bes)) out
+        writes (first (pairChecks a aws aes b bws bes (length out))) (pair-fine a aws aes b bws bes (length out) .1 t) (lengthOf a) (both g (rowsOf a aws aes) (rowsOf b bws bes)) 0 out
         (both-length g (rowsOf a aws aes) (rowsOf b bws bes) even ∙ la) _ (λ i h. both-at g (rowsOf a aws aes) (rowsOf b bws bes) even i (omega arith))
 
 -- ---- not: the one operand's number, then 8
@@ -246,11 +208,11 @@ module _ (a : Form) (aws aes : List ℕ) where
     unfolding negated negatedOut
     not-refused = nothing-done (first (notChecks a aws aes (length out))) _ 0 _ out
 
-    pub not-writes : NotAccepts (length out) → Writes (lengthOf a) (λ i. not (row a aws aes i)) (negated a aws aes out) (negatedOut a aws aes out) out
+    pub not-writes : NotAccepts (length out) → Writes (lengthOf a) (λ i. not (row a aws aes i)) 0 (negated a aws aes out) (negatedOut a aws aes out) out
     unfolding negated negatedOut
     not-writes t =
         let la = accepted-length a aws aes (t .0 .1) in
-        writes (first (notChecks a aws aes (length out))) (one-fine a aws aes (length out) .1 t) (lengthOf a) (map not (rowsOf a aws aes)) out
+        writes (first (notChecks a aws aes (length out))) (one-fine a aws aes (length out) .1 t) (lengthOf a) (map not (rowsOf a aws aes)) 0 out
         (length-map (rowsOf a aws aes) not ∙ la) _ (λ i h. not-at (rowsOf a aws aes) i (omega arith))
 
 -- ---- in document 01's words: row i is in both, in either, in the first only, not in the one operand

@@ -6,3 +6,4 @@ pub mod ConvertLaws
 pub mod Theorems
 pub mod RoundTrips
 pub mod Examples
+pub mod Writes

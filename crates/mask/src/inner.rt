@@ -4,14 +4,14 @@ ghost use mathlib.Core.Path.{_≡_};
 ghost use mathlib.Core.Bool.{not};
 ghost use mathlib.Core.List.{[], _∷_, _++_};
 ghost use Prim.Native.Nat.{_+_, _*_, _^_, _≤_, _<_};
-ghost use native.Mathlib.Decide.{decLe};
+ghost use native.Mathlib.Decide.{ℕ-discrete, decLe};
 ghost use lib.ListN.{length, take, drop};
 ghost use denote.Ref.{now};
 ghost use Rattle.rows.specs.Word.{wordOf};
 ghost use Rattle.rows.specs.Laid.{wordsFor, written, laid};
-ghost use Rattle.rows.specs.Table.{first, need, noRefusal};
+ghost use Rattle.rows.specs.Table.{first, need, ifFine, noRefusal};
 ghost use Rattle.mask.specs.Answer.{densityOf, noDensity};
-ghost use Rattle.mask.specs.Operand.{rowsOf, lengthOf, startOf, countOf, isList, operandChecks, setChecks, Accepted, Flat};
+ghost use Rattle.mask.specs.Operand.{rowsOf, lengthOf, startOf, countOf, empty, full, isList, operandChecks, setChecks, Accepted, Flat};
 use super::Answer;
 use super::Form;
 use super::Summary;
@@ -71,6 +71,26 @@ pub fn has_room(needed: u64, room: u64) -> Verdict
     Verdict::Fine
 }
 
+// Two numbers that an operation's table has equal: 7 where they differ.
+pub fn equal(a: u64, b: u64) -> Verdict
+    ensures { λ r. ⌜ r ≡ first (need (ℕ-discrete a b) 7 0 ∷ []) ⌝ }
+{
+    if a != b {
+        return refuse(7, 0);
+    }
+    Verdict::Fine
+}
+
+// The earlier verdict where it refuses, and else the later.
+pub fn then(earlier: Verdict, later: Verdict) -> Verdict
+    ensures { λ r. ⌜ r ≡ ifFine earlier later earlier ⌝ }
+{
+    match earlier {
+        Verdict::Refused(refusal) => Verdict::Refused(refusal),
+        Verdict::Fine => later,
+    }
+}
+
 pub fn length_of(form: Form) -> u64
     ensures { λ r. ⌜ r ≡ lengthOf form ⌝ }
 {
@@ -116,6 +136,24 @@ pub fn count_of(form: Form, rows: &[u32]) -> u64
         } => claimed,
         Form::List { length: _ } => rows.len() as u64,
     }
+}
+
+// Its count is 0.
+pub fn is_empty(form: Form, rows: &[u32]) -> bool
+    ensures { λ r. ⌜ r ≡ empty form (now (rows .entry)) ⌝ }
+{
+    count_of(form, rows) == 0
+}
+
+// Its length is above 0, and its count equals it.
+pub fn is_full(form: Form, rows: &[u32]) -> bool
+    ensures { λ r. ⌜ r ≡ full form (now (rows .entry)) ⌝ }
+{
+    let length = length_of(form);
+    if length == 0 {
+        return false;
+    }
+    count_of(form, rows) == length
 }
 
 pub fn is_list(form: Form) -> bool

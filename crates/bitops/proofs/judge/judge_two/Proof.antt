@@ -18,8 +18,8 @@ length-of-requires c κs = search needs
 length-of-requires-2 : tie.Need-length-of-requires-2
 length-of-requires-2 c κs = search needs
 
-same-length-requires : tie.Need-same-length-requires
-same-length-requires c κs = search needs
+equal-requires : tie.Need-equal-requires
+equal-requires c κs = search needs
 
 length-of-requires-3 : tie.Need-length-of-requires-3
 length-of-requires-3 c κs = search needs
@@ -42,7 +42,7 @@ then-requires-3 c κs = search needs
 returns : tie.Need-returns
 returns c =
     c .then3 .ensures
-    ∙ rw (c .before .then2 .ensures, c .before .before .then .ensures, c .before .before .before .has-room .ensures, c .before .before .before .before .words-for .ensures, c .before .before .before .before .before .length-of3 .ensures, c .before .before .before .before .before .before .same-length .ensures, c .before .before .before .before .before .before .before .length-of2 .ensures, c .before .before .before .before .before .before .before .before .length-of .ensures, c .before .before .before .before .before .before .before .before .before .check-set2 .ensures, c .before .before .before .before .before .before .before .before .before .before .check-set .ensures, parts-first, parts-first, parts-first, parts-last)
+    ∙ rw (c .before .then2 .ensures, c .before .before .then .ensures, c .before .before .before .has-room .ensures, c .before .before .before .before .words-for .ensures, c .before .before .before .before .before .length-of3 .ensures, c .before .before .before .before .before .before .equal .ensures, c .before .before .before .before .before .before .before .length-of2 .ensures, c .before .before .before .before .before .before .before .before .length-of .ensures, c .before .before .before .before .before .before .before .before .before .check-set2 .ensures, c .before .before .before .before .before .before .before .before .before .before .check-set .ensures, parts-first, parts-first, parts-first, parts-last)
 
 pub judge-two-spec : {M : Type 1} → statement M
 judge-two-spec =
@@ -52,7 +52,7 @@ judge-two-spec =
     check-set-requires-2
     length-of-requires
     length-of-requires-2
-    same-length-requires
+    equal-requires
     length-of-requires-3
     words-for-requires
     has-room-requires

@@ -1,11 +1,11 @@
--- `bitops::judge::then` meets its contract: the earlier verdict is handed up whole where it refuses.
+-- `mask::inner::then` meets its contract: the earlier verdict is handed up whole where it refuses.
 -- By its two cases. Assumes nothing.
 use mathlib.Core.Path.{sym, ap}
 use Rattle.rows.specs.declared.Verdict.{Verdict}
 use Rattle.rows.specs.Table.{ifFine}
 use borrow.Author.Needs.{needs}
-use Rattle.bitops.proofs.judge.then.Statement.{statement}
-use Rattle.bitops.proofs.judge.then.Tie as tie
+use Rattle.mask.proofs.inner.then.Statement.{statement}
+use Rattle.mask.proofs.inner.then.Tie as tie
 
 enum-known-earlier : tie.Need-enum-known-earlier
 enum-known-earlier c = search needs
