@@ -3,3 +3,4 @@ pub mod DrivenLaws
 pub mod FitsLaws
 pub mod GatherLaws
 pub mod ListLaws
+pub mod RouteLaws

@@ -2,6 +2,7 @@
 mod deposit;
 mod driven;
 pub mod inner;
+mod judge;
 mod lay;
 mod lists;
 mod route;

@@ -1,7 +1,6 @@
 // What the operations call of an operand: its check, its length and count, its rows a chunk at a time, its rows laid over
 // lent words; and the one way to make an answer.
 ghost use mathlib.Core.Path.{_≡_};
-ghost use mathlib.Core.Bool.{not};
 ghost use mathlib.Core.List.{[], _∷_, _++_};
 ghost use Prim.Native.Nat.{_+_, _*_, _^_, _≤_, _<_};
 ghost use native.Mathlib.Decide.{ℕ-discrete, decLe};

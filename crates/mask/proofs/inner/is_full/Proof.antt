@@ -1,6 +1,5 @@
 -- `mask::inner::is_full` meets its contract: the first return is the definition's first test, the second its second.
 -- By what `length_of` and `count_of` ensure. Assumes nothing.
-use Prim.Native.Nat.{ℕ}
 use mathlib.Core.Path.{_≡_, sym, ap, ap₂, _∙_}
 use mathlib.Core.Bool.{Bool, _&&_}
 use native.Mathlib.Omega.{arith}
