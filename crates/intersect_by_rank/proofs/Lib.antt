@@ -4,3 +4,4 @@ pub mod FitsLaws
 pub mod GatherLaws
 pub mod ListLaws
 pub mod RouteLaws
+pub mod ComposeLaws
