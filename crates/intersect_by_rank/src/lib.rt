@@ -1,4 +1,14 @@
-// Composition by rank: a rank mask laid back onto the rows of self.
+// Composition by rank: a rank mask laid back onto the rows of self. Document 01, parts 6 and 7.
+ghost use mathlib.Core.Path.{_≡_};
+ghost use denote.Ref.{now};
+ghost use Rattle.intersect_by_rank.specs.Route.{published};
+ghost use Rattle.intersect_by_rank.specs.Compose.{composed, composedOut};
+use compose::compose_with;
+use mask::Answer;
+use mask::Form;
+use route::Factors;
+
+mod compose;
 mod deposit;
 mod driven;
 pub mod inner;
@@ -6,3 +16,23 @@ mod judge;
 mod lay;
 mod lists;
 mod route;
+
+// The rows of self whose ranks the rank mask sets, as words. s is self and r the rank mask, each with what is lent beside it.
+pub fn intersect_by_rank(
+    s: Form,
+    swords: &[u64],
+    srows: &[u32],
+    r: Form,
+    rwords: &[u64],
+    rrows: &[u32],
+    out: &mut [u64],
+) -> Answer
+    ensures { λ a. ⌜ (a ≡ composed published s (now (swords .entry)) (now (srows .entry)) r (now (rwords .entry)) (now (rrows .entry)) (now (out .entry)))
+        × (now (out .exit) ≡ composedOut s (now (swords .entry)) (now (srows .entry)) r (now (rwords .entry)) (now (rrows .entry)) (now (out .entry))) ⌝ }
+{
+    let factors = Factors {
+        sparse: 16,
+        driven: 32,
+    };
+    compose_with(factors, s, swords, srows, r, rwords, rrows, out)
+}
