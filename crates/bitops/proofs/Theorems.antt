@@ -20,8 +20,8 @@ use Rattle.rows.proofs.TableLaws.{told-exactly, accepts-exactly}
 use Rattle.mask.specs.declared.Form.{Form}
 use Rattle.mask.specs.Operand.{rowsOf, lengthOf, isList, setChecks}
 use Rattle.mask.proofs.OperandLaws.{accepted-length}
-use Rattle.mask.proofs.Writes.{row, Writes, bitAt, writes}
-use Rattle.mask.proofs.Theorems.{Wrong, Bare, operand-refuses, operand-numbered, first-parts, first-left, first-right, numbered-append, answered-told, nothing-done, never, number, names, same}
+use Rattle.mask.proofs.Writes.{bitAt, row, Writes, writes, unset, in-both}
+use Rattle.mask.proofs.Theorems.{Wrong, Bare, operand-refuses, operand-numbered, first-parts, first-left, first-right, InParts, refuses-parts, numbered-append, answered-told, nothing-done, never, number, names, same}
 use Rattle.bitops.specs.SetOps.{andNot, pairChecks, notChecks, combined, combinedOut, negated, negatedOut}
 use Rattle.bitops.proofs.BothLaws.{both-length, both-at}
 use Rattle.bitops.proofs.SetLaws.{Taken, taken-as, no-list, pair-met, pair-fine, one-met, one-fine}
@@ -50,13 +50,6 @@ set-numbered : (k : ℕ) (f : Form) (ws es : List ℕ) → Numbered (setChecks k
 set-numbered k f ws es = (omega arith, operand-numbered k f ws es)
 
 -- ---- demand 2: the operations on a row; route 0 is told
-
-unset {ℓ} : {X : Type ℓ} → false ≡ true → X
-unset e = absurd (let z : _≡_ {A = ℕ} 0 1 = cc in omega arith)
-
-in-both : (x y : Bool) → ((x && y) ≡ true) ↔ ((x ≡ true) × (y ≡ true))
-in-both true y = (λ e. (refl, e), λ p. p .1)
-in-both false y = (λ e. unset e, λ p. p .0)
 
 in-either : (x y : Bool) → ((x || y) ≡ true) ↔ ((x ≡ true) ⊎ (y ≡ true))
 in-either true y = (λ e. inl refl, λ p. refl)
@@ -97,29 +90,22 @@ module _ (a : Form) (aws aes : List ℕ) (b : Form) (bws bes : List ℕ) where
 
   pair-refuses : (room n k : ℕ) → First (pairChecks a aws aes b bws bes room) (Refused (refusal n k)) ↔ Refuses room n k
   unfolding inOrder
-  pair-refuses room n k = (λ h. to (first-parts (setChecks 1 a aws aes) (setChecks 2 b bws bes ++ lengths room) (Refused (refusal n k)) h), from)
+  pair-refuses room n k =
+      let parts = refuses-parts (setChecks 1 a aws aes) (setChecks 2 b bws bes) (lengths room) (refusal n k) in
+      (λ h. to (parts .0 h), λ w. parts .1 (from w))
     where
-      later : Taken a aws aes → (Met (setChecks 2 b bws bes) × First (lengths room) (Refused (refusal n k))) ⊎ (First (setChecks 2 b bws bes) (Refused (refusal n k)) × (Refused (refusal n k) ≢ Fine)) → Refuses room n k
-      later t (inr h) = let w = set-refuses 2 k n b bws bes .0 (h .0) in inr (inl (w .0, t, w .1))
-      later t (inl (m, inr (x, e))) = inr (inr (inl (number e, names e, t, taken-as 2 b bws bes .0 m, x)))
-      later t (inl (m, inl (x, inr (y, e)))) = inr (inr (inr (number e, names e, t, taken-as 2 b bws bes .0 m, x, omega (arith, y))))
-      later t (inl (m, inl (x, inl (y, e)))) = never e
+      to : InParts (setChecks 1 a aws aes) (setChecks 2 b bws bes) (lengths room) (refusal n k) → Refuses room n k
+      to (inl h) = inl (set-refuses 1 k n a aws aes .0 h)
+      to (inr (inl (m, h))) = let w = set-refuses 2 k n b bws bes .0 h in inr (inl (w .0, taken-as 1 a aws aes .0 m, w .1))
+      to (inr (inr (m, o, inr (x, e)))) = inr (inr (inl (number e, names e, taken-as 1 a aws aes .0 m, taken-as 2 b bws bes .0 o, x)))
+      to (inr (inr (m, o, inl (x, inr (y, e))))) = inr (inr (inr (number e, names e, taken-as 1 a aws aes .0 m, taken-as 2 b bws bes .0 o, x, omega (arith, y))))
+      to (inr (inr (m, o, inl (x, inl (y, e))))) = never e
 
-      to : (Met (setChecks 1 a aws aes) × First (setChecks 2 b bws bes ++ lengths room) (Refused (refusal n k))) ⊎ (First (setChecks 1 a aws aes) (Refused (refusal n k)) × (Refused (refusal n k) ≢ Fine)) → Refuses room n k
-      to (inr h) = inl (set-refuses 1 k n a aws aes .0 (h .0))
-      to (inl (m, h)) = later (taken-as 1 a aws aes .0 m) (first-parts (setChecks 2 b bws bes) (lengths room) (Refused (refusal n k)) h)
-
-      past : Taken a aws aes → First (setChecks 2 b bws bes ++ lengths room) (Refused (refusal n k)) → First (pairChecks a aws aes b bws bes room) (Refused (refusal n k))
-      past t h = first-right (setChecks 1 a aws aes) (setChecks 2 b bws bes ++ lengths room) (Refused (refusal n k)) (taken-as 1 a aws aes .1 t) h
-
-      both-past : Taken a aws aes → Taken b bws bes → First (lengths room) (Refused (refusal n k)) → First (pairChecks a aws aes b bws bes room) (Refused (refusal n k))
-      both-past t u h = past t (first-right (setChecks 2 b bws bes) (lengths room) (Refused (refusal n k)) (taken-as 2 b bws bes .1 u) h)
-
-      from : Refuses room n k → First (pairChecks a aws aes b bws bes room) (Refused (refusal n k))
-      from (inl w) = first-left (setChecks 1 a aws aes) (setChecks 2 b bws bes ++ lengths room) (refusal n k) (set-refuses 1 k n a aws aes .1 w)
-      from (inr (inl (q, t, w))) = past t (first-left (setChecks 2 b bws bes) (lengths room) (refusal n k) (set-refuses 2 k n b bws bes .1 (q, w)))
-      from (inr (inr (inl (e, q, t, u, x)))) = both-past t u (inr (x, same e q))
-      from (inr (inr (inr (e, q, t, u, x, y)))) = both-past t u (inl (x, inr (λ h. omega arith, same e q)))
+      from : Refuses room n k → InParts (setChecks 1 a aws aes) (setChecks 2 b bws bes) (lengths room) (refusal n k)
+      from (inl w) = inl (set-refuses 1 k n a aws aes .1 w)
+      from (inr (inl (q, t, w))) = inr (inl (taken-as 1 a aws aes .1 t, set-refuses 2 k n b bws bes .1 (q, w)))
+      from (inr (inr (inl (e, q, t, u, x)))) = inr (inr (taken-as 1 a aws aes .1 t, taken-as 2 b bws bes .1 u, inr (x, same e q)))
+      from (inr (inr (inr (e, q, t, u, x, y)))) = inr (inr (taken-as 1 a aws aes .1 t, taken-as 2 b bws bes .1 u, inl (x, inr (λ h. omega arith, same e q))))
 
   pair-numbered : (room : ℕ) → Numbered (pairChecks a aws aes b bws bes room)
   unfolding inOrder

@@ -5,3 +5,4 @@ pub mod FitsLaws
 pub mod GatherLaws
 pub mod ListLaws
 pub mod RouteLaws
+pub mod Theorems

@@ -118,6 +118,26 @@ pub first-right : (ls ms : List Line) (v : Verdict) → Met ls → First ms v �
 first-right [] ms v m h = h
 first-right (l ∷ ls) ms v m h = inl (m .0, first-right ls ms v (m .1) h)
 
+-- a table in three parts: the refusal is the first part's, or the second's where the first has nothing to say, or else the third's
+abbrev pub InParts : List Line → List Line → List Line → Refusal → Type 0
+InParts ls ms ns r = First ls (Refused r) ⊎ (Met ls × First ms (Refused r)) ⊎ (Met ls × Met ms × First ns (Refused r))
+
+pub refuses-parts : (ls ms ns : List Line) (r : Refusal) → First (ls ++ (ms ++ ns)) (Refused r) ↔ InParts ls ms ns r
+refuses-parts ls ms ns r = (λ h. to (first-parts ls (ms ++ ns) (Refused r) h), from)
+  where
+    later : Met ls → (Met ms × First ns (Refused r)) ⊎ (First ms (Refused r) × (Refused r ≢ Fine)) → InParts ls ms ns r
+    later m (inl p) = inr (inr (m, p .0, p .1))
+    later m (inr p) = inr (inl (m, p .0))
+
+    to : (Met ls × First (ms ++ ns) (Refused r)) ⊎ (First ls (Refused r) × (Refused r ≢ Fine)) → InParts ls ms ns r
+    to (inl p) = later (p .0) (first-parts ms ns (Refused r) (p .1))
+    to (inr p) = inl (p .0)
+
+    from : InParts ls ms ns r → First (ls ++ (ms ++ ns)) (Refused r)
+    from (inl h) = first-left ls (ms ++ ns) r h
+    from (inr (inl (m, h))) = first-right ls (ms ++ ns) (Refused r) m (first-left ms ns r h)
+    from (inr (inr (m, o, h))) = first-right ls (ms ++ ns) (Refused r) m (first-right ms ns (Refused r) o h)
+
 pub numbered-append : (ls ms : List Line) → Numbered ls → Numbered ms → Numbered (ls ++ ms)
 numbered-append [] ms a b = b
 numbered-append (l ∷ ls) ms a b = (a .0, numbered-append ls ms (a .1) b)

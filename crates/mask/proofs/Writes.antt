@@ -2,8 +2,10 @@
 -- bit by bit, the last word's tail 0, later words as before. By the laws of whole words.
 -- Assumes nothing.
 use Prim.Native.Nat.{ℕ, _*_, _≤_, _<_}
+use native.Mathlib.Omega.{arith}
 use mathlib.Core.Path.{_≡_, refl, sym, ap, _∙_}
-use mathlib.Core.Bool.{Bool, false}
+use mathlib.Core.Logic.{_↔_}
+use mathlib.Core.Bool.{Bool, true, false, _&&_}
 use mathlib.Core.List.{List}
 use lib.ListN.{length, take, drop, getD}
 use lib.Seq.{getD-take}
@@ -49,3 +51,12 @@ writes v e n rows by out long rowAt law =
       tail = written-tail n rows out long;
       later = written-later n rows out long;
     })
+
+-- ---- what is said of a row by a Bool, as a proposition
+
+pub unset {ℓ} : {X : Type ℓ} → false ≡ true → X
+unset e = absurd (let z : _≡_ {A = ℕ} 0 1 = cc in omega arith)
+
+pub in-both : (x y : Bool) → ((x && y) ≡ true) ↔ ((x ≡ true) × (y ≡ true))
+in-both true y = (λ e. (refl, e), λ p. p .1)
+in-both false y = (λ e. unset e, λ p. p .0)

@@ -1,0 +1,113 @@
+-- Demands 1 and 2 for composition, as statements that can be held against document 01: which refusal exactly when, that a refusal
+-- changes nothing, and what an accepted composition writes, row by row, counts and tells. By the laws of tables and of `compose`.
+-- Assumes nothing.
+use Prim.Native.Nat.{ℕ, zero, _≤_, _<_}
+use mathlib.Core.Path.{_≡_, sym, ap, _∙_}
+use mathlib.Core.Logic.{_↔_, _≢_, _⊎_, inl, inr}
+use mathlib.Core.Bool.{true, _&&_}
+use mathlib.Core.List.{List, [], _∷_, _++_}
+use native.Mathlib.Decide.{ℕ-discrete, decLe}
+use native.Mathlib.Omega.{arith}
+use lib.ListN.{length}
+use Rattle.rows.specs.declared.Refusal.{Refusal}
+use Rattle.rows.specs.declared.Verdict.the-variants.{Refused}
+use Rattle.rows.specs.Rows.{rankAt}
+use Rattle.rows.specs.Laid.{wordsFor}
+use Rattle.rows.specs.Table.{Line, First, Numbered, first, inOrder, need, refusal}
+use Rattle.rows.proofs.TableLaws.{told-exactly, accepts-exactly}
+use Rattle.rows.proofs.RowLaws.{compose-row}
+use Rattle.mask.specs.declared.Answer.{Answer}
+use Rattle.mask.specs.declared.Form.{Form}
+use Rattle.mask.specs.Operand.{rowsOf, lengthOf, countOf, operandChecks, Accepted}
+use Rattle.mask.proofs.OperandLaws.{accepted-as}
+use Rattle.mask.proofs.Writes.{bitAt, row, Writes, writes, in-both}
+use Rattle.mask.proofs.Theorems.{Wrong, Bare, operand-refuses, operand-numbered, InParts, refuses-parts, numbered-append, answered-told, nothing-done, never, number, names, same}
+use Rattle.intersect_by_rank.specs.declared.route.Factors.{Factors}
+use Rattle.intersect_by_rank.specs.Route.{routeOf, numberOf, published}
+use Rattle.intersect_by_rank.specs.Compose.{Paired, composeChecks, result, composed, composedOut}
+use Rattle.intersect_by_rank.proofs.ComposeLaws.{compose-met, compose-fine, compose-accepted, result-length, result-count}
+
+module _ (s : Form) (sws ses : List ℕ) (r : Form) (rws res : List ℕ) where
+  -- ---- demand 1: self's number, then the rank mask's, then 7, then 8
+
+  abbrev pub Refuses : ℕ → ℕ → ℕ → Type 0
+  Refuses room n j =
+      ((j ≡ 1) × Wrong s sws ses n)
+      ⊎ ((j ≡ 2) × Accepted s sws ses × Wrong r rws res n)
+      ⊎ ((n ≡ 7) × (j ≡ 0) × Accepted s sws ses × Accepted r rws res × (lengthOf r ≢ countOf s ses))
+      ⊎ ((n ≡ 8) × (j ≡ 0) × Paired s sws ses r rws res × (room < wordsFor (lengthOf s)))
+
+  abbrev pub Accepts : ℕ → Type 0
+  Accepts room = Paired s sws ses r rws res × (wordsFor (lengthOf s) ≤ room)
+
+  abbrev lengths : ℕ → List Line
+  lengths room = need (ℕ-discrete (lengthOf r) (countOf s ses)) 7 0 ∷ need (decLe (wordsFor (lengthOf s)) room) 8 0 ∷ []
+
+  table-refuses : (room n j : ℕ) → First (composeChecks s sws ses r rws res room) (Refused (refusal n j)) ↔ Refuses room n j
+  unfolding inOrder
+  table-refuses room n j =
+      let parts = refuses-parts (operandChecks 1 s sws ses) (operandChecks 2 r rws res) (lengths room) (refusal n j) in
+      (λ h. to (parts .0 h), λ w. parts .1 (from w))
+    where
+      to : InParts (operandChecks 1 s sws ses) (operandChecks 2 r rws res) (lengths room) (refusal n j) → Refuses room n j
+      to (inl h) = inl (operand-refuses 1 j n s sws ses .0 h)
+      to (inr (inl (m, h))) = let w = operand-refuses 2 j n r rws res .0 h in inr (inl (w .0, accepted-as 1 s sws ses .0 m, w .1))
+      to (inr (inr (m, o, inr (x, e)))) = inr (inr (inl (number e, names e, accepted-as 1 s sws ses .0 m, accepted-as 2 r rws res .0 o, x)))
+      to (inr (inr (m, o, inl (x, inr (y, e))))) =
+          inr (inr (inr (number e, names e, record { self = accepted-as 1 s sws ses .0 m; rank = accepted-as 2 r rws res .0 o; ranks = x }, omega (arith, y))))
+      to (inr (inr (m, o, inl (x, inl (y, e))))) = never e
+
+      from : Refuses room n j → InParts (operandChecks 1 s sws ses) (operandChecks 2 r rws res) (lengths room) (refusal n j)
+      from (inl w) = inl (operand-refuses 1 j n s sws ses .1 w)
+      from (inr (inl (q, t, w))) = inr (inl (accepted-as 1 s sws ses .1 t, operand-refuses 2 j n r rws res .1 (q, w)))
+      from (inr (inr (inl (e, q, t, u, x)))) = inr (inr (accepted-as 1 s sws ses .1 t, accepted-as 2 r rws res .1 u, inr (x, same e q)))
+      from (inr (inr (inr (e, q, p, y)))) = inr (inr (accepted-as 1 s sws ses .1 (p .self), accepted-as 2 r rws res .1 (p .rank), inl (p .ranks, inr (λ h. omega arith, same e q))))
+
+  table-numbered : (room : ℕ) → Numbered (composeChecks s sws ses r rws res room)
+  unfolding inOrder
+  table-numbered room =
+      numbered-append (operandChecks 1 s sws ses) (operandChecks 2 r rws res ++ lengths room) (operand-numbered 1 s sws ses)
+      (numbered-append (operandChecks 2 r rws res) (lengths room) (operand-numbered 2 r rws res) (omega arith, (omega arith, tt)))
+
+  module _ (k : Factors) (out : List ℕ) where
+    -- each number exactly when, and with it the operand
+    pub composed-refuses : (n j : ℕ) → zero < n → (composed k s sws ses r rws res out .refusal ≡ refusal n j) ↔ Refuses (length out) n j
+    unfolding composed
+    composed-refuses n j p =
+        let t = told-exactly (composeChecks s sws ses r rws res (length out)) (refusal n j) p in
+        let q = answered-told (first (composeChecks s sws ses r rws res (length out))) (result s sws ses r rws res) (numberOf (routeOf k s ses r res)) in
+        (λ e. table-refuses (length out) n j .0 (t .0 (sym q ∙ e)), λ w. q ∙ t .1 (table-refuses (length out) n j .1 w))
+
+    -- and number 0, accepted, exactly otherwise
+    pub composed-accepts : (composed k s sws ses r rws res out .refusal .number ≡ 0) ↔ Accepts (length out)
+    unfolding composed
+    composed-accepts =
+        let m = accepts-exactly (composeChecks s sws ses r rws res (length out)) (table-numbered (length out)) in
+        let q = ap (λ (x : Refusal). x .number) (answered-told (first (composeChecks s sws ses r rws res (length out))) (result s sws ses r rws res) (numberOf (routeOf k s ses r res))) in
+        (λ e. compose-met s sws ses r rws res (length out) .0 (m .0 (sym q ∙ e)), λ t. q ∙ m .1 (compose-met s sws ses r rws res (length out) .1 t))
+
+    -- a refusal changes nothing, and reports count 0, route 0 and density 0.0
+    pub composed-refused : composed k s sws ses r rws res out .refusal .number ≢ 0 → (composedOut s sws ses r rws res out ≡ out) × Bare (composed k s sws ses r rws res out)
+    unfolding composed composedOut
+    composed-refused = nothing-done (first (composeChecks s sws ses r rws res (length out))) _ _ _ out
+
+    -- ---- demand 2: row i of self and the rank mask's row at its rank; the route is the table's
+
+    pub composed-writes : Accepts (length out)
+        → Writes (lengthOf s) (λ i. row s sws ses i && row r rws res (rankAt (rowsOf s sws ses) i)) (numberOf (routeOf k s ses r res))
+        (composed k s sws ses r rws res out) (composedOut s sws ses r rws res out) out
+    unfolding composed composedOut
+    composed-writes t =
+        writes (first (composeChecks s sws ses r rws res (length out))) (compose-fine s sws ses r rws res (length out) .1 t) (lengthOf s) (result s sws ses r rws res) (numberOf (routeOf k s ses r res)) out
+        (result-length s sws ses r rws res (t .0)) _ (λ i h. compose-row (rowsOf s sws ses) (rowsOf r rws res) i)
+
+    -- the count told is the rank mask's
+    pub composed-count : Accepts (length out) → composed k s sws ses r rws res out .summary .count ≡ countOf r res
+    composed-count t =
+        let e = compose-accepted s sws ses r rws res k out (compose-fine s sws ses r rws res (length out) .1 t) .0 in
+        ap (λ (a : Answer). a .summary .count) (sym e) ∙ result-count s sws ses r rws res (t .0)
+
+  -- in document 01's words: row i is set exactly if self's row i is set and the rank mask's row at its rank is set
+  pub composed-row : (out : List ℕ) → Accepts (length out) → (i : ℕ) → i < lengthOf s
+      → (bitAt (composedOut s sws ses r rws res out) i ≡ true) ↔ ((row s sws ses i ≡ true) × (row r rws res (rankAt (rowsOf s sws ses) i) ≡ true))
+  composed-row out t i h = rw (composed-writes published out t .rows i h) (in-both (row s sws ses i) (row r rws res (rankAt (rowsOf s sws ses) i)))
