@@ -1,0 +1,57 @@
+-- Each entry point's contract admits one answer and one content of what is lent, refused inputs too: both are said to equal a function
+-- of the inputs.
+-- Assumes nothing.
+use mathlib.Core.Path.{sym, ap, _∙_, refl}
+use mathlib.Core.List.{List}
+use Prim.Native.Nat.{ℕ}
+use Rattle.claims.specs.OneAnswer.{OneAnswer}
+use Rattle.word.proofs.deposit.Kinds as deposit-kinds
+use Rattle.word.proofs.deposit.Reads as deposit
+use Rattle.word.proofs.select.Kinds as select-kinds
+use Rattle.word.proofs.select.Reads as select
+use Rattle.lent.proofs.rank_read.Kinds as rank-read-kinds
+use Rattle.lent.proofs.rank_read.Reads as rank-read
+use Rattle.mask.proofs.to_words.Kinds as to-words-kinds
+use Rattle.mask.proofs.to_words.Reads as to-words
+use Rattle.mask.proofs.to_list.Kinds as to-list-kinds
+use Rattle.mask.proofs.to_list.Reads as to-list
+use Rattle.bitops.proofs.and.Kinds as and-kinds
+use Rattle.bitops.proofs.and.Reads as and
+use Rattle.bitops.proofs.or.Kinds as or-kinds
+use Rattle.bitops.proofs.or.Reads as or
+use Rattle.bitops.proofs.and_not.Kinds as and-not-kinds
+use Rattle.bitops.proofs.and_not.Reads as and-not
+use Rattle.bitops.proofs.not.Kinds as not-kinds
+use Rattle.bitops.proofs.not.Reads as not-one
+use Rattle.intersect_by_rank.proofs.intersect_by_rank.Kinds as intersect-kinds
+use Rattle.intersect_by_rank.proofs.intersect_by_rank.Reads as intersect
+
+pub word-deposit-one : OneAnswer 0 deposit-kinds.ps deposit-kinds.r deposit.Pre deposit.Post
+word-deposit-one κs a p x y v w hv hw = (hv ∙ sym hw, refl)
+
+pub word-select-one : OneAnswer 0 select-kinds.ps select-kinds.r select.Pre select.Post
+word-select-one κs a p x y v w hv hw = (hv ∙ sym hw, refl)
+
+pub lent-rank-read-one : OneAnswer 1 rank-read-kinds.ps rank-read-kinds.r rank-read.Pre rank-read.Post
+lent-rank-read-one κs a p x y v w hv hw = (hv ∙ sym hw, refl)
+
+pub mask-to-words-one : OneAnswer 3 to-words-kinds.ps to-words-kinds.r to-words.Pre to-words.Post
+mask-to-words-one κs a p x y v w hv hw = (hv .0 ∙ sym (hw .0), ap (λ (l : List ℕ). (tt, (tt, (tt, (l, tt))))) (hv .1 ∙ sym (hw .1)))
+
+pub mask-to-list-one : OneAnswer 3 to-list-kinds.ps to-list-kinds.r to-list.Pre to-list.Post
+mask-to-list-one κs a p x y v w hv hw = (hv .0 ∙ sym (hw .0), ap (λ (l : List ℕ). (tt, (tt, (tt, (l, tt))))) (hv .1 ∙ sym (hw .1)))
+
+pub bitops-and-one : OneAnswer 5 and-kinds.ps and-kinds.r and.Pre and.Post
+bitops-and-one κs a p x y v w hv hw = (hv .0 ∙ sym (hw .0), ap (λ (l : List ℕ). (tt, (tt, (tt, (tt, (tt, (tt, (l, tt)))))))) (hv .1 ∙ sym (hw .1)))
+
+pub bitops-or-one : OneAnswer 5 or-kinds.ps or-kinds.r or.Pre or.Post
+bitops-or-one κs a p x y v w hv hw = (hv .0 ∙ sym (hw .0), ap (λ (l : List ℕ). (tt, (tt, (tt, (tt, (tt, (tt, (l, tt)))))))) (hv .1 ∙ sym (hw .1)))
+
+pub bitops-and-not-one : OneAnswer 5 and-not-kinds.ps and-not-kinds.r and-not.Pre and-not.Post
+bitops-and-not-one κs a p x y v w hv hw = (hv .0 ∙ sym (hw .0), ap (λ (l : List ℕ). (tt, (tt, (tt, (tt, (tt, (tt, (l, tt)))))))) (hv .1 ∙ sym (hw .1)))
+
+pub bitops-not-one : OneAnswer 3 not-kinds.ps not-kinds.r not-one.Pre not-one.Post
+bitops-not-one κs a p x y v w hv hw = (hv .0 ∙ sym (hw .0), ap (λ (l : List ℕ). (tt, (tt, (tt, (l, tt))))) (hv .1 ∙ sym (hw .1)))
+
+pub intersect-by-rank-intersect-by-rank-one : OneAnswer 5 intersect-kinds.ps intersect-kinds.r intersect.Pre intersect.Post
+intersect-by-rank-intersect-by-rank-one κs a p x y v w hv hw = (hv .0 ∙ sym (hw .0), ap (λ (l : List ℕ). (tt, (tt, (tt, (tt, (tt, (tt, (l, tt)))))))) (hv .1 ∙ sym (hw .1)))
