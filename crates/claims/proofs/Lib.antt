@@ -1,2 +1,3 @@
 pub mod Composition
 pub mod Once
+pub mod SetOperations

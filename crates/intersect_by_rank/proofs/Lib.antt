@@ -1,6 +1,7 @@
 pub mod ComposeLaws
 pub mod DepositLaws
 pub mod DrivenLaws
+pub mod Examples
 pub mod FitsLaws
 pub mod GatherLaws
 pub mod ListLaws

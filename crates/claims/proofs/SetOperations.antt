@@ -1,0 +1,74 @@
+-- Demand 1, and the rows, for the set operations, of whatever their contracts allow. One record for the operations on two operands, whatever
+-- they do to a row, and one for not. By the theorems about their definitions.
+-- Assumes nothing.
+use mathlib.Core.Path.{_≡_}
+use mathlib.Core.Logic.{_↔_, _≢_}
+use mathlib.Core.Bool.{Bool, not, _&&_, _||_}
+use mathlib.Core.List.{List}
+use Prim.Native.Nat.{ℕ, zero, _<_}
+use lib.ListN.{length}
+use contract.Lifetimes.{Lfts}
+use borrow.Fn.Kinds.{Dens, resT, endedOf}
+use denote.Ref.{now}
+use denote.Triple.Clauses.{Lasts, atExit}
+use Rattle.rows.specs.Table.{refusal}
+use Rattle.mask.specs.declared.Answer.{Answer}
+use Rattle.mask.specs.declared.Form.{Form}
+use Rattle.mask.specs.Operand.{lengthOf}
+use Rattle.mask.proofs.Theorems.{Bare}
+use Rattle.mask.proofs.Writes.{row, Writes}
+use Rattle.bitops.specs.SetOps.{andNot, combined, combinedOut, negated, negatedOut}
+use Rattle.bitops.proofs.Theorems.{Refuses, Accepts, NotRefuses, NotAccepts, combined-refuses, combined-accepts, combined-refused, combined-writes, not-refuses, not-accepts, not-refused, not-writes}
+use Rattle.bitops.proofs.and.Kinds as and-kinds
+use Rattle.bitops.proofs.and.Reads as and-reads
+use Rattle.bitops.proofs.or.Kinds as or-kinds
+use Rattle.bitops.proofs.or.Reads as or-reads
+use Rattle.bitops.proofs.and_not.Kinds as and-not-kinds
+use Rattle.bitops.proofs.and_not.Reads as and-not-reads
+use Rattle.bitops.proofs.not.Kinds as not-kinds
+use Rattle.bitops.proofs.not.Reads as not-reads
+
+-- ---- two operands, by g row by row
+
+pub record Demands (g : Bool → Bool → Bool) (a : Form) (aws aes : List ℕ) (b : Form) (bws bes : List ℕ) (out : List ℕ) (x : Answer) (after : List ℕ) : Type 0 where
+  -- each refusal number with its operand exactly when document 01 says, in its order
+  pub refuses-exactly : (n j : ℕ) → zero < n → (x .refusal ≡ refusal n j) ↔ Refuses a aws aes b bws bes (length out) n j
+  -- accepted exactly otherwise
+  pub accepts-exactly : (x .refusal .number ≡ 0) ↔ Accepts a aws aes b bws bes (length out)
+  -- a refusal changes no lent word, and reports count 0, route 0 and density 0.0
+  pub refused-changes-nothing : x .refusal .number ≢ 0 → (after ≡ out) × Bare x
+  -- accepted: the rows, their count, route 0, the density, the tail and the later words
+  pub accepted-writes : Accepts a aws aes b bws bes (length out) → Writes (lengthOf a) (λ i. g (row a aws aes i) (row b bws bes i)) 0 x after out
+
+demands : (g : Bool → Bool → Bool) (a : Form) (aws aes : List ℕ) (b : Form) (bws bes : List ℕ) (out : List ℕ) (x : Answer) (after : List ℕ)
+    → x ≡ combined g a aws aes b bws bes out → after ≡ combinedOut g a aws aes b bws bes out → Demands g a aws aes b bws bes out x after
+demands g a aws aes b bws bes out x after e f =
+    rw (e, f) (record { refuses-exactly = combined-refuses a aws aes b bws bes g out; accepts-exactly = combined-accepts a aws aes b bws bes g out; refused-changes-nothing = combined-refused a aws aes b bws bes g out; accepted-writes = combined-writes a aws aes b bws bes g out })
+
+pub and-demands : (κs : Lfts 5) (a : Dens κs and-kinds.ps) (x : resT and-kinds.r κs .Denot) (v : Lasts (endedOf 5 and-kinds.ps and-kinds.r) κs a) → and-reads.Post κs a x (atExit (endedOf 5 and-kinds.ps and-kinds.r) κs a v)
+    → Demands _&&_ (a .0) (now (a .1 .0)) (now (a .1 .1 .0)) (a .1 .1 .1 .0) (now (a .1 .1 .1 .1 .0)) (now (a .1 .1 .1 .1 .1 .0)) (now (a .1 .1 .1 .1 .1 .1 .0)) x (v .1 .1 .1 .1 .1 .1 .0)
+and-demands κs a x v allowed = demands _&&_ _ _ _ _ _ _ _ _ _ (allowed .0) (allowed .1)
+
+pub or-demands : (κs : Lfts 5) (a : Dens κs or-kinds.ps) (x : resT or-kinds.r κs .Denot) (v : Lasts (endedOf 5 or-kinds.ps or-kinds.r) κs a) → or-reads.Post κs a x (atExit (endedOf 5 or-kinds.ps or-kinds.r) κs a v)
+    → Demands _||_ (a .0) (now (a .1 .0)) (now (a .1 .1 .0)) (a .1 .1 .1 .0) (now (a .1 .1 .1 .1 .0)) (now (a .1 .1 .1 .1 .1 .0)) (now (a .1 .1 .1 .1 .1 .1 .0)) x (v .1 .1 .1 .1 .1 .1 .0)
+or-demands κs a x v allowed = demands _||_ _ _ _ _ _ _ _ _ _ (allowed .0) (allowed .1)
+
+pub and-not-demands : (κs : Lfts 5) (a : Dens κs and-not-kinds.ps) (x : resT and-not-kinds.r κs .Denot) (v : Lasts (endedOf 5 and-not-kinds.ps and-not-kinds.r) κs a) → and-not-reads.Post κs a x (atExit (endedOf 5 and-not-kinds.ps and-not-kinds.r) κs a v)
+    → Demands andNot (a .0) (now (a .1 .0)) (now (a .1 .1 .0)) (a .1 .1 .1 .0) (now (a .1 .1 .1 .1 .0)) (now (a .1 .1 .1 .1 .1 .0)) (now (a .1 .1 .1 .1 .1 .1 .0)) x (v .1 .1 .1 .1 .1 .1 .0)
+and-not-demands κs a x v allowed = demands andNot _ _ _ _ _ _ _ _ _ (allowed .0) (allowed .1)
+
+-- ---- not
+
+pub record NotDemands (a : Form) (aws aes : List ℕ) (out : List ℕ) (x : Answer) (after : List ℕ) : Type 0 where
+  pub refuses-exactly : (n j : ℕ) → zero < n → (x .refusal ≡ refusal n j) ↔ NotRefuses a aws aes (length out) n j
+  pub accepts-exactly : (x .refusal .number ≡ 0) ↔ NotAccepts a aws aes (length out)
+  pub refused-changes-nothing : x .refusal .number ≢ 0 → (after ≡ out) × Bare x
+  pub accepted-writes : NotAccepts a aws aes (length out) → Writes (lengthOf a) (λ i. not (row a aws aes i)) 0 x after out
+
+one-demands : (a : Form) (aws aes : List ℕ) (out : List ℕ) (x : Answer) (after : List ℕ) → x ≡ negated a aws aes out → after ≡ negatedOut a aws aes out → NotDemands a aws aes out x after
+one-demands a aws aes out x after e f =
+    rw (e, f) (record { refuses-exactly = not-refuses a aws aes out; accepts-exactly = not-accepts a aws aes out; refused-changes-nothing = not-refused a aws aes out; accepted-writes = not-writes a aws aes out })
+
+pub not-demands : (κs : Lfts 3) (a : Dens κs not-kinds.ps) (x : resT not-kinds.r κs .Denot) (v : Lasts (endedOf 3 not-kinds.ps not-kinds.r) κs a) → not-reads.Post κs a x (atExit (endedOf 3 not-kinds.ps not-kinds.r) κs a v)
+    → NotDemands (a .0) (now (a .1 .0)) (now (a .1 .1 .0)) (now (a .1 .1 .1 .0)) x (v .1 .1 .1 .0)
+not-demands κs a x v allowed = one-demands _ _ _ _ _ _ (allowed .0) (allowed .1)
