@@ -1,7 +1,7 @@
 -- Demands 1 and 2 for composition, of whatever the contract of `intersect_by_rank` allows: x is an answer that it allows and `after` is
 -- what then stands in the output. By the theorems about its definitions.
 -- Assumes nothing.
-use mathlib.Core.Path.{_≡_, sym, subst}
+use mathlib.Core.Path.{_≡_, sym, ap, subst, _∙_}
 use mathlib.Core.Logic.{_↔_, _≢_}
 use mathlib.Core.Bool.{true, _&&_}
 use mathlib.Core.List.{List}
@@ -20,6 +20,9 @@ use Rattle.mask.proofs.Theorems.{Bare}
 use Rattle.mask.proofs.Writes.{bitAt, row, Writes}
 use Rattle.intersect_by_rank.specs.Route.{routeOf, numberOf, published}
 use Rattle.intersect_by_rank.proofs.Theorems.{Refuses, Accepts, composed-refuses, composed-accepts, composed-refused, composed-writes, composed-row}
+use Rattle.intersect_by_rank.specs.Compose.{composedOut}
+use Rattle.intersect_by_rank.proofs.compose.compose_with.Kinds as with-kinds
+use Rattle.intersect_by_rank.proofs.compose.compose_with.Reads as with-reads
 use Rattle.intersect_by_rank.proofs.intersect_by_rank.Kinds as kinds
 use Rattle.intersect_by_rank.proofs.intersect_by_rank.Reads as reads
 
@@ -72,3 +75,14 @@ module _ (κs : Lfts 5) (a : Dens κs kinds.ps) (x : resT kinds.r κs .Denot) (v
   pub row-exactly : Accepts s sws ses r rws res (length out) → (i : ℕ) → i < lengthOf s
       → (bitAt after i ≡ true) ↔ ((row s sws ses i ≡ true) × (row r rws res (rankAt (rowsOf s sws ses) i) ≡ true))
   row-exactly = rw (allowed .1) (composed-row s sws ses r rws res out)
+
+-- ---- the route never changes the rows, whatever the factors are: `compose_with` is `intersect_by_rank` with factors handed in
+
+-- the same operands and output, other factors
+module _ (κs : Lfts 5) (a b : Dens κs with-kinds.ps) (same : a .1 ≡ b .1) (x y : resT with-kinds.r κs .Denot)
+    (v : Lasts (endedOf 5 with-kinds.ps with-kinds.r) κs a) (w : Lasts (endedOf 5 with-kinds.ps with-kinds.r) κs b)
+    (one : with-reads.Post κs a x (atExit (endedOf 5 with-kinds.ps with-kinds.r) κs a v))
+    (other : with-reads.Post κs b y (atExit (endedOf 5 with-kinds.ps with-kinds.r) κs b w)) where
+  pub factors-change-no-row : v .1 .1 .1 .1 .1 .1 .1 .0 ≡ w .1 .1 .1 .1 .1 .1 .1 .0
+  factors-change-no-row =
+      one .1 ∙ ap (λ c. composedOut (c .0) (now (c .1 .0)) (now (c .1 .1 .0)) (c .1 .1 .1 .0) (now (c .1 .1 .1 .1 .0)) (now (c .1 .1 .1 .1 .1 .0)) (now (c .1 .1 .1 .1 .1 .1 .0))) same ∙ sym (other .1)

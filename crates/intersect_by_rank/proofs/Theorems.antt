@@ -2,15 +2,16 @@
 -- changes nothing, and what an accepted composition writes, row by row, counts and tells. By the laws of tables and of `compose`.
 -- Assumes nothing.
 use Prim.Native.Nat.{ℕ, zero, _≤_, _<_}
-use mathlib.Core.Path.{_≡_, sym, ap, _∙_}
+use mathlib.Core.Path.{_≡_, refl, sym, ap, _∙_}
 use mathlib.Core.Logic.{_↔_, _≢_, _⊎_, inl, inr}
-use mathlib.Core.Bool.{true, _&&_}
+use mathlib.Core.Bool.{Bool, true, _&&_}
 use mathlib.Core.List.{List, [], _∷_, _++_}
 use native.Mathlib.Decide.{ℕ-discrete, decLe}
 use native.Mathlib.Omega.{arith}
 use lib.ListN.{length}
 use Rattle.rows.specs.declared.Refusal.{Refusal}
-use Rattle.rows.specs.declared.Verdict.the-variants.{Refused}
+use Rattle.rows.specs.declared.Verdict.{Verdict}
+use Rattle.rows.specs.declared.Verdict.the-variants.{Fine, Refused}
 use Rattle.rows.specs.Rows.{rankAt}
 use Rattle.rows.specs.Laid.{wordsFor}
 use Rattle.rows.specs.Table.{Line, First, Numbered, first, inOrder, need, refusal}
@@ -18,6 +19,7 @@ use Rattle.rows.proofs.TableLaws.{told-exactly, accepts-exactly}
 use Rattle.rows.proofs.RowLaws.{compose-row}
 use Rattle.mask.specs.declared.Answer.{Answer}
 use Rattle.mask.specs.declared.Form.{Form}
+use Rattle.mask.specs.Answer.{answered}
 use Rattle.mask.specs.Operand.{rowsOf, lengthOf, countOf, operandChecks, Accepted}
 use Rattle.mask.proofs.OperandLaws.{accepted-as}
 use Rattle.mask.proofs.Writes.{bitAt, row, Writes, writes, in-both}
@@ -111,3 +113,17 @@ module _ (s : Form) (sws ses : List ℕ) (r : Form) (rws res : List ℕ) where
   pub composed-row : (out : List ℕ) → Accepts (length out) → (i : ℕ) → i < lengthOf s
       → (bitAt (composedOut s sws ses r rws res out) i ≡ true) ↔ ((row s sws ses i ≡ true) × (row r rws res (rankAt (rowsOf s sws ses) i) ≡ true))
   composed-row out t i h = rw (composed-writes published out t .rows i h) (in-both (row s sws ses i) (row r rws res (rankAt (rowsOf s sws ses) i)))
+
+-- ---- the factors decide the route and nothing else: the output does not mention them, and the rest of the answer is the same
+
+but-the-route : (v : Verdict) (rows : List Bool) (n m : ℕ)
+    → (answered v rows n .refusal ≡ answered v rows m .refusal) × (answered v rows n .summary .count ≡ answered v rows m .summary .count) × (answered v rows n .summary .density ≡ answered v rows m .summary .density)
+but-the-route Fine rows n m = (refl, refl, refl)
+but-the-route (Refused x) rows n m = (refl, refl, refl)
+
+pub composed-factors : (k l : Factors) (s : Form) (sws ses : List ℕ) (r : Form) (rws res : List ℕ) (out : List ℕ)
+    → (composed k s sws ses r rws res out .refusal ≡ composed l s sws ses r rws res out .refusal)
+    × (composed k s sws ses r rws res out .summary .count ≡ composed l s sws ses r rws res out .summary .count)
+    × (composed k s sws ses r rws res out .summary .density ≡ composed l s sws ses r rws res out .summary .density)
+unfolding composed
+composed-factors k l s sws ses r rws res out = but-the-route (first (composeChecks s sws ses r rws res (length out))) (result s sws ses r rws res) _ _
