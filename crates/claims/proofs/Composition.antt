@@ -21,8 +21,8 @@ use Rattle.mask.proofs.Writes.{bitAt, row, Writes}
 use Rattle.intersect_by_rank.specs.Route.{routeOf, numberOf, published}
 use Rattle.intersect_by_rank.proofs.Theorems.{Refuses, Accepts, composed-refuses, composed-accepts, composed-refused, composed-writes, composed-row}
 use Rattle.intersect_by_rank.specs.Compose.{composedOut}
-use Rattle.intersect_by_rank.proofs.compose.compose_with.Kinds as with-kinds
-use Rattle.intersect_by_rank.proofs.compose.compose_with.Reads as with-reads
+use Rattle.intersect_by_rank.proofs.inner.compose_with.Kinds as with-kinds
+use Rattle.intersect_by_rank.proofs.inner.compose_with.Reads as with-reads
 use Rattle.intersect_by_rank.proofs.intersect_by_rank.Kinds as kinds
 use Rattle.intersect_by_rank.proofs.intersect_by_rank.Reads as reads
 

@@ -3,12 +3,11 @@ ghost use mathlib.Core.Path.{_≡_};
 ghost use denote.Ref.{now};
 ghost use Rattle.intersect_by_rank.specs.Route.{published};
 ghost use Rattle.intersect_by_rank.specs.Compose.{composed, composedOut};
-use compose::compose_with;
+use inner::compose_with;
 use mask::Answer;
 use mask::Form;
 use route::Factors;
 
-mod compose;
 mod deposit;
 mod driven;
 pub mod inner;

@@ -1,12 +1,12 @@
--- `intersect_by_rank::compose::compose_with` meets its contract: a refusal is answered and nothing written; else the work is done.
+-- `intersect_by_rank::inner::compose_with` meets its contract: a refusal is answered and nothing written; else the work is done.
 -- By the verdict of its table. Assumes nothing.
 use mathlib.Core.Path.{sym, _∙_}
 use lib.ListN.{length}
 use denote.Ref.{now}
 use Rattle.intersect_by_rank.proofs.ComposeLaws.{compose-fine, compose-accepted, compose-refused}
 use borrow.Author.Needs.{needs}
-use Rattle.intersect_by_rank.proofs.compose.compose_with.Statement.{statement}
-use Rattle.intersect_by_rank.proofs.compose.compose_with.Tie as tie
+use Rattle.intersect_by_rank.proofs.inner.compose_with.Statement.{statement}
+use Rattle.intersect_by_rank.proofs.inner.compose_with.Tie as tie
 
 judge-requires : tie.Need-judge-requires
 judge-requires c κs = search needs

@@ -1,4 +1,4 @@
--- `intersect_by_rank::compose::compose_accepted` meets its contract.
+-- `intersect_by_rank::inner::compose_accepted` meets its contract.
 -- The composition laid from bit 0 on, where the last word was cleared, is the composition written. Assumes nothing.
 use Prim.Native.Nat.{ℕ, _^_}
 use mathlib.Core.Path.{refl, ap, sym, _∙_, subst}
@@ -16,8 +16,8 @@ use Rattle.intersect_by_rank.specs.Compose.{result}
 use Rattle.intersect_by_rank.proofs.FitsLaws.{route-fits}
 use Rattle.intersect_by_rank.proofs.ComposeLaws.{result-length, result-count}
 use borrow.Author.Needs.{needs}
-use Rattle.intersect_by_rank.proofs.compose.compose_accepted.Statement.{statement}
-use Rattle.intersect_by_rank.proofs.compose.compose_accepted.Tie as tie
+use Rattle.intersect_by_rank.proofs.inner.compose_accepted.Statement.{statement}
+use Rattle.intersect_by_rank.proofs.inner.compose_accepted.Tie as tie
 
 choose-route-requires : tie.Need-choose-route-requires
 choose-route-requires c κs =
