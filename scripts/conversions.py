@@ -3,10 +3,7 @@
 
     scripts/conversions.py FILE
 
-A mask is a plain list of bools here, row 0 first. The same file is written each time: the random cases come from a
-generator of this file's own.
-
-The file is a text of hex numbers. It begins with the number of cases. A case is six lines:
+masks.py says how the file is told. A case is six lines:
 
     operation form length start claimed      operation: 1 to words, 2 to a list; form: 0 all, 1 none, 2 words, 3 list
     the lent words
@@ -14,93 +11,46 @@ The file is a text of hex numbers. It begins with the number of cases. A case is
     the output slice before
     refusal operand count route m e          the density is m / 2^e exactly
     the output slice after, all of it
-
-A slice is told as a number of runs, then `count first step` for each: first, first + step, .. modulo 2^64.
 """
 
 import sys
 from collections import namedtuple
 
-LIMIT = 1048576
+from masks import (
+    ALL,
+    FULL,
+    LIMIT,
+    LIST,
+    NONE,
+    SMALL_LENGTHS,
+    WORDS,
+    Dice,
+    Operand,
+    as_list,
+    as_words,
+    density_of,
+    flat_operand,
+    in_view,
+    list_operand,
+    mask_of,
+    numbers,
+    random_operand,
+    refusal_of,
+    spoilt,
+    told,
+    told_answer,
+    words_for,
+    words_operand,
+    write_cases,
+)
+
 TO_WORDS, TO_LIST = 1, 2
-ALL, NONE, WORDS, LIST = 0, 1, 2, 3
-FULL = 2**64 - 1
-SMALL_LENGTHS = [0, 1, 63, 64, 65, 127, 128, 129]
 
 Case = namedtuple("Case", "operation operand before")
 Answer = namedtuple("Answer", "refusal operand count density after")
 
 
-class Operand:
-    """Only words have a start and a claimed count."""
-
-    def __init__(self, form, length, start=0, claimed=0, words=(), rows=()):
-        self.form, self.length, self.start, self.claimed = form, length, start, claimed
-        self.words, self.rows = list(words), list(rows)
-
-
 # What document 01 says.
-
-
-def words_for(bits):
-    return (bits + 63) // 64
-
-
-def in_view(words, start, length):
-    return [(words[(start + i) // 64] >> ((start + i) % 64)) & 1 == 1 for i in range(length)]
-
-
-def refusal_of_words(operand):
-    if operand.start > 63:
-        return 2
-    if len(operand.words) < words_for(operand.start + operand.length):
-        return 3
-    if operand.claimed != sum(in_view(operand.words, operand.start, operand.length)):
-        return 4
-    return 0
-
-
-def refusal_of_list(operand):
-    for before, after in zip(operand.rows, operand.rows[1:]):
-        if after <= before:
-            return 5
-    if operand.rows and operand.rows[-1] >= operand.length:
-        return 6
-    return 0
-
-
-def refusal_of(operand):
-    if operand.length > LIMIT:
-        return 1
-    if operand.form == WORDS:
-        return refusal_of_words(operand)
-    if operand.form == LIST:
-        return refusal_of_list(operand)
-    return 0
-
-
-def mask_of(operand):
-    """The rows of an accepted operand."""
-    if operand.form == ALL:
-        return [True] * operand.length
-    if operand.form == NONE:
-        return [False] * operand.length
-    if operand.form == WORDS:
-        return in_view(operand.words, operand.start, operand.length)
-    listed = set(operand.rows)
-    return [row in listed for row in range(operand.length)]
-
-
-def as_words(mask):
-    words = [0] * words_for(len(mask))
-    for row, is_set in enumerate(mask):
-        if is_set:
-            words[row // 64] += 2 ** (row % 64)
-    return words
-
-
-def as_list(mask):
-    return [row for row, is_set in enumerate(mask) if is_set]
 
 
 def answer_to(case):
@@ -111,105 +61,26 @@ def answer_to(case):
     result = as_words(mask) if case.operation == TO_WORDS else as_list(mask)
     if len(case.before) < len(result):
         return Answer(8, 0, 0, 0.0, case.before)
-    density = sum(mask) / len(mask) if mask else 0.0
-    return Answer(0, 0, sum(mask), density, result + case.before[len(result) :])
+    return Answer(0, 0, sum(mask), density_of(mask), result + case.before[len(result) :])
 
 
 # The file.
 
 
-def runs_of(elements):
-    """Each run as long as it can be, from the front on."""
-    runs = []
-    at = 0
-    while at < len(elements):
-        step = 0
-        end = at + 1
-        if end < len(elements):
-            step = (elements[end] - elements[at]) % 2**64
-        while end < len(elements) and (elements[end] - elements[end - 1]) % 2**64 == step:
-            end += 1
-        runs.append((end - at, elements[at], step))
-        at = end
-    return runs
-
-
-def numbers(*values):
-    return " ".join("%x" % value for value in values)
-
-
-def told(elements):
-    runs = runs_of(elements)
-    return " ".join([numbers(len(runs))] + [numbers(*run) for run in runs])
-
-
 def lines_of(case):
     operand = case.operand
     answer = answer_to(case)
-    numerator, denominator = answer.density.as_integer_ratio()
-    halvings = denominator.bit_length() - 1
     return [
         numbers(case.operation, operand.form, operand.length, operand.start, operand.claimed),
         told(operand.words),
         told(operand.rows),
         told(case.before),
-        numbers(answer.refusal, answer.operand, answer.count, 0, numerator, halvings),
+        told_answer(answer.refusal, answer.operand, answer.count, 0, answer.density),
         told(answer.after),
     ]
 
 
 # The cases.
-
-
-class Dice:
-    """A generator of 64-bit numbers: a counter, mixed."""
-
-    def __init__(self, seed):
-        self.state = seed
-
-    def word(self):
-        self.state = (self.state + 0x9E3779B97F4A7C15) % 2**64
-        mixed = self.state
-        mixed = ((mixed ^ (mixed >> 30)) * 0xBF58476D1CE4E5B9) % 2**64
-        mixed = ((mixed ^ (mixed >> 27)) * 0x94D049BB133111EB) % 2**64
-        return mixed ^ (mixed >> 31)
-
-    def below(self, n):
-        return self.word() % n
-
-    def among(self, choices):
-        return choices[self.below(len(choices))]
-
-    def words(self, n):
-        return [self.word() for _ in range(n)]
-
-    def rows(self, n):
-        return [self.below(2**32) for _ in range(n)]
-
-    def mask(self, length, sixteenths):
-        return [self.below(16) < sixteenths for _ in range(length)]
-
-
-def lent(mask, start, outside):
-    """As many words as `outside` has: the mask from bit `start` on, and the bits of `outside` around it."""
-    bits = in_view(outside, 0, 64 * len(outside))
-    bits[start : start + len(mask)] = mask
-    return as_words(bits)
-
-
-def words_operand(dice, mask, start):
-    needed = words_for(start + len(mask))
-    more = dice.below(3) // 2
-    outside = dice.among([[FULL] * (needed + more), dice.words(needed + more), [0] * needed])
-    return Operand(WORDS, len(mask), start, sum(mask), lent(mask, start, outside), dice.rows(dice.below(3)))
-
-
-def list_operand(dice, mask):
-    return Operand(LIST, len(mask), words=dice.words(dice.below(3)), rows=as_list(mask))
-
-
-def flat_operand(dice, form, length):
-    return Operand(form, length, words=dice.words(dice.below(3)), rows=dice.rows(dice.below(3)))
 
 
 def room_for(operand, operation):
@@ -403,32 +274,6 @@ def at_the_limit_to_list(dice):
     return cases
 
 
-def spoilt(dice, operand):
-    """Now and then a wrong count, a word too few, or two rows out of order."""
-    fault = dice.below(12)
-    if fault == 0 and operand.form == WORDS:
-        operand.claimed = (operand.claimed + dice.among([1, -1, operand.length, 2**40])) % 2**64
-    if fault == 1 and operand.words:
-        operand.words.pop()
-    if fault == 2 and operand.form == LIST and len(operand.rows) > 1:
-        at = dice.below(len(operand.rows) - 1)
-        operand.rows[at] = operand.rows[at + 1] + dice.below(2)
-    if fault == 3 and operand.form == LIST:
-        operand.length = dice.below(operand.length + 1)
-    return operand
-
-
-def random_operand(dice):
-    length = dice.among([dice.below(70), dice.below(200), dice.below(600)])
-    form = dice.among([ALL, NONE, WORDS, WORDS, WORDS, LIST, LIST])
-    if form in (ALL, NONE):
-        return flat_operand(dice, form, length)
-    mask = dice.mask(length, dice.among([0, 1, 1, 4, 8, 15, 16]))
-    if form == WORDS:
-        return words_operand(dice, mask, dice.below(64))
-    return list_operand(dice, mask)
-
-
 def random_cases(dice, how_many):
     cases = []
     for _ in range(how_many):
@@ -456,12 +301,4 @@ def all_cases():
     return cases
 
 
-def main():
-    cases = all_cases()
-    with open(sys.argv[1], "w") as file:
-        file.write(numbers(len(cases)) + "\n")
-        for case in cases:
-            file.write("\n" + "\n".join(lines_of(case)) + "\n")
-
-
-main()
+write_cases(sys.argv[1], all_cases(), lines_of)

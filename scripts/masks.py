@@ -1,0 +1,211 @@
+"""What the scripts that write recorded cases share: operands, their checks and what they mean, as document 01 has them; how
+slices are told; and makers of operands.
+
+A mask is a plain list of bools here, row 0 first. The random numbers come from a generator of this file's own, so that the
+same files are written each time.
+
+A file is a text of hex numbers. It begins with the number of cases. A slice is told as a number of runs, then
+`count first step` for each: first, first + step, .. modulo 2^64.
+"""
+
+LIMIT = 1048576
+ALL, NONE, WORDS, LIST = 0, 1, 2, 3
+FULL = 2**64 - 1
+SMALL_LENGTHS = [0, 1, 63, 64, 65, 127, 128, 129]
+
+
+class Operand:
+    """Only words have a start and a claimed count."""
+
+    def __init__(self, form, length, start=0, claimed=0, words=(), rows=()):
+        self.form, self.length, self.start, self.claimed = form, length, start, claimed
+        self.words, self.rows = list(words), list(rows)
+
+
+# What document 01 says.
+
+
+def words_for(bits):
+    return (bits + 63) // 64
+
+
+def in_view(words, start, length):
+    return [(words[(start + i) // 64] >> ((start + i) % 64)) & 1 == 1 for i in range(length)]
+
+
+def refusal_of_words(operand):
+    if operand.start > 63:
+        return 2
+    if len(operand.words) < words_for(operand.start + operand.length):
+        return 3
+    if operand.claimed != sum(in_view(operand.words, operand.start, operand.length)):
+        return 4
+    return 0
+
+
+def refusal_of_list(operand):
+    for before, after in zip(operand.rows, operand.rows[1:]):
+        if after <= before:
+            return 5
+    if operand.rows and operand.rows[-1] >= operand.length:
+        return 6
+    return 0
+
+
+def refusal_of(operand):
+    if operand.length > LIMIT:
+        return 1
+    if operand.form == WORDS:
+        return refusal_of_words(operand)
+    if operand.form == LIST:
+        return refusal_of_list(operand)
+    return 0
+
+
+def mask_of(operand):
+    """The rows of an accepted operand."""
+    if operand.form == ALL:
+        return [True] * operand.length
+    if operand.form == NONE:
+        return [False] * operand.length
+    if operand.form == WORDS:
+        return in_view(operand.words, operand.start, operand.length)
+    listed = set(operand.rows)
+    return [row in listed for row in range(operand.length)]
+
+
+def as_words(mask):
+    words = [0] * words_for(len(mask))
+    for row, is_set in enumerate(mask):
+        if is_set:
+            words[row // 64] += 2 ** (row % 64)
+    return words
+
+
+def as_list(mask):
+    return [row for row, is_set in enumerate(mask) if is_set]
+
+
+def density_of(mask):
+    return sum(mask) / len(mask) if mask else 0.0
+
+
+# The file.
+
+
+def runs_of(elements):
+    """Each run as long as it can be, from the front on."""
+    runs = []
+    at = 0
+    while at < len(elements):
+        step = 0
+        end = at + 1
+        if end < len(elements):
+            step = (elements[end] - elements[at]) % 2**64
+        while end < len(elements) and (elements[end] - elements[end - 1]) % 2**64 == step:
+            end += 1
+        runs.append((end - at, elements[at], step))
+        at = end
+    return runs
+
+
+def numbers(*values):
+    return " ".join("%x" % value for value in values)
+
+
+def told(elements):
+    runs = runs_of(elements)
+    return " ".join([numbers(len(runs))] + [numbers(*run) for run in runs])
+
+
+def told_answer(refusal, operand, count, route, density):
+    """The density is m / 2^e exactly, told as m and e."""
+    numerator, denominator = density.as_integer_ratio()
+    return numbers(refusal, operand, count, route, numerator, denominator.bit_length() - 1)
+
+
+def write_cases(path, cases, lines_of):
+    with open(path, "w") as file:
+        file.write(numbers(len(cases)) + "\n")
+        for case in cases:
+            file.write("\n" + "\n".join(lines_of(case)) + "\n")
+
+
+# The operands.
+
+
+class Dice:
+    """A generator of 64-bit numbers: a counter, mixed."""
+
+    def __init__(self, seed):
+        self.state = seed
+
+    def word(self):
+        self.state = (self.state + 0x9E3779B97F4A7C15) % 2**64
+        mixed = self.state
+        mixed = ((mixed ^ (mixed >> 30)) * 0xBF58476D1CE4E5B9) % 2**64
+        mixed = ((mixed ^ (mixed >> 27)) * 0x94D049BB133111EB) % 2**64
+        return mixed ^ (mixed >> 31)
+
+    def below(self, n):
+        return self.word() % n
+
+    def among(self, choices):
+        return choices[self.below(len(choices))]
+
+    def words(self, n):
+        return [self.word() for _ in range(n)]
+
+    def rows(self, n):
+        return [self.below(2**32) for _ in range(n)]
+
+    def mask(self, length, sixteenths):
+        return [self.below(16) < sixteenths for _ in range(length)]
+
+
+def lent(mask, start, outside):
+    """As many words as `outside` has: the mask from bit `start` on, and the bits of `outside` around it."""
+    bits = in_view(outside, 0, 64 * len(outside))
+    bits[start : start + len(mask)] = mask
+    return as_words(bits)
+
+
+def words_operand(dice, mask, start):
+    needed = words_for(start + len(mask))
+    more = dice.below(3) // 2
+    outside = dice.among([[FULL] * (needed + more), dice.words(needed + more), [0] * needed])
+    return Operand(WORDS, len(mask), start, sum(mask), lent(mask, start, outside), dice.rows(dice.below(3)))
+
+
+def list_operand(dice, mask):
+    return Operand(LIST, len(mask), words=dice.words(dice.below(3)), rows=as_list(mask))
+
+
+def flat_operand(dice, form, length):
+    return Operand(form, length, words=dice.words(dice.below(3)), rows=dice.rows(dice.below(3)))
+
+
+def spoilt(dice, operand):
+    """Now and then a wrong count, a word too few, or two rows out of order."""
+    fault = dice.below(12)
+    if fault == 0 and operand.form == WORDS:
+        operand.claimed = (operand.claimed + dice.among([1, -1, operand.length, 2**40])) % 2**64
+    if fault == 1 and operand.words:
+        operand.words.pop()
+    if fault == 2 and operand.form == LIST and len(operand.rows) > 1:
+        at = dice.below(len(operand.rows) - 1)
+        operand.rows[at] = operand.rows[at + 1] + dice.below(2)
+    if fault == 3 and operand.form == LIST:
+        operand.length = dice.below(operand.length + 1)
+    return operand
+
+
+def random_operand(dice):
+    length = dice.among([dice.below(70), dice.below(200), dice.below(600)])
+    form = dice.among([ALL, NONE, WORDS, WORDS, WORDS, LIST, LIST])
+    if form in (ALL, NONE):
+        return flat_operand(dice, form, length)
+    mask = dice.mask(length, dice.among([0, 1, 1, 4, 8, 15, 16]))
+    if form == WORDS:
+        return words_operand(dice, mask, dice.below(64))
+    return list_operand(dice, mask)
