@@ -3,6 +3,7 @@
 use digits::read_number;
 
 pub mod digits;
+pub mod forms;
 pub mod lists;
 pub mod words;
 
@@ -66,12 +67,16 @@ fn is_whole(run: Run, from: usize, to: usize) -> bool {
 
 // The cursor after a run, off where the run did not fit.
 fn after_run(run: Run, fitted: bool) -> Cursor {
-    let next = run.next;
-    if !fitted {
+    if_held(run.next, fitted)
+}
+
+// The cursor, off where what was read does not hold.
+pub fn if_held(cursor: Cursor, held: bool) -> Cursor {
+    if !held {
         return Cursor {
-            at: next.at,
+            at: cursor.at,
             fine: false,
         };
     }
-    next
+    cursor
 }

@@ -8,10 +8,10 @@ use Rattle.recorded.proofs.run_all.Statement.{statement}
 use Rattle.recorded.proofs.run_all.Tie as tie
 
 abbrev Inv-loop : tie.InvT-loop
-Inv-loop text words₀ rows₀ outwords₀ outrows₀ total next₀ agreed₀ words rows outwords outrows next agreed = (length words ≡ length words₀) × (length rows ≡ length rows₀) × (length outwords ≡ length outwords₀) × (length outrows ≡ length outrows₀)
+Inv-loop subject text awords₀ arows₀ bwords₀ brows₀ out₀ total next₀ agreed₀ awords arows bwords brows out next agreed = (length awords ≡ length awords₀) × (length arows ≡ length arows₀) × (length bwords ≡ length bwords₀) × (length brows ≡ length brows₀) × (length out ≡ length out₀)
 
 abbrev μ-loop : tie.MeasureT-loop
-μ-loop text words₀ rows₀ outwords₀ outrows₀ total next₀ agreed₀ words rows outwords outrows next agreed = total - agreed
+μ-loop subject text awords₀ arows₀ bwords₀ brows₀ out₀ total next₀ agreed₀ awords arows bwords brows out next agreed = total - agreed
 
 start-requires : tie.Need-start-requires Inv-loop μ-loop
 start-requires c κs = search needs
@@ -40,6 +40,9 @@ same-length-3 c = search needs
 same-length-4 : tie.Need-same-length-4 Inv-loop μ-loop
 same-length-4 c = search needs
 
+same-length-5 : tie.Need-same-length-5 Inv-loop μ-loop
+same-length-5 c = search needs
+
 returns : tie.Need-returns Inv-loop μ-loop
 returns c = search needs
 
@@ -58,9 +61,6 @@ at-end-requires c κs = search needs
 end-finding-requires : tie.Need-end-finding-requires Inv-loop μ-loop
 end-finding-requires c κs = search needs
 
-same-length-5 : tie.Need-same-length-5 Inv-loop μ-loop
-same-length-5 c = search needs
-
 same-length-6 : tie.Need-same-length-6 Inv-loop μ-loop
 same-length-6 c = search needs
 
@@ -69,6 +69,12 @@ same-length-7 c = search needs
 
 same-length-8 : tie.Need-same-length-8 Inv-loop μ-loop
 same-length-8 c = search needs
+
+same-length-9 : tie.Need-same-length-9 Inv-loop μ-loop
+same-length-9 c = search needs
+
+same-length-10 : tie.Need-same-length-10 Inv-loop μ-loop
+same-length-10 c = search needs
 
 returns-2 : tie.Need-returns-2 Inv-loop μ-loop
 returns-2 c = search needs
@@ -88,14 +94,16 @@ run-all-spec =
     same-length-2
     same-length-3
     same-length-4
+    same-length-5
     returns
     add-agreed
     loop-less
     loop-again
     at-end-requires
     end-finding-requires
-    same-length-5
     same-length-6
     same-length-7
     same-length-8
+    same-length-9
+    same-length-10
     returns-2)

@@ -1,9 +1,9 @@
--- `recorded::halved` is safe and ends.
+-- `recorded::answer::halved` is safe and ends.
 -- The measure is the number of halvings left. Assumes nothing.
 use Prim.Native.Nat.{_-_, _≤_}
 use borrow.Author.Needs.{needs}
-use Rattle.recorded.proofs.halved.Statement.{statement}
-use Rattle.recorded.proofs.halved.Tie as tie
+use Rattle.recorded.proofs.answer.halved.Statement.{statement}
+use Rattle.recorded.proofs.answer.halved.Tie as tie
 
 abbrev Inv-loop : tie.InvT-loop
 Inv-loop m times x₀ counter₀ x counter = counter ≤ times

@@ -1,0 +1,149 @@
+// A case of the set operations: scripts/pairs.py says how it is told.
+use super::answer::Outcome;
+use super::answer::finding_of;
+use super::answer::outcome_of;
+use super::answer::read_expected;
+use super::reader::Cursor;
+use super::reader::Number;
+use super::reader::digits::read_number;
+use super::reader::forms::read_form;
+use super::reader::if_held;
+use mask::Answer;
+use mask::Form;
+
+// The operations are and, or, and-not and not, from 1 on. Any other is malformed.
+fn read_operation(text: &[u8], cursor: Cursor) -> Number {
+    let operation = read_number(text, cursor);
+    let value = operation.value;
+    let next = match value {
+        1..=4 => operation.next,
+        _ => if_held(operation.next, false),
+    };
+    Number { value, next }
+}
+
+fn operate(
+    operation: u64,
+    a: Form,
+    awords: &[u64],
+    arows: &[u32],
+    b: Form,
+    bwords: &[u64],
+    brows: &[u32],
+    out: &mut [u64],
+) -> Answer {
+    match operation {
+        1 => bitops::and(a, awords, arows, b, bwords, brows, out),
+        2 => bitops::or(a, awords, arows, b, bwords, brows, out),
+        3 => bitops::and_not(a, awords, arows, b, bwords, brows, out),
+        _ => bitops::not(a, awords, arows, out),
+    }
+}
+
+// The operation over an output slice that holds what it is to hold before.
+fn answer(
+    text: &[u8],
+    cursor: Cursor,
+    operation: u64,
+    a: Form,
+    awords: &[u64],
+    arows: &[u32],
+    b: Form,
+    bwords: &[u64],
+    brows: &[u32],
+    out: &mut [u64],
+) -> Outcome {
+    let answer = operate(operation, a, awords, arows, b, bwords, brows, out);
+    let expected = read_expected(text, cursor);
+    let after = super::reader::words::compare(text, expected.next, out);
+    outcome_of(finding_of(answer, expected), after.same, after.next)
+}
+
+fn run_operation(
+    text: &[u8],
+    cursor: Cursor,
+    operation: u64,
+    a: Form,
+    awords: &[u64],
+    arows: &[u32],
+    b: Form,
+    bwords: &[u64],
+    brows: &[u32],
+    out: &mut [u64],
+) -> Outcome {
+    let before = super::reader::words::fill(text, cursor, out);
+    let size = before.length;
+    answer(
+        text,
+        before.next,
+        operation,
+        a,
+        awords,
+        arows,
+        b,
+        bwords,
+        brows,
+        &mut out[..size],
+    )
+}
+
+// The case from its second operand on.
+fn run_second(
+    text: &[u8],
+    cursor: Cursor,
+    operation: u64,
+    a: Form,
+    awords: &[u64],
+    arows: &[u32],
+    bwords: &mut [u64],
+    brows: &mut [u32],
+    out: &mut [u64],
+) -> Outcome {
+    let told = read_form(text, cursor);
+    let b = told.form;
+    let lent = super::reader::words::fill(text, told.next, bwords);
+    let listed = super::reader::lists::fill(text, lent.next, brows);
+    let size = lent.length;
+    let entries = listed.length;
+    run_operation(
+        text,
+        listed.next,
+        operation,
+        a,
+        awords,
+        arows,
+        b,
+        &bwords[..size],
+        &brows[..entries],
+        out,
+    )
+}
+
+pub fn run_case(
+    text: &[u8],
+    cursor: Cursor,
+    awords: &mut [u64],
+    arows: &mut [u32],
+    bwords: &mut [u64],
+    brows: &mut [u32],
+    out: &mut [u64],
+) -> Outcome {
+    let operation = read_operation(text, cursor);
+    let told = read_form(text, operation.next);
+    let a = told.form;
+    let lent = super::reader::words::fill(text, told.next, awords);
+    let listed = super::reader::lists::fill(text, lent.next, arows);
+    let size = lent.length;
+    let entries = listed.length;
+    run_second(
+        text,
+        listed.next,
+        operation.value,
+        a,
+        &awords[..size],
+        &arows[..entries],
+        bwords,
+        brows,
+        out,
+    )
+}

@@ -1,0 +1,394 @@
+#!/usr/bin/env python3
+"""Writes recorded cases of the set operations and of composition, with the answers that document 01 gives.
+
+    scripts/pairs.py FILE
+
+masks.py says how the file is told. A case is ten lines:
+
+    operation                        1 and, 2 or, 3 and-not, 4 not, 5 composition
+    form length start claimed        the first operand, self in a composition; form: 0 all, 1 none, 2 words, 3 list
+    its lent words
+    its lent rows
+    form length start claimed        the second operand, the rank mask in a composition
+    its lent words
+    its lent rows
+    the output slice before
+    refusal operand count route m e  the density is m / 2^e exactly
+    the output slice after, all of it
+
+Not has one operand: the second is told as none of length 0 then.
+"""
+
+import sys
+from collections import Counter, namedtuple
+
+from masks import (
+    ALL,
+    FULL,
+    LIMIT,
+    LIST,
+    NONE,
+    SMALL_LENGTHS,
+    WORDS,
+    Dice,
+    Operand,
+    as_words,
+    density_of,
+    flat_operand,
+    in_view,
+    list_operand,
+    mask_of,
+    numbers,
+    random_operand,
+    refusal_of,
+    spoilt,
+    told,
+    told_answer,
+    words_for,
+    words_operand,
+    write_cases,
+)
+
+AND, OR, AND_NOT, NOT, COMPOSITION = 1, 2, 3, 4, 5
+OF_TWO = (AND, OR, AND_NOT)
+STARTS = (0, 1, 17, 63)
+LENGTHS = SMALL_LENGTHS + [600]
+
+Case = namedtuple("Case", "operation first second before")
+Answer = namedtuple("Answer", "refusal operand count route density after")
+
+
+# What document 01 says.
+
+
+def refusal_in(operation, operand):
+    if operation != COMPOSITION and operand.form == LIST:
+        return 12
+    return refusal_of(operand)
+
+
+def fit(operation, masks):
+    """Where they do not, it is 7."""
+    if operation == NOT:
+        return True
+    if operation == COMPOSITION:
+        return len(masks[1]) == sum(masks[0])
+    return len(masks[1]) == len(masks[0])
+
+
+def composition(self_mask, rank_mask):
+    """A row is set if self has it and the rank mask has its rank, the number of self's set rows before it."""
+    result = []
+    rank = 0
+    for is_set in self_mask:
+        result.append(is_set and rank_mask[rank])
+        rank += is_set
+    return result
+
+
+def result_of(operation, masks):
+    if operation == NOT:
+        return [not x for x in masks[0]]
+    if operation == COMPOSITION:
+        return composition(*masks)
+    both = list(zip(*masks))
+    if operation == AND:
+        return [x and y for x, y in both]
+    if operation == OR:
+        return [x or y for x, y in both]
+    return [x and not y for x, y in both]
+
+
+def is_full(mask):
+    return len(mask) > 0 and all(mask)
+
+
+def route_of(forms, self_mask, rank_mask):
+    """The first line of the route table that fits."""
+    if is_full(self_mask):
+        return 1
+    if is_full(rank_mask):
+        return 2
+    if not any(self_mask) or not any(rank_mask):
+        return 3
+    if forms[0] == LIST:
+        return 4 if forms[1] == LIST else 5
+    if 32 * sum(rank_mask) < len(rank_mask):
+        return 6
+    by_the_loop_form = 16 * sum(self_mask) < len(self_mask)
+    if forms[1] == LIST:
+        return 8 if by_the_loop_form else 7
+    return 10 if by_the_loop_form else 9
+
+
+def answer_to(case):
+    operands = [case.first] if case.operation == NOT else [case.first, case.second]
+    for number, operand in enumerate(operands, 1):
+        refusal = refusal_in(case.operation, operand)
+        if refusal != 0:
+            return Answer(refusal, number, 0, 0, 0.0, case.before)
+    masks = [mask_of(operand) for operand in operands]
+    if not fit(case.operation, masks):
+        return Answer(7, 0, 0, 0, 0.0, case.before)
+    result = result_of(case.operation, masks)
+    words = as_words(result)
+    if len(case.before) < len(words):
+        return Answer(8, 0, 0, 0, 0.0, case.before)
+    route = route_of([operand.form for operand in operands], *masks) if case.operation == COMPOSITION else 0
+    return Answer(0, 0, sum(result), route, density_of(result), words + case.before[len(words) :])
+
+
+# The file.
+
+
+def lines_of_operand(operand):
+    return [
+        numbers(operand.form, operand.length, operand.start, operand.claimed),
+        told(operand.words),
+        told(operand.rows),
+    ]
+
+
+def lines_of(answered):
+    case, answer = answered
+    lines = [numbers(case.operation)]
+    lines += lines_of_operand(case.first) + lines_of_operand(case.second)
+    lines.append(told(case.before))
+    lines.append(told_answer(*answer[:5]))
+    lines.append(told(answer.after))
+    return lines
+
+
+# The cases.
+
+
+def unused():
+    return Operand(NONE, 0)
+
+
+def output(dice, size):
+    """Old content: all ones half of the time, so that bits past a length show whether they were cleared."""
+    return [FULL] * size if dice.below(2) == 0 else dice.words(size)
+
+
+def case_of(dice, operation, first, second, more=0):
+    """With an output that is by so many words longer than what is needed."""
+    if operation == NOT:
+        second = unused()
+    size = words_for(first.length) + more
+    return Case(operation, first, second, output(dice, max(size, 0)))
+
+
+def rooms(dice, operation, first, second):
+    """The output exactly long enough, a word short, and longer."""
+    return [case_of(dice, operation, first, second, more) for more in (0, -1, 2)]
+
+
+def exactly(dice, length, count):
+    """A mask with so many rows."""
+    mask = [False] * length
+    for _ in range(count):
+        row = dice.below(length)
+        while mask[row]:
+            row = (row + 1) % length
+        mask[row] = True
+    return mask
+
+
+def operand_in(dice, form, mask, start):
+    """The mask in this form; all and none take its length alone."""
+    if form == WORDS:
+        return words_operand(dice, mask, start)
+    if form == LIST:
+        return list_operand(dice, mask)
+    return flat_operand(dice, form, len(mask))
+
+
+def count_of(operand):
+    return sum(mask_of(operand))
+
+
+def set_operations_at_small_lengths(dice):
+    cases = []
+    for length in LENGTHS:
+        for first in (ALL, NONE, WORDS):
+            for second in (ALL, NONE, WORDS):
+                for operation in OF_TWO:
+                    a = operand_in(dice, first, dice.mask(length, 8), dice.among(STARTS))
+                    b = operand_in(dice, second, dice.mask(length, 8), dice.among(STARTS))
+                    cases.append(case_of(dice, operation, a, b, dice.among([0, 0, 1])))
+        for form in (ALL, NONE):
+            cases.append(case_of(dice, NOT, flat_operand(dice, form, length), unused()))
+        for start in STARTS:
+            a = words_operand(dice, dice.mask(length, 8), start)
+            cases.append(case_of(dice, NOT, a, unused(), dice.below(2)))
+    return cases
+
+
+def set_operations_at_every_start(dice):
+    cases = []
+    for operation in OF_TWO:
+        for s in STARTS:
+            for t in STARTS:
+                length = dice.among([128, 129, 150])
+                a = words_operand(dice, dice.mask(length, 8), s)
+                b = words_operand(dice, dice.mask(length, 8), t)
+                cases.append(case_of(dice, operation, a, b))
+    return cases
+
+
+def full_and_empty_sets(dice):
+    """By count: words that are full, or empty, and all and none beside them."""
+    cases = []
+    kinds = [(ALL, 0), (NONE, 0), (WORDS, 0), (WORDS, 16), (WORDS, 8)]
+    for first, x in kinds:
+        for second, y in kinds:
+            length = dice.among([64, 100])
+            a = operand_in(dice, first, dice.mask(length, x), dice.among(STARTS))
+            b = operand_in(dice, second, dice.mask(length, y), dice.among(STARTS))
+            cases.append(case_of(dice, dice.among(OF_TWO), a, b))
+    for sixteenths in (0, 16):
+        cases.append(case_of(dice, NOT, words_operand(dice, dice.mask(130, sixteenths), 5), unused()))
+    return cases
+
+
+def bad_operands(dice):
+    """Each refusal of an operand, some with more than one."""
+    right = words_operand(dice, exactly(dice, 100, 40), 17)
+    return [
+        Operand(ALL, LIMIT + 1),
+        Operand(NONE, 2**64 - 1),
+        Operand(WORDS, LIMIT + 1, 64, 9, [FULL]),
+        Operand(LIST, LIMIT + 1, rows=[5, 5]),
+        Operand(WORDS, 64, 64, 9, []),
+        Operand(WORDS, 10, 2**64 - 1, 10, [FULL] * 2),
+        Operand(WORDS, 64, 1, 9, [FULL]),
+        Operand(WORDS, 0, 63, 0, []),
+        Operand(WORDS, 100, 17, 41, right.words),
+        Operand(WORDS, 100, 17, 39, right.words),
+        Operand(WORDS, 10, 3, 2**64 - 1, [FULL]),
+        Operand(LIST, 10, rows=[3, 9, 9]),
+        Operand(LIST, 10, rows=[12, 11]),
+        Operand(LIST, 10, rows=[3, 10]),
+        Operand(LIST, 0, rows=[0]),
+    ]
+
+
+def one_bad_operand(dice, operations):
+    """The other operand is right, and as long where that is possible."""
+    cases = []
+    for operation in operations:
+        for bad in bad_operands(dice) + [Operand(LIST, 10, rows=[3, 9])] * (operation != COMPOSITION):
+            right = flat_operand(dice, dice.among([ALL, NONE]), min(bad.length, 100))
+            cases.append(Case(operation, bad, right if operation != NOT else unused(), output(dice, 2)))
+            if operation != NOT:
+                cases.append(Case(operation, right, bad, output(dice, 2)))
+    return cases
+
+
+def two_bad_operands(dice, operations):
+    """The first operand's refusal is the answer. Nowhere to write, so that 8 holds too."""
+    cases = []
+    for i, first in enumerate(bad_operands(dice)):
+        for j, second in enumerate(bad_operands(dice)):
+            cases.append(Case(operations[(i + j) % len(operations)], first, second, []))
+    return cases
+
+
+def unequal_lengths(dice):
+    cases = []
+    for operation in OF_TWO:
+        for a, b in ((0, 1), (1, 0), (64, 65), (65, 64), (129, 128), (10, 100), (LIMIT, 1)):
+            first, second = flat_operand(dice, ALL, a), flat_operand(dice, ALL, b)
+            cases.append(Case(operation, first, second, output(dice, 3)))
+            if a < 1000:
+                first = words_operand(dice, dice.mask(a, 8), dice.among(STARTS))
+                second = words_operand(dice, dice.mask(b, 8), dice.among(STARTS))
+                # Nowhere to write: 7 comes before 8.
+                cases.append(Case(operation, first, second, dice.among([output(dice, 3), []])))
+    return cases
+
+
+def rooms_of_set_operations(dice):
+    cases = []
+    for operation in OF_TWO + (NOT,):
+        for length in (1, 64, 65, 128, 150):
+            first = words_operand(dice, dice.mask(length, 8), dice.among(STARTS))
+            second = words_operand(dice, dice.mask(length, 8), dice.among(STARTS))
+            cases += rooms(dice, operation, first, second)
+    return cases
+
+
+def rising(size):
+    """Words that rise by an even step differ only in their middle bits, also when they are shifted: few runs."""
+    return [0x5A3C000000000F00 + 0x12345678 * i for i in range(size)]
+
+
+def set_operations_at_the_limit(dice):
+    size = words_for(LIMIT)
+    before = [FULL] * (size + 2)
+    same = Operand(WORDS, LIMIT, 0, 20 * size, [0x00F0FFFF00000000] * size)
+    lent = rising(size + 1)
+    views = [Operand(WORDS, LIMIT, start, sum(in_view(lent, start, LIMIT)), lent) for start in (0, 1, 63)]
+    full, empty = Operand(ALL, LIMIT), Operand(NONE, LIMIT)
+    high = Operand(WORDS, LIMIT, 1, 5 * size, [0xF800000000000000] * (size + 1))
+    cases = [
+        Case(AND, views[0], full, before),
+        Case(AND, same, same, before),
+        Case(OR, views[1], high, before),
+        Case(OR, views[2], empty, before),
+        Case(AND_NOT, views[0], high, before),
+        Case(AND_NOT, full, views[1], before),
+        Case(NOT, views[2], unused(), before),
+        Case(AND, full, full, before[:size]),
+        Case(OR, empty, full, before[: size - 1]),
+        Case(NOT, empty, unused(), before),
+    ]
+    return cases
+
+
+def random_set_operations(dice, how_many):
+    cases = []
+    while len(cases) < how_many:
+        first, second = random_operand(dice), random_operand(dice)
+        if first.form == LIST or second.form == LIST:
+            continue
+        if second.length != first.length and dice.below(10) > 0:
+            mask = dice.mask(first.length, dice.among([0, 1, 8, 15, 16]))
+            second = operand_in(dice, second.form, mask, dice.below(64))
+        operation = dice.among([AND, OR, AND_NOT, NOT])
+        cases.append(case_of(dice, operation, spoilt(dice, first), spoilt(dice, second), dice.among([0, 0, 0, 1, 5, -1])))
+    return cases
+
+
+def set_operations(dice):
+    cases = set_operations_at_small_lengths(dice)
+    cases += set_operations_at_every_start(dice)
+    cases += full_and_empty_sets(dice)
+    cases += one_bad_operand(dice, (AND, OR, AND_NOT, NOT))
+    cases += two_bad_operands(dice, OF_TWO)
+    cases += unequal_lengths(dice)
+    cases += rooms_of_set_operations(dice)
+    cases += set_operations_at_the_limit(dice)
+    cases += random_set_operations(dice, 80)
+    return cases
+
+
+def hold(answered):
+    """Every refusal that a pair of operands can meet is recorded, for each operand that it can name."""
+    refusals = Counter((answer.refusal, answer.operand) for _, answer in answered)
+    for operand in (1, 2):
+        for number in (1, 2, 3, 4, 12):
+            assert refusals[number, operand] >= 5, (number, operand)
+    for number in (0, 7, 8):
+        assert refusals[number, 0] >= 5, number
+
+
+def main():
+    cases = set_operations(Dice(30))
+    answered = [(case, answer_to(case)) for case in cases]
+    hold(answered)
+    write_cases(sys.argv[1], answered, lines_of)
+
+
+main()
