@@ -51,6 +51,7 @@ from masks import (
 
 AND, OR, AND_NOT, NOT, COMPOSITION = 1, 2, 3, 4, 5
 OF_TWO = (AND, OR, AND_NOT)
+FORMS = (ALL, NONE, WORDS, LIST)
 STARTS = (0, 1, 17, 63)
 LENGTHS = SMALL_LENGTHS + [600]
 
@@ -274,11 +275,11 @@ def bad_operands(dice):
     ]
 
 
-def one_bad_operand(dice, operations):
+def set_operations_refused(dice):
     """The other operand is right, and as long where that is possible."""
     cases = []
-    for operation in operations:
-        for bad in bad_operands(dice) + [Operand(LIST, 10, rows=[3, 9])] * (operation != COMPOSITION):
+    for operation in OF_TWO + (NOT,):
+        for bad in bad_operands(dice) + [Operand(LIST, 10, rows=[3, 9])]:
             right = flat_operand(dice, dice.among([ALL, NONE]), min(bad.length, 100))
             cases.append(Case(operation, bad, right if operation != NOT else unused(), output(dice, 2)))
             if operation != NOT:
@@ -365,7 +366,7 @@ def set_operations(dice):
     cases = set_operations_at_small_lengths(dice)
     cases += set_operations_at_every_start(dice)
     cases += full_and_empty_sets(dice)
-    cases += one_bad_operand(dice, (AND, OR, AND_NOT, NOT))
+    cases += set_operations_refused(dice)
     cases += two_bad_operands(dice, OF_TWO)
     cases += unequal_lengths(dice)
     cases += rooms_of_set_operations(dice)
@@ -374,18 +375,217 @@ def set_operations(dice):
     return cases
 
 
+def rank_operand(dice, first, form, sixteenths, start):
+    """A rank mask as long as self's count."""
+    return operand_in(dice, form, dice.mask(count_of(first), sixteenths), start)
+
+
+def compositions_at_small_lengths(dice):
+    cases = []
+    for length in LENGTHS:
+        for form in FORMS:
+            for rank_form in FORMS:
+                a = operand_in(dice, form, dice.mask(length, dice.among([1, 8, 12])), dice.among(STARTS))
+                b = rank_operand(dice, a, rank_form, 8, dice.among(STARTS))
+                cases.append(case_of(dice, COMPOSITION, a, b, dice.among([0, 0, 1])))
+    return cases
+
+
+def compositions_at_every_start(dice):
+    cases = []
+    for s in STARTS:
+        for t in STARTS:
+            a = words_operand(dice, dice.mask(dice.among([129, 150]), 8), s)
+            cases.append(case_of(dice, COMPOSITION, a, rank_operand(dice, a, WORDS, 8, t)))
+            a = words_operand(dice, exactly(dice, 1200, 70), s)
+            cases.append(case_of(dice, COMPOSITION, a, rank_operand(dice, a, WORDS, 8, t)))
+    return cases
+
+
+def full_and_empty_compositions(dice):
+    """By count, in every form."""
+    kinds = [(ALL, 0), (NONE, 0)] + [(form, sixteenths) for form in (WORDS, LIST) for sixteenths in (0, 8, 16)]
+    cases = []
+    for form, x in kinds:
+        for rank_form, y in kinds:
+            a = operand_in(dice, form, dice.mask(dice.among([64, 100]), x), dice.among(STARTS))
+            cases.append(case_of(dice, COMPOSITION, a, rank_operand(dice, a, rank_form, y, dice.among(STARTS))))
+    return cases
+
+
+def around_a_sixteenth(dice):
+    """16 x self count below self length, equal to it, and above."""
+    cases = []
+    for length in (159, 160, 161):
+        for count in (9, 10, 11):
+            for form in (WORDS, LIST):
+                a = words_operand(dice, exactly(dice, length, count), dice.among(STARTS))
+                b = operand_in(dice, form, exactly(dice, count, 4), dice.among(STARTS))
+                cases.append(case_of(dice, COMPOSITION, a, b))
+    return cases
+
+
+def around_a_thirty_second(dice):
+    """32 x rank count below rank length, equal to it, and above; self on either side of its sixteenth."""
+    cases = []
+    for length in (63, 64, 65):
+        for count in (1, 2, 3):
+            for form in (WORDS, LIST):
+                for rows in (200, 1100):
+                    a = words_operand(dice, exactly(dice, rows, length), dice.among(STARTS))
+                    b = operand_in(dice, form, exactly(dice, length, count), dice.among(STARTS))
+                    cases.append(case_of(dice, COMPOSITION, a, b))
+    return cases
+
+
+def compositions_refused(dice):
+    """The other operand is right, in every form."""
+    cases = []
+    for form in FORMS:
+        for bad in bad_operands(dice):
+            right = operand_in(dice, form, dice.mask(70, 8), dice.among(STARTS))
+            cases.append(Case(COMPOSITION, bad, right, output(dice, 2)))
+            cases.append(Case(COMPOSITION, right, bad, output(dice, 2)))
+    return cases
+
+
+def wrong_rank_lengths(dice):
+    """A rank mask by one too short or too long, of no rows, or as long as self."""
+    cases = []
+    for form in FORMS:
+        a = operand_in(dice, form, dice.mask(100, 8), dice.among(STARTS))
+        count = count_of(a)
+        for length in sorted({count - 1, count + 1, 0, 100} - {count, -1}):
+            for rank_form in FORMS:
+                b = operand_in(dice, rank_form, dice.mask(length, 8), dice.among(STARTS))
+                # Nowhere to write: 7 comes before 8.
+                cases.append(Case(COMPOSITION, a, b, dice.among([output(dice, 3), []])))
+    return cases
+
+
+def rooms_of_compositions(dice):
+    cases = []
+    for form in FORMS:
+        for rank_form in (WORDS, LIST):
+            for length in (1, 64, 65, 150):
+                a = operand_in(dice, form, dice.mask(length, 8), dice.among(STARTS))
+                cases += rooms(dice, COMPOSITION, a, rank_operand(dice, a, rank_form, 8, dice.among(STARTS)))
+    return cases
+
+
+def viewed(words, start, length):
+    lent = words[: words_for(start + length)]
+    return Operand(WORDS, length, start, sum(in_view(lent, start, length)), lent)
+
+
+def holed(dice, length, start):
+    """All ones, a few words of anything, then no rows."""
+    size = words_for(start + length)
+    ones = size // 2
+    return viewed([FULL] * ones + dice.words(5) + [0] * (size - ones - 5), start, length)
+
+
+def compositions_at_the_limit(dice):
+    """A block on every route. Few runs each: words that are all alike, or that rise, or a rank mask of two plain halves."""
+    size = words_for(LIMIT)
+    full, risen = Operand(ALL, LIMIT), viewed(rising(size + 1), 1, LIMIT)
+    half = risen.claimed
+    listed = Operand(LIST, LIMIT, rows=[63 + 64 * i for i in range(4096)])
+    # 2, 4 and 16 rows in each 64: below a sixteenth, a sixteenth, above.
+    two = viewed([0x0000400000000002] * (size + 1), 63, LIMIT)
+    four = viewed([0x8000100000400001] * (size + 1), 7, LIMIT)
+    sixteen = viewed([0x8421842184218421] * (size + 1), 5, LIMIT)
+    spots = [0, 1, half // 3, half - 2, half - 1]
+    few = [0] * words_for(half + 3)
+    for rank in spots:
+        few[(rank + 3) // 64] += 2 ** ((rank + 3) % 64)
+    pairs = [
+        (full, risen),
+        (viewed([FULL] * (size + 1), 17, LIMIT), listed),
+        (risen, Operand(ALL, half)),
+        (listed, viewed([FULL] * 65, 1, 4096)),
+        (Operand(NONE, LIMIT), unused()),
+        (risen, Operand(LIST, half)),
+        (listed, Operand(LIST, 4096, rows=range(0, 4096, 2))),
+        (listed, viewed([0xAAAAAAAAAAAAAAAA] * 65, 1, 4096)),
+        (risen, Operand(LIST, half, rows=spots)),
+        (risen, viewed(few, 3, half)),
+        (four, Operand(LIST, four.claimed, rows=range(30001, 30001 + 4096))),
+        (two, Operand(LIST, two.claimed, rows=range(10001, 10001 + 4096))),
+        (risen, holed(dice, half, 17)),
+        (sixteen, viewed([0xB3C5B3C5B3C5B3C5] * 4097, 3, sixteen.claimed)),
+        (four, holed(dice, four.claimed, 0)),
+        (two, viewed([0xAAAAAAAAAAAAAAAA] * 513, 1, two.claimed)),
+        (two, holed(dice, two.claimed, 63)),
+    ]
+    cases = [Case(COMPOSITION, first, second, [FULL] * (size + 2)) for first, second in pairs]
+    cases.append(Case(COMPOSITION, full, full, [FULL] * size))
+    cases.append(Case(COMPOSITION, full, full, [FULL] * (size - 1)))
+    return cases
+
+
+def bits(text):
+    return [character == "1" for character in text]
+
+
+def examples(dice):
+    """E11, the program's masks, both as words; and both masks of length 0."""
+    a, b = (Operand(WORDS, len(mask), 0, sum(mask), as_words(mask)) for mask in (bits("01101011"), bits("10010")))
+    program = Case(COMPOSITION, a, b, [FULL])
+    assert answer_to(program) == Answer(0, 0, 2, 9, 2 / 8, as_words(bits("01000010")))
+    cases = [program]
+    for form in FORMS:
+        for rank_form in FORMS:
+            cases.append(Case(COMPOSITION, Operand(form, 0), Operand(rank_form, 0), []))
+            assert answer_to(cases[-1]) == Answer(0, 0, 0, 3, 0.0, [])
+    return cases
+
+
+def random_compositions(dice, how_many):
+    cases = []
+    for _ in range(how_many):
+        first, kind = random_operand(dice), random_operand(dice)
+        second = rank_operand(dice, first, kind.form, dice.among([0, 1, 1, 8, 15, 16]), dice.below(64))
+        if dice.below(15) == 0:
+            second = kind
+        room = dice.among([0, 0, 0, 1, 5, -1])
+        cases.append(case_of(dice, COMPOSITION, spoilt(dice, first), spoilt(dice, second), room))
+    return cases
+
+
+def compositions(dice):
+    cases = examples(dice)
+    cases += compositions_at_small_lengths(dice)
+    cases += compositions_at_every_start(dice)
+    cases += full_and_empty_compositions(dice)
+    cases += around_a_sixteenth(dice)
+    cases += around_a_thirty_second(dice)
+    cases += compositions_refused(dice)
+    cases += two_bad_operands(dice, (COMPOSITION,))
+    cases += wrong_rank_lengths(dice)
+    cases += rooms_of_compositions(dice)
+    cases += compositions_at_the_limit(dice)
+    cases += random_compositions(dice, 120)
+    return cases
+
+
 def hold(answered):
-    """Every refusal that a pair of operands can meet is recorded, for each operand that it can name."""
+    """Every route is recorded, a block on each, and every refusal for each operand that it can name."""
+    accepted = [(case, answer) for case, answer in answered if case.operation == COMPOSITION and answer.refusal == 0]
+    routes = Counter(answer.route for _, answer in accepted)
+    blocks = Counter(answer.route for case, answer in accepted if case.first.length == LIMIT)
     refusals = Counter((answer.refusal, answer.operand) for _, answer in answered)
+    for route in range(1, 11):
+        assert routes[route] >= 5 and blocks[route] >= 1, route
     for operand in (1, 2):
-        for number in (1, 2, 3, 4, 12):
+        for number in (1, 2, 3, 4, 5, 6, 12):
             assert refusals[number, operand] >= 5, (number, operand)
     for number in (0, 7, 8):
         assert refusals[number, 0] >= 5, number
 
 
 def main():
-    cases = set_operations(Dice(30))
+    cases = set_operations(Dice(30)) + compositions(Dice(31))
     answered = [(case, answer_to(case)) for case in cases]
     hold(answered)
     write_cases(sys.argv[1], answered, lines_of)

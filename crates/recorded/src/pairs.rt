@@ -1,4 +1,4 @@
-// A case of the set operations: scripts/pairs.py says how it is told.
+// A case of the set operations or of composition: scripts/pairs.py says how it is told.
 use super::answer::Outcome;
 use super::answer::finding_of;
 use super::answer::outcome_of;
@@ -11,12 +11,12 @@ use super::reader::if_held;
 use mask::Answer;
 use mask::Form;
 
-// The operations are and, or, and-not and not, from 1 on. Any other is malformed.
+// The operations are and, or, and-not, not and composition, from 1 on. Any other is malformed.
 fn read_operation(text: &[u8], cursor: Cursor) -> Number {
     let operation = read_number(text, cursor);
     let value = operation.value;
     let next = match value {
-        1..=4 => operation.next,
+        1..=5 => operation.next,
         _ => if_held(operation.next, false),
     };
     Number { value, next }
@@ -36,7 +36,8 @@ fn operate(
         1 => bitops::and(a, awords, arows, b, bwords, brows, out),
         2 => bitops::or(a, awords, arows, b, bwords, brows, out),
         3 => bitops::and_not(a, awords, arows, b, bwords, brows, out),
-        _ => bitops::not(a, awords, arows, out),
+        4 => bitops::not(a, awords, arows, out),
+        _ => intersect_by_rank::intersect_by_rank(a, awords, arows, b, bwords, brows, out),
     }
 }
 
