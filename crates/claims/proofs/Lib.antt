@@ -1,3 +1,4 @@
 pub mod Composition
+pub mod Examples
 pub mod Once
 pub mod SetOperations
