@@ -13,7 +13,7 @@ use Rattle.mask.specs.declared.Answer.{Answer}
 use Rattle.mask.specs.declared.Form.{Form}
 use Rattle.mask.specs.Operand.{rowsOf, lengthOf, countOf, operandChecks, Accepted}
 use Rattle.mask.specs.Answer.{answered}
-use Rattle.intersect_by_rank.specs.declared.route.Factors.{Factors}
+use Rattle.intersect_by_rank.specs.declared.Factors.{Factors}
 use Rattle.intersect_by_rank.specs.Route.{routeOf, numberOf}
 
 -- both operands are accepted, and the rank mask is as long as self has set rows
@@ -22,14 +22,20 @@ pub record Paired (s : Form) (sws ses : List ℕ) (r : Form) (rws res : List ℕ
   pub rank : Accepted r rws res
   pub ranks : lengthOf r ≡ countOf s ses
 
--- the checks, for an output of `room` words: each operand's, then 7, the rank mask's length is not self's count, then 8, the output is
--- shorter than the result
-abbrev pub composeChecks : Form → List ℕ → List ℕ → Form → List ℕ → List ℕ → ℕ → List Line
-composeChecks s sws ses r rws res room =
+-- the checks of the pair: each operand's, then 7, the rank mask's length is not self's count
+abbrev pub pairChecks : Form → List ℕ → List ℕ → Form → List ℕ → List ℕ → List Line
+pairChecks s sws ses r rws res =
     inOrder
     (operandChecks 1 s sws ses
     ∷ operandChecks 2 r rws res
     ∷ (need (ℕ-discrete (lengthOf r) (countOf s ses)) 7 0 ∷ [])
+    ∷ [])
+
+-- the checks, for an output of `room` words: the pair's, then 8, the output is shorter than the result
+abbrev pub composeChecks : Form → List ℕ → List ℕ → Form → List ℕ → List ℕ → ℕ → List Line
+composeChecks s sws ses r rws res room =
+    inOrder
+    (pairChecks s sws ses r rws res
     ∷ (need (decLe (wordsFor (lengthOf s)) room) 8 0 ∷ [])
     ∷ [])
 

@@ -10,7 +10,7 @@ use Rattle.mask.specs.declared.Form.{Form}
 use Rattle.mask.specs.Operand.{lengthOf, countOf, empty, full, isList}
 use Rattle.intersect_by_rank.specs.declared.deposit.Way.{Way}
 use Rattle.intersect_by_rank.specs.declared.deposit.Way.the-variants.{Network, Loop}
-use Rattle.intersect_by_rank.specs.declared.route.Factors.{Factors}
+use Rattle.intersect_by_rank.specs.declared.Factors.{Factors}
 use Rattle.intersect_by_rank.specs.declared.route.Route.{Route}
 use Rattle.intersect_by_rank.specs.declared.route.Route.the-variants.{RankMask, SelfMask, NoRows, EntryAtRank, EntryIfSet, MaskDriven, Gathered, Read}
 

@@ -1,16 +1,18 @@
-// What the composer calls too: a composition laid over the output from any bit on, by a route of the table; and a whole composition with the
-// factors handed in.
+// What the composer calls too: the checks of a pair, and a composition laid over the output from any bit on, by a route of the table; and a
+// whole composition with the factors handed in.
 ghost use mathlib.Core.Path.{_≡_};
 ghost use Prim.Native.Nat.{_+_, _*_, _^_, _≤_, _<_};
 ghost use lib.ListN.{length};
 ghost use denote.Ref.{now};
 ghost use Rattle.rows.specs.Laid.{laid, wordsFor, written};
+ghost use Rattle.rows.specs.Table.{first};
 ghost use Rattle.rows.specs.declared.Verdict.the-variants.{Fine};
 ghost use Rattle.mask.specs.Operand.{lengthOf};
 ghost use Rattle.mask.specs.Answer.{answered};
 ghost use Rattle.intersect_by_rank.specs.declared.route.Route.the-variants.{MaskDriven};
-ghost use Rattle.intersect_by_rank.specs.Route.{Fits, routeOf, numberOf};
-ghost use Rattle.intersect_by_rank.specs.Compose.{Paired, result, composed, composedOut};
+ghost use Rattle.intersect_by_rank.specs.Route.{Fits, routeOf, numberOf, published};
+ghost use Rattle.intersect_by_rank.specs.Compose.{Paired, pairChecks, result, composed, composedOut};
+use super::Factors;
 use super::deposit::intersect_bit_buffer_by_rank_indices;
 use super::deposit::intersect_bit_buffers;
 use super::judge::judge;
@@ -18,7 +20,6 @@ use super::lay::lay_driven_by_list;
 use super::lay::lay_driven_by_words;
 use super::lay::lay_entry_at_rank;
 use super::lay::lay_entry_if_set;
-use super::route::Factors;
 use super::route::Route;
 use super::route::choose_route;
 use super::route::number;
@@ -27,12 +28,15 @@ use lent::inner::clear_last;
 use mask::Answer;
 use mask::Form;
 use mask::inner::accepted;
+use mask::inner::check;
 use mask::inner::count_of;
+use mask::inner::equal;
 use mask::inner::is_list;
 use mask::inner::lay_rows;
 use mask::inner::length_of;
 use mask::inner::refused;
 use mask::inner::start_of;
+use mask::inner::then;
 use rows::Verdict;
 
 // Route 6, for either form of the rank mask.
@@ -107,7 +111,29 @@ pub fn compose_at(
     }
 }
 
-// The route is computed once, taken and told. As many rows are set as the rank mask sets.
+// The composition of two accepted operands laid from bit at on, and its answer. The route is computed once, taken and told; as many
+// rows are set as the rank mask sets.
+pub fn lay_composition(
+    factors: Factors,
+    s: Form,
+    swords: &[u64],
+    srows: &[u32],
+    r: Form,
+    rwords: &[u64],
+    rrows: &[u32],
+    at: u64,
+    out: &mut [u64],
+) -> Answer
+    requires { ⌜ Paired s (now swords) (now srows) r (now rwords) (now rrows) × (at + lengthOf s ≤ length (now out) * 64) × (at + lengthOf s < 2 ^ 64) ⌝ }
+    ensures { λ a. ⌜ (a ≡ answered Fine (result s (now (swords .entry)) (now (srows .entry)) r (now (rwords .entry)) (now (rrows .entry))) (numberOf (routeOf factors s (now (srows .entry)) r (now (rrows .entry)))))
+        × (now (out .exit) ≡ laid at (result s (now (swords .entry)) (now (srows .entry)) r (now (rwords .entry)) (now (rrows .entry))) (now (out .entry))) ⌝ }
+{
+    let route = choose_route(factors, s, srows, r, rrows);
+    compose_at(route, s, swords, srows, r, rwords, rrows, at, out);
+    accepted(count_of(r, rrows), number(route), length_of(s))
+}
+
+// The same as whole words from the start on.
 fn compose_accepted(
     factors: Factors,
     s: Form,
@@ -122,11 +148,36 @@ fn compose_accepted(
     ensures { λ a. ⌜ (a ≡ answered Fine (result s (now (swords .entry)) (now (srows .entry)) r (now (rwords .entry)) (now (rrows .entry))) (numberOf (routeOf factors s (now (srows .entry)) r (now (rrows .entry)))))
         × (now (out .exit) ≡ written (lengthOf s) (result s (now (swords .entry)) (now (srows .entry)) r (now (rwords .entry)) (now (rrows .entry))) (now (out .entry))) ⌝ }
 {
-    let route = choose_route(factors, s, srows, r, rrows);
-    let len = length_of(s);
-    clear_last(out, len);
-    compose_at(route, s, swords, srows, r, rwords, rrows, 0, out);
-    accepted(count_of(r, rrows), number(route), len)
+    clear_last(out, length_of(s));
+    lay_composition(factors, s, swords, srows, r, rwords, rrows, 0, out)
+}
+
+// Document 01's factors.
+pub fn document_factors() -> Factors
+    ensures { λ k. ⌜ k ≡ published ⌝ }
+{
+    Factors {
+        sparse: 16,
+        driven: 32,
+    }
+}
+
+// The checks of two operands as a pair: self is operand 1 and the rank mask operand 2; the first part of the table that refuses is the
+// verdict.
+pub fn judge_pair(
+    s: Form,
+    swords: &[u64],
+    srows: &[u32],
+    r: Form,
+    rwords: &[u64],
+    rrows: &[u32],
+) -> Verdict
+    ensures { λ v. ⌜ v ≡ first (pairChecks s (now (swords .entry)) (now (srows .entry)) r (now (rwords .entry)) (now (rrows .entry))) ⌝ }
+{
+    let one = check(1, s, swords, srows);
+    let two = check(2, r, rwords, rrows);
+    let ranks = equal(length_of(r), count_of(s, srows));
+    then(one, then(two, ranks))
 }
 
 // With any factors: they decide the route and nothing else.

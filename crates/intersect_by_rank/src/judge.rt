@@ -3,17 +3,15 @@ ghost use mathlib.Core.Path.{_≡_};
 ghost use denote.Ref.{now};
 ghost use Rattle.rows.specs.Table.{first};
 ghost use Rattle.intersect_by_rank.specs.Compose.{composeChecks};
+use super::inner::judge_pair;
 use lent::inner::words_for;
 use mask::Form;
-use mask::inner::check;
-use mask::inner::count_of;
-use mask::inner::equal;
 use mask::inner::has_room;
 use mask::inner::length_of;
 use mask::inner::then;
 use rows::Verdict;
 
-// Self is operand 1 and the rank mask operand 2.
+// The pair's checks, and then that the result has room.
 pub fn judge(
     s: Form,
     swords: &[u64],
@@ -25,9 +23,7 @@ pub fn judge(
 ) -> Verdict
     ensures { λ v. ⌜ v ≡ first (composeChecks s (now (swords .entry)) (now (srows .entry)) r (now (rwords .entry)) (now (rrows .entry)) room) ⌝ }
 {
-    let one = check(1, s, swords, srows);
-    let two = check(2, r, rwords, rrows);
-    let ranks = equal(length_of(r), count_of(s, srows));
+    let pair = judge_pair(s, swords, srows, r, rwords, rrows);
     let space = has_room(words_for(length_of(s)), room);
-    then(one, then(two, then(ranks, space)))
+    then(pair, space)
 }

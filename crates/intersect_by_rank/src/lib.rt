@@ -4,9 +4,9 @@ ghost use denote.Ref.{now};
 ghost use Rattle.intersect_by_rank.specs.Route.{published};
 ghost use Rattle.intersect_by_rank.specs.Compose.{composed, composedOut};
 use inner::compose_with;
+use inner::document_factors;
 use mask::Answer;
 use mask::Form;
-use route::Factors;
 
 mod deposit;
 mod driven;
@@ -15,6 +15,12 @@ mod judge;
 mod lay;
 mod lists;
 mod route;
+
+// What the counts are multiplied by before they are held against the lengths: 16 for the loop form, 32 for mask-driven.
+pub struct Factors {
+    pub sparse: u32,
+    pub driven: u32,
+}
 
 // The rows of self whose ranks the rank mask sets, as words. s is self and r the rank mask, each with what is lent beside it.
 pub fn intersect_by_rank(
@@ -29,9 +35,5 @@ pub fn intersect_by_rank(
     ensures { λ a. ⌜ (a ≡ composed published s (now (swords .entry)) (now (srows .entry)) r (now (rwords .entry)) (now (rrows .entry)) (now (out .entry)))
         × (now (out .exit) ≡ composedOut s (now (swords .entry)) (now (srows .entry)) r (now (rwords .entry)) (now (rrows .entry)) (now (out .entry))) ⌝ }
 {
-    let factors = Factors {
-        sparse: 16,
-        driven: 32,
-    };
-    compose_with(factors, s, swords, srows, r, rwords, rrows, out)
+    compose_with(document_factors(), s, swords, srows, r, rwords, rrows, out)
 }

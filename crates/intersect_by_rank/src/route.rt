@@ -6,6 +6,7 @@ ghost use lib.Dec.{ltb};
 ghost use denote.Ref.{now};
 ghost use Rattle.mask.specs.Operand.{lengthOf, countOf, isList};
 ghost use Rattle.intersect_by_rank.specs.Route.{wayOf, routeOf, numberOf};
+use super::Factors;
 use super::deposit::Way;
 use mask::Form;
 use mask::inner::count_of;
@@ -13,12 +14,6 @@ use mask::inner::is_empty;
 use mask::inner::is_full;
 use mask::inner::is_list;
 use mask::inner::length_of;
-
-// What the counts are multiplied by before they are held against the lengths: 16 for the loop form, 32 for mask-driven.
-pub struct Factors {
-    pub sparse: u32,
-    pub driven: u32,
-}
 
 // The ways of the table, as its last column names them.
 pub enum Route {

@@ -16,7 +16,7 @@ use Rattle.rows.specs.declared.Verdict.the-variants.{Fine, Refused}
 use Rattle.rows.specs.Rows.{count}
 use Rattle.rows.specs.Words.{view}
 use Rattle.rows.specs.Laid.{wordsFor}
-use Rattle.rows.specs.Table.{Line, First, Met, Numbered, first, need, refusal, told, ifFine}
+use Rattle.rows.specs.Table.{Line, First, Met, Numbered, first, inOrder, need, refusal, told, ifFine}
 use Rattle.rows.proofs.TableLaws.{told-exactly, accepts-exactly, met-append}
 use Rattle.mask.specs.declared.Answer.{Answer}
 use Rattle.mask.specs.declared.Form.{Form}
@@ -137,6 +137,31 @@ refuses-parts ls ms ns r = (λ h. to (first-parts ls (ms ++ ns) (Refused r) h), 
     from (inl h) = first-left ls (ms ++ ns) r h
     from (inr (inl (m, h))) = first-right ls (ms ++ ns) (Refused r) m (first-left ms ns r h)
     from (inr (inr (m, o, h))) = first-right ls (ms ++ ns) (Refused r) m (first-right ms ns (Refused r) o h)
+
+-- the same of any number of tables in order: the first's, or what the rest tell where the first has nothing to say
+pub parts-refuses : (t : List Line) (ts : List (List Line)) (r : Refusal) → First (inOrder (t ∷ ts)) (Refused r) ↔ (First t (Refused r) ⊎ (Met t × First (inOrder ts) (Refused r)))
+unfolding inOrder
+parts-refuses t ts r = (λ h. to (first-parts t (inOrder ts) (Refused r) h), from)
+  where
+    to : (Met t × First (inOrder ts) (Refused r)) ⊎ (First t (Refused r) × (Refused r ≢ Fine)) → First t (Refused r) ⊎ (Met t × First (inOrder ts) (Refused r))
+    to (inl p) = inr p
+    to (inr p) = inl (p .0)
+
+    from : First t (Refused r) ⊎ (Met t × First (inOrder ts) (Refused r)) → First (t ++ inOrder ts) (Refused r)
+    from (inl h) = first-left t (inOrder ts) r h
+    from (inr h) = first-right t (inOrder ts) (Refused r) (h .0) (h .1)
+
+pub none-refuse {ℓ} : {X : Type ℓ} (r : Refusal) → First (inOrder []) (Refused r) → X
+unfolding inOrder
+none-refuse r h = never h
+
+-- a table of one line
+pub line-refuses : {A : Type 0} (d : Dec A) (m k n j : ℕ) → First (need d m k ∷ []) (Refused (refusal n j)) ↔ ((n ≡ m) × (j ≡ k) × (¬ A))
+line-refuses {A} d m k n j = (to, λ t. inr (t .2, same (t .0) (t .1)))
+  where
+    to : First (need d m k ∷ []) (Refused (refusal n j)) → (n ≡ m) × (j ≡ k) × (¬ A)
+    to (inl h) = never (h .1)
+    to (inr h) = (number (h .1), names (h .1), h .0)
 
 pub numbered-append : (ls ms : List Line) → Numbered ls → Numbered ms → Numbered (ls ++ ms)
 numbered-append [] ms a b = b

@@ -1,28 +1,24 @@
--- `intersect_by_rank::judge::judge` meets its contract: the first part of the table that refuses is told.
--- By the law of parts in order, whatever their order is. Assumes nothing.
-use mathlib.Core.Path.{_∙_}
+-- `intersect_by_rank::judge::judge` meets its contract: the pair's refusal is told, and else that of the room.
+-- By the law of parts in order. Assumes nothing.
+use mathlib.Core.Path.{sym, ap, _∙_}
+use mathlib.Core.List.{List, [], _∷_}
+use native.Mathlib.Decide.{decLe}
+use denote.Ref.{now}
+use Rattle.rows.specs.declared.Verdict.{Verdict}
+use Rattle.rows.specs.Laid.{wordsFor}
+use Rattle.rows.specs.Table.{Line, first, need, ifFine}
 use Rattle.rows.proofs.TableLaws.{parts-first, parts-last}
+use Rattle.mask.specs.Operand.{lengthOf}
+use Rattle.intersect_by_rank.specs.Compose.{pairChecks}
 use borrow.Author.Needs.{needs}
 use Rattle.intersect_by_rank.proofs.judge.judge.Statement.{statement}
 use Rattle.intersect_by_rank.proofs.judge.judge.Tie as tie
 
-check-requires : tie.Need-check-requires
-check-requires c κs = search needs
-
-check-requires-2 : tie.Need-check-requires-2
-check-requires-2 c κs = search needs
+judge-pair-requires : tie.Need-judge-pair-requires
+judge-pair-requires c κs = search needs
 
 length-of-requires : tie.Need-length-of-requires
 length-of-requires c κs = search needs
-
-count-of-requires : tie.Need-count-of-requires
-count-of-requires c κs = search needs
-
-equal-requires : tie.Need-equal-requires
-equal-requires c κs = search needs
-
-length-of-requires-2 : tie.Need-length-of-requires-2
-length-of-requires-2 c κs = search needs
 
 words-for-requires : tie.Need-words-for-requires
 words-for-requires c κs = search needs
@@ -33,30 +29,22 @@ has-room-requires c κs = search needs
 then-requires : tie.Need-then-requires
 then-requires c κs = search needs
 
-then-requires-2 : tie.Need-then-requires-2
-then-requires-2 c κs = search needs
-
-then-requires-3 : tie.Need-then-requires-3
-then-requires-3 c κs = search needs
-
 returns : tie.Need-returns
 returns c =
-    c .then3 .ensures
-    ∙ rw (c .before .then2 .ensures, c .before .before .then .ensures, c .before .before .before .has-room .ensures, c .before .before .before .before .words-for .ensures, c .before .before .before .before .before .length-of2 .ensures, c .before .before .before .before .before .before .equal .ensures, c .before .before .before .before .before .before .before .count-of .ensures, c .before .before .before .before .before .before .before .before .length-of .ensures, c .before .before .before .before .before .before .before .before .before .check2 .ensures, c .before .before .before .before .before .before .before .before .before .before .check .ensures, parts-first, parts-first, parts-first, parts-last)
+    let a = (c .before .before .before .before .before .before .before .before .before) .args in
+    let pair : List Line = pairChecks (a .s) (now (a .swords)) (now (a .srows)) (a .r) (now (a .rwords)) (now (a .rrows)) in
+    let space : List Line = need (decLe (wordsFor (lengthOf (a .s))) (a .room)) 8 0 ∷ [] in
+    c .then .ensures
+    ∙ rw (c .before .has-room .ensures, c .before .before .words-for .ensures, c .before .before .before .length-of .ensures, c .before .before .before .before .judge-pair .ensures)
+    (sym (parts-first pair space [] ∙ ap (λ (v : Verdict). ifFine (first pair) v (first pair)) (parts-last space)))
 
 pub judge-spec : {M : Type 1} → statement M
 judge-spec =
     tie.close
     (tie.spec
-    check-requires
-    check-requires-2
+    judge-pair-requires
     length-of-requires
-    count-of-requires
-    equal-requires
-    length-of-requires-2
     words-for-requires
     has-room-requires
     then-requires
-    then-requires-2
-    then-requires-3
     returns)
