@@ -60,14 +60,21 @@ pub fn judge(form: Form, words: &[u64], rows: &[u32], needed: u64, room: u64) ->
     }
 }
 
+// A number that is over what an operation's table allows: the refusal's number is told, and no operand.
+pub fn at_most(number: u8, a: u64, most: u64) -> Verdict
+    ensures { λ r. ⌜ r ≡ first (need (decLe a most) number 0 ∷ []) ⌝ }
+{
+    if most < a {
+        return refuse(number, 0);
+    }
+    Verdict::Fine
+}
+
 // The output is no shorter than what is needed.
 pub fn has_room(needed: u64, room: u64) -> Verdict
     ensures { λ r. ⌜ r ≡ first (need (decLe needed room) 8 0 ∷ []) ⌝ }
 {
-    if room < needed {
-        return refuse(8, 0);
-    }
-    Verdict::Fine
+    at_most(8, needed, room)
 }
 
 // Two numbers that an operation's table has equal: 7 where they differ.

@@ -1,0 +1,54 @@
+// The checks of a feed, part by part as its table has them; the first part that refuses is the verdict.
+ghost use mathlib.Core.Path.{_≡_};
+ghost use denote.Ref.{now};
+ghost use Rattle.rows.specs.Table.{first};
+ghost use Rattle.composer.specs.Stream.{lent, pairOf, stateChecks, endChecks, judged};
+use super::Composer;
+use super::State;
+use intersect_by_rank::inner::judge_pair;
+use lent::inner::words_for;
+use mask::Form;
+use mask::inner::at_most;
+use mask::inner::has_room;
+use mask::inner::length_of;
+use mask::inner::then;
+use rows::Verdict;
+
+// The state is within refusal 10's bound.
+fn judge_state(state: State) -> Verdict
+    ensures { λ v. ⌜ v ≡ first (stateChecks state) ⌝ }
+{
+    let kept = at_most(10, state.kept, state.ranks.0);
+    let ranks = at_most(10, state.ranks.0, state.done.0);
+    let done = at_most(10, state.done.0, Composer::ROW_LIMIT);
+    then(kept, then(ranks, done))
+}
+
+// Where the piece would end, its last row's place and one: within the limit, and within the output.
+fn judge_end(end: u64, room: u64) -> Verdict
+    ensures { λ v. ⌜ v ≡ first (endChecks end room) ⌝ }
+{
+    let limit = at_most(11, end, Composer::ROW_LIMIT);
+    let space = has_room(words_for(end), room);
+    then(limit, space)
+}
+
+// The end is computed only where the state and the piece are within their limits: their sum does not wrap.
+pub fn judge(
+    state: State,
+    s: Form,
+    swords: &[u64],
+    srows: &[u32],
+    r: Form,
+    rwords: &[u64],
+    rrows: &[u32],
+    room: u64,
+) -> Verdict
+    ensures { λ v. ⌜ v ≡ judged state (pairOf (lent s (now (swords .entry)) (now (srows .entry))) (lent r (now (rwords .entry)) (now (rrows .entry)))) room ⌝ }
+{
+    let before = then(judge_state(state), judge_pair(s, swords, srows, r, rwords, rrows));
+    match before {
+        Verdict::Refused(refusal) => Verdict::Refused(refusal),
+        Verdict::Fine => judge_end(state.done.0 + length_of(s), room),
+    }
+}

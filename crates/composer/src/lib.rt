@@ -1,0 +1,70 @@
+// The stream composer: self and the rank mask in pieces, laid back piece by piece onto one output. Document 01, part 9.
+ghost use mathlib.Core.Path.{_≡_};
+ghost use denote.Ref.{now};
+ghost use Rattle.composer.specs.Stream.{lent, pairOf, fresh, fed, fedOut};
+use judge::judge;
+use mask::Answer;
+use mask::Form;
+use mask::inner::refused;
+use rows::Rank;
+use rows::Row;
+use rows::Verdict;
+use step::step;
+
+mod judge;
+mod step;
+
+// A stream's state: the rows fed, the ranks fed, which are the set rows among them, and how many rows were kept. The rows fed are the
+// next piece's first row, and the ranks fed its first rank; kept is a count and stands for neither.
+pub struct State {
+    pub done: Row,
+    pub ranks: Rank,
+    pub kept: u64,
+}
+
+// What a feed gives: its answer, and the state to hand to the next feed.
+pub struct Fed {
+    pub answer: Answer,
+    pub state: State,
+}
+
+// The composer itself: how many rows a stream may have, and the state of a stream that was fed nothing.
+pub struct Composer;
+
+impl Composer {
+    pub const ROW_LIMIT: u64 = 1_048_576;
+
+    pub fn fresh() -> State
+        ensures { λ st. ⌜ st ≡ fresh ⌝ }
+    {
+        State {
+            done: Row(0),
+            ranks: Rank(0),
+            kept: 0,
+        }
+    }
+}
+
+// One feed: a piece of self and a piece of the rank mask, as long as self's piece has set rows, composed and laid onto the output from
+// the first row not fed on. s is self's piece and r the rank mask's, each with what is lent beside it.
+pub fn feed(
+    state: State,
+    s: Form,
+    swords: &[u64],
+    srows: &[u32],
+    r: Form,
+    rwords: &[u64],
+    rrows: &[u32],
+    out: &mut [u64],
+) -> Fed
+    ensures { λ f. ⌜ (f ≡ fed state (pairOf (lent s (now (swords .entry)) (now (srows .entry))) (lent r (now (rwords .entry)) (now (rrows .entry)))) (now (out .entry)))
+        × (now (out .exit) ≡ fedOut state (pairOf (lent s (now (swords .entry)) (now (srows .entry))) (lent r (now (rwords .entry)) (now (rrows .entry)))) (now (out .entry))) ⌝ }
+{
+    match judge(state, s, swords, srows, r, rwords, rrows, out.len() as u64) {
+        Verdict::Refused(refusal) => Fed {
+            answer: refused(refusal),
+            state,
+        },
+        Verdict::Fine => step(state, s, swords, srows, r, rwords, rrows, out),
+    }
+}

@@ -1,0 +1,57 @@
+// An accepted feed: the piece composed and laid from the first row not fed on, and the state moved past it.
+ghost use mathlib.Core.Path.{_≡_};
+ghost use Prim.Native.Nat.{_+_, _≤_};
+ghost use lib.ListN.{length};
+ghost use denote.Ref.{now};
+ghost use Rattle.rows.specs.declared.Verdict.the-variants.{Fine};
+ghost use Rattle.mask.specs.Operand.{limit};
+ghost use Rattle.composer.specs.Stream.{lent, pairOf, stateOf, judged, fedBy, outBy};
+use super::Fed;
+use super::State;
+use intersect_by_rank::inner::document_factors;
+use intersect_by_rank::inner::lay_composition;
+use mask::Form;
+use mask::inner::count_of;
+use mask::inner::length_of;
+use rows::Rank;
+use rows::Row;
+
+// The state past so many rows more, so many of them set, and so many of those kept.
+fn moved(state: State, rows: Row, ranks: Rank, kept: u64) -> State
+    requires { ⌜ (state .done .0 + rows .0 ≤ limit) × (state .ranks .0 + ranks .0 ≤ limit) × (state .kept + kept ≤ limit) ⌝ }
+    ensures { λ st. ⌜ st ≡ stateOf (state .done .0 + rows .0) (state .ranks .0 + ranks .0) (state .kept + kept) ⌝ }
+{
+    let done = state.done.0 + rows.0;
+    let passed = state.ranks.0 + ranks.0;
+    State {
+        done: Row(done),
+        ranks: Rank(passed),
+        kept: state.kept + kept,
+    }
+}
+
+pub fn step(
+    state: State,
+    s: Form,
+    swords: &[u64],
+    srows: &[u32],
+    r: Form,
+    rwords: &[u64],
+    rrows: &[u32],
+    out: &mut [u64],
+) -> Fed
+    requires { ⌜ judged state (pairOf (lent s (now swords) (now srows)) (lent r (now rwords) (now rrows))) (length (now out)) ≡ Fine ⌝ }
+    ensures { λ f. ⌜ (f ≡ fedBy Fine state (pairOf (lent s (now (swords .entry)) (now (srows .entry))) (lent r (now (rwords .entry)) (now (rrows .entry)))))
+        × (now (out .exit) ≡ outBy Fine state (pairOf (lent s (now (swords .entry)) (now (srows .entry))) (lent r (now (rwords .entry)) (now (rrows .entry)))) (now (out .entry))) ⌝ }
+{
+    let at = state.done.0;
+    let factors = document_factors();
+    let answer = lay_composition(factors, s, swords, srows, r, rwords, rrows, at, out);
+    let rows = Row(length_of(s));
+    let ranks = Rank(count_of(s, srows));
+    let next = moved(state, rows, ranks, answer.summary.count);
+    Fed {
+        answer,
+        state: next,
+    }
+}
