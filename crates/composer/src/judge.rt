@@ -46,7 +46,10 @@ pub fn judge(
 ) -> Verdict
     ensures { λ v. ⌜ v ≡ judged state (pairOf (lent s (now (swords .entry)) (now (srows .entry))) (lent r (now (rwords .entry)) (now (rrows .entry)))) room ⌝ }
 {
-    let before = then(judge_state(state), judge_pair(s, swords, srows, r, rwords, rrows));
+    let before = then(
+        judge_state(state),
+        judge_pair(s, swords, srows, r, rwords, rrows),
+    );
     match before {
         Verdict::Refused(refusal) => Verdict::Refused(refusal),
         Verdict::Fine => judge_end(state.done.0 + length_of(s), room),

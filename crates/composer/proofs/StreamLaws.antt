@@ -1,0 +1,129 @@
+-- A feed's table, met and not met: what is known of the state and of the pair where every need is met, the verdict part by part, and
+-- the state moved. By the laws of tables, of an accepted operand and of `compose`. Assumes nothing.
+use Prim.Native.Nat.{ℕ, _+_, _*_, _≤_}
+use mathlib.Core.Path.{_≡_, refl, sym, ap, ap₂, _∙_}
+use mathlib.Core.Logic.{_↔_}
+use mathlib.Core.List.{List, [], _∷_}
+use native.Mathlib.Omega.{arith}
+use lib.ListN.{length}
+use Rattle.rows.specs.declared.Refusal.{Refusal}
+use Rattle.rows.specs.declared.Verdict.{Verdict}
+use Rattle.rows.specs.declared.Verdict.the-variants.{Fine, Refused}
+use Rattle.rows.specs.Rows.{count}
+use Rattle.rows.specs.Laid.{wordsFor}
+use Rattle.rows.specs.Table.{Met, first, inOrder, ifFine}
+use Rattle.rows.proofs.TableLaws.{fine-exactly, parts-met, parts-first, parts-last, none-met}
+use Rattle.rows.proofs.RowLaws.{count-le-length}
+use Rattle.mask.specs.Operand.{limit, lengthOf, countOf, Accepted}
+use Rattle.mask.proofs.OperandLaws.{accepted-length, accepted-count, accepted-limit}
+use Rattle.intersect_by_rank.specs.Compose.{Paired, pairChecks}
+use Rattle.intersect_by_rank.proofs.ComposeLaws.{pair-met, result-length, result-count}
+use Rattle.composer.specs.declared.State.{State}
+use Rattle.composer.specs.Stream.{Operand, Pair, rows, long, kept, stateOf, stateChecks, endChecks, feedChecks, moved, judged}
+
+-- refusal 10's bound
+abbrev pub Within : State → Type 0
+Within st = (st .kept ≤ st .ranks .0) × (st .ranks .0 ≤ st .done .0) × (st .done .0 ≤ limit)
+
+-- an operand that is accepted, and a pair whose rank mask is as long as self has set rows
+abbrev pub WellFormed : Operand → Type 0
+WellFormed o = Accepted (o .form) (o .words) (o .listed)
+
+abbrev pub Matched : Pair → Type 0
+Matched p = Paired (p .self .form) (p .self .words) (p .self .listed) (p .rank .form) (p .rank .words) (p .rank .listed)
+
+-- what a feed that is accepted needs
+pub record Accepts (st : State) (p : Pair) (room : ℕ) : Type 0 where
+  pub within : Within st
+  pub matched : Matched p
+  pub limited : st .done .0 + long p ≤ limit
+  pub space : wordsFor (st .done .0 + long p) ≤ room
+
+module _ (st : State) (p : Pair) where
+  pub matched-met : Met (pairChecks (p .self .form) (p .self .words) (p .self .listed) (p .rank .form) (p .rank .words) (p .rank .listed)) ↔ Matched p
+  matched-met = pair-met (p .self .form) (p .self .words) (p .self .listed) (p .rank .form) (p .rank .words) (p .rank .listed)
+
+  pub feed-met : (room : ℕ) → Met (feedChecks st p room) ↔ Accepts st p room
+  feed-met room = (to, from)
+    where
+      to : Met (feedChecks st p room) → Accepts st p room
+      to m =
+          let a = parts-met _ _ .0 m in
+          let b = parts-met _ _ .0 (a .1) in
+          let c = parts-met _ _ .0 (b .1) in
+          record { within = (a .0 .0, a .0 .1 .0, a .0 .1 .1 .0); matched = matched-met .0 (b .0); limited = c .0 .0; space = c .0 .1 .0 }
+
+      from : Accepts st p room → Met (feedChecks st p room)
+      from t = parts-met _ _ .1 ((t .within .0, (t .within .1, (t .within .2, tt))), parts-met _ _ .1 (matched-met .1 (t .matched), parts-met _ _ .1 ((t .limited, (t .space, tt)), none-met)))
+
+  pub feed-fine : (room : ℕ) → (judged st p room ≡ Fine) ↔ Accepts st p room
+  unfolding judged
+  feed-fine room = (λ e. feed-met room .0 (fine-exactly (feedChecks st p room) .0 e), λ t. fine-exactly (feedChecks st p room) .1 (feed-met room .1 t))
+
+-- ---- the verdict, part by part
+
+join : (v w e : Verdict) → ifFine v (ifFine w e w) v ≡ ifFine (ifFine v w v) e (ifFine v w v)
+join Fine w e = refl
+join (Refused x) w e = refl
+
+both : (v w : Verdict) → ifFine v w v ≡ Fine → (v ≡ Fine) × (w ≡ Fine)
+both Fine w h = (refl, h)
+both (Refused x) w h = absurd (let z : _≡_ {A = ℕ} 0 1 = cc in omega arith)
+
+module _ (st : State) (p : Pair) where
+  -- what the state and then the pair say
+  abbrev pub opening : Verdict
+  opening = ifFine (first (stateChecks st)) (first (pairChecks (p .self .form) (p .self .words) (p .self .listed) (p .rank .form) (p .rank .words) (p .rank .listed))) (first (stateChecks st))
+
+  pub judged-parts : (room : ℕ) → judged st p room ≡ ifFine opening (first (endChecks (st .done .0 + long p) room)) opening
+  unfolding judged
+  judged-parts room =
+      let pair = pairChecks (p .self .form) (p .self .words) (p .self .listed) (p .rank .form) (p .rank .words) (p .rank .listed) in
+      let end = endChecks (st .done .0 + long p) room in
+      parts-first (stateChecks st) pair (end ∷ [])
+      ∙ ap (λ (v : Verdict). ifFine (first (stateChecks st)) v (first (stateChecks st))) (parts-first pair end [] ∙ ap (λ (v : Verdict). ifFine (first pair) v (first pair)) (parts-last end))
+      ∙ join (first (stateChecks st)) (first pair) (first end)
+
+  -- a refusal of either is told, and else what the end says
+  pub opening-refuses : (room : ℕ) (x : Refusal) → opening ≡ Refused x → judged st p room ≡ Refused x
+  opening-refuses room x e = judged-parts room ∙ ap (λ (v : Verdict). ifFine v (first (endChecks (st .done .0 + long p) room)) v) e
+
+  pub opening-passes : (room : ℕ) → opening ≡ Fine → judged st p room ≡ first (endChecks (st .done .0 + long p) room)
+  opening-passes room e = judged-parts room ∙ ap (λ (v : Verdict). ifFine v (first (endChecks (st .done .0 + long p) room)) v) e
+
+  -- where neither refuses, the sum of done and the piece's length is small
+  pub opening-fine : opening ≡ Fine → Within st × Matched p
+  opening-fine h =
+      let t = both _ _ h in
+      let m = fine-exactly (stateChecks st) .0 (t .0) in
+      ((m .0, m .1 .0, m .1 .1 .0), matched-met st p .0 (fine-exactly _ .0 (t .1)))
+
+-- ---- lengths and counts of an accepted pair
+
+module _ (p : Pair) (m : Matched p) where
+  pub self-length : length (rows (p .self)) ≡ long p
+  self-length = accepted-length (p .self .form) (p .self .words) (p .self .listed) (m .self)
+
+  pub self-count : count (rows (p .self)) ≡ countOf (p .self .form) (p .self .listed)
+  self-count = accepted-count (p .self .form) (p .self .words) (p .self .listed) (m .self)
+
+  pub rank-length : length (rows (p .rank)) ≡ count (rows (p .self))
+  rank-length = accepted-length (p .rank .form) (p .rank .words) (p .rank .listed) (m .rank) ∙ m .ranks ∙ sym self-count
+
+  pub kept-length : length (kept p) ≡ long p
+  kept-length = result-length (p .self .form) (p .self .words) (p .self .listed) (p .rank .form) (p .rank .words) (p .rank .listed) m
+
+  pub kept-count : count (kept p) ≡ count (rows (p .rank))
+  kept-count = result-count (p .self .form) (p .self .words) (p .self .listed) (p .rank .form) (p .rank .words) (p .rank .listed) m ∙ sym (accepted-count (p .rank .form) (p .rank .words) (p .rank .listed) (m .rank))
+
+  pub self-limit : long p ≤ limit
+  self-limit = accepted-limit (p .self .form) (p .self .words) (p .self .listed) (m .self)
+
+-- an accepted feed hands back a state within 10's bound
+pub moved-within : (st : State) (p : Pair) (room : ℕ) → Accepts st p room → Within (moved st p)
+moved-within st p room t =
+    let m = t .matched in (
+      omega (arith, t .within .0, kept-count p m, rank-length p m, count-le-length (rows (p .rank))),
+      omega (arith, t .within .1, count-le-length (rows (p .self))),
+      omega (arith, t .limited, self-length p m),
+    )
