@@ -1,1 +1,3 @@
 pub mod StreamLaws
+pub mod Theorems
+pub mod Demand3

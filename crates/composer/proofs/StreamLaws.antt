@@ -2,7 +2,7 @@
 -- the state moved. By the laws of tables, of an accepted operand and of `compose`. Assumes nothing.
 use Prim.Native.Nat.{ℕ, _+_, _*_, _≤_}
 use mathlib.Core.Path.{_≡_, refl, sym, ap, ap₂, _∙_}
-use mathlib.Core.Logic.{_↔_}
+use mathlib.Core.Logic.{_↔_, _≢_}
 use mathlib.Core.List.{List, [], _∷_}
 use native.Mathlib.Omega.{arith}
 use lib.ListN.{length}
@@ -11,24 +11,23 @@ use Rattle.rows.specs.declared.Verdict.{Verdict}
 use Rattle.rows.specs.declared.Verdict.the-variants.{Fine, Refused}
 use Rattle.rows.specs.Rows.{count}
 use Rattle.rows.specs.Laid.{wordsFor}
-use Rattle.rows.specs.Table.{Met, first, inOrder, ifFine}
-use Rattle.rows.proofs.TableLaws.{fine-exactly, parts-met, parts-first, parts-last, none-met}
+use Rattle.rows.specs.Table.{Met, Numbered, first, inOrder, ifFine, told}
+use Rattle.rows.proofs.TableLaws.{fine-exactly, accepts-exactly, parts-met, parts-first, parts-last, none-met}
 use Rattle.rows.proofs.RowLaws.{count-le-length}
-use Rattle.mask.specs.Operand.{limit, lengthOf, countOf, Accepted}
+use Rattle.mask.specs.Operand.{limit, countOf}
 use Rattle.mask.proofs.OperandLaws.{accepted-length, accepted-count, accepted-limit}
+use Rattle.mask.proofs.Theorems.{numbered-append, never}
 use Rattle.intersect_by_rank.specs.Compose.{Paired, pairChecks}
 use Rattle.intersect_by_rank.proofs.ComposeLaws.{pair-met, result-length, result-count}
+use Rattle.intersect_by_rank.proofs.Theorems.{pair-numbered}
 use Rattle.composer.specs.declared.State.{State}
-use Rattle.composer.specs.Stream.{Operand, Pair, rows, long, kept, stateOf, stateChecks, endChecks, feedChecks, moved, judged}
+use Rattle.composer.specs.Stream.{Pair, rows, long, kept, stateOf, stateChecks, endChecks, feedChecks, moved, judged}
 
 -- refusal 10's bound
 abbrev pub Within : State → Type 0
 Within st = (st .kept ≤ st .ranks .0) × (st .ranks .0 ≤ st .done .0) × (st .done .0 ≤ limit)
 
--- an operand that is accepted, and a pair whose rank mask is as long as self has set rows
-abbrev pub WellFormed : Operand → Type 0
-WellFormed o = Accepted (o .form) (o .words) (o .listed)
-
+-- a pair whose operands are accepted, the rank mask as long as self has set rows
 abbrev pub Matched : Pair → Type 0
 Matched p = Paired (p .self .form) (p .self .words) (p .self .listed) (p .rank .form) (p .rank .words) (p .rank .listed)
 
@@ -127,3 +126,20 @@ moved-within st p room t =
       omega (arith, t .within .1, count-le-length (rows (p .self))),
       omega (arith, t .limited, self-length p m),
     )
+
+-- ---- what a refusal tells
+
+pub feed-numbered : (st : State) (p : Pair) (room : ℕ) → Numbered (feedChecks st p room)
+unfolding inOrder
+feed-numbered st p room =
+    let pair = pairChecks (p .self .form) (p .self .words) (p .self .listed) (p .rank .form) (p .rank .words) (p .rank .listed) in
+    let end = endChecks (st .done .0 + long p) room in
+    (omega arith, (omega arith, (omega arith,
+    numbered-append pair end (pair-numbered (p .self .form) (p .self .words) (p .self .listed) (p .rank .form) (p .rank .words) (p .rank .listed)) (omega arith, (omega arith, tt)))))
+
+-- no refusal tells the number 0
+pub refused-number : (st : State) (p : Pair) (room : ℕ) (x : Refusal) → judged st p room ≡ Refused x → x .number ≢ 0
+unfolding judged
+refused-number st p room x e h =
+    let m = accepts-exactly (feedChecks st p room) (feed-numbered st p room) .0 (ap (λ (v : Verdict). told v .number) e ∙ h) in
+    never (sym e ∙ fine-exactly (feedChecks st p room) .1 m)

@@ -1,0 +1,186 @@
+-- Demand 1 for a feed, as statements that can be held against document 01: which refusal exactly when, that a refusal hands the state
+-- back and changes nothing, and what an accepted feed writes, counts, tells and adds. By the laws of tables and of `compose`.
+-- Assumes nothing.
+use Prim.Native.Nat.{ℕ, zero, suc, _+_, _≤_, _<_}
+use native.Mathlib.Nat.{add-zero}
+use native.Mathlib.Decide.{decLe}
+use native.Mathlib.Omega.{arith}
+use mathlib.Core.Path.{_≡_, refl, sym, ap, _∙_}
+use mathlib.Core.Logic.{_↔_, _≢_, _⊎_, inl, inr}
+use mathlib.Core.Bool.{Bool, false, _&&_}
+use mathlib.Core.List.{List, [], _∷_}
+use lib.ListN.{length, take, drop, getD}
+use Rattle.rows.specs.declared.Refusal.{Refusal}
+use Rattle.rows.specs.declared.Verdict.{Verdict}
+use Rattle.rows.specs.declared.Verdict.the-variants.{Fine, Refused}
+use Rattle.rows.specs.Rows.{count, rankAt, splice}
+use Rattle.rows.specs.Words.{bitsOfAll}
+use Rattle.rows.specs.Laid.{wordsFor, laid}
+use Rattle.rows.specs.Table.{Line, First, Met, first, inOrder, refusal, noRefusal}
+use Rattle.rows.proofs.TableLaws.{told-exactly, accepts-exactly}
+use Rattle.rows.proofs.RowLaws.{compose-row, count-le-length}
+use Rattle.rows.proofs.SpliceLaws.{splice-before, splice-in, splice-after}
+use Rattle.rows.proofs.WordsLaws.{bitsOfAll-length}
+use Rattle.rows.proofs.LaidLaws.{laid-bits}
+use Rattle.mask.specs.declared.Answer.{Answer}
+use Rattle.mask.specs.Operand.{limit}
+use Rattle.mask.specs.Answer.{answered, densityOf}
+use Rattle.mask.proofs.Writes.{bitAt, row}
+use Rattle.mask.proofs.Theorems.{Bare, parts-refuses, none-refuse, answered-told, nothing-done, never, number, names, same}
+use Rattle.intersect_by_rank.specs.Compose.{pairChecks}
+use Rattle.intersect_by_rank.proofs.Theorems.{PairRefuses, pair-refuses}
+use Rattle.composer.specs.declared.State.{State}
+use Rattle.composer.specs.declared.Fed.{Fed}
+use Rattle.composer.specs.Stream.{Pair, rows, long, kept, routed, stateOf, stateChecks, endChecks, feedChecks, moved, judged, fed, fedBy, outBy, fedOut}
+use Rattle.composer.proofs.StreamLaws.{Within, Matched, Accepts, matched-met, feed-met, feed-fine, feed-numbered, self-length, kept-length, moved-within}
+
+module _ (st : State) (p : Pair) where
+  abbrev pairTable : List Line
+  pairTable = pairChecks (p .self .form) (p .self .words) (p .self .listed) (p .rank .form) (p .rank .words) (p .rank .listed)
+
+  abbrev pub end : ℕ
+  end = st .done .0 + long p
+
+  -- ---- demand 1: 10, then self's number and the rank mask's and 7, then 11, then 8
+
+  abbrev pub Refuses : ℕ → ℕ → ℕ → Type 0
+  Refuses room n j =
+      ((n ≡ 10) × (j ≡ 0) × (¬ Within st))
+      ⊎ (Within st × PairRefuses (p .self .form) (p .self .words) (p .self .listed) (p .rank .form) (p .rank .words) (p .rank .listed) n j)
+      ⊎ ((n ≡ 11) × (j ≡ 0) × Within st × Matched p × (limit < st .done .0 + long p))
+      ⊎ ((n ≡ 8) × (j ≡ 0) × Within st × Matched p × (st .done .0 + long p ≤ limit) × (room < wordsFor (st .done .0 + long p)))
+
+  within-met : Met (stateChecks st) ↔ Within st
+  within-met = (λ m. (m .0, m .1 .0, m .1 .1 .0), λ w. (w .0, (w .1, (w .2, tt))))
+
+  state-refuses : (n j : ℕ) → First (stateChecks st) (Refused (refusal n j)) ↔ ((n ≡ 10) × (j ≡ 0) × (¬ Within st))
+  state-refuses n j = (to, λ t. from (decLe (st .kept) (st .ranks .0)) (decLe (st .ranks .0) (st .done .0)) (t .0) (t .1) (t .2))
+    where
+      to : First (stateChecks st) (Refused (refusal n j)) → (n ≡ 10) × (j ≡ 0) × (¬ Within st)
+      to (inr (a, e)) = (number e, names e, λ w. a (w .0))
+      to (inl (a, inr (b, e))) = (number e, names e, λ w. b (w .1))
+      to (inl (a, inl (b, inr (c, e)))) = (number e, names e, λ w. c (w .2))
+      to (inl (a, inl (b, inl (c, e)))) = never e
+
+      from : Dec (st .kept ≤ st .ranks .0) → Dec (st .ranks .0 ≤ st .done .0) → n ≡ 10 → j ≡ 0 → (¬ Within st) → First (stateChecks st) (Refused (refusal n j))
+      from (yes a) (yes b) e q h = inl (a, inl (b, inr (λ c. h (a, b, c), same e q)))
+      from (yes a) (no b) e q h = inl (a, inr (b, same e q))
+      from (no a) d e q h = inr (a, same e q)
+
+  end-refuses : (room n j : ℕ) → First (endChecks end room) (Refused (refusal n j))
+      ↔ (((n ≡ 11) × (j ≡ 0) × (limit < end)) ⊎ ((n ≡ 8) × (j ≡ 0) × (end ≤ limit) × (room < wordsFor end)))
+  end-refuses room n j = (to, from)
+    where
+      to : First (endChecks end room) (Refused (refusal n j)) → ((n ≡ 11) × (j ≡ 0) × (limit < end)) ⊎ ((n ≡ 8) × (j ≡ 0) × (end ≤ limit) × (room < wordsFor end))
+      to (inr (a, e)) = inl (number e, names e, omega (arith, a))
+      to (inl (a, inr (b, e))) = inr (number e, names e, a, omega (arith, b))
+      to (inl (a, inl (b, e))) = never e
+
+      from : ((n ≡ 11) × (j ≡ 0) × (limit < end)) ⊎ ((n ≡ 8) × (j ≡ 0) × (end ≤ limit) × (room < wordsFor end)) → First (endChecks end room) (Refused (refusal n j))
+      from (inl (e, q, a)) = inr (λ h. omega arith, same e q)
+      from (inr (e, q, a, b)) = inl (a, inr (λ h. omega arith, same e q))
+
+  table-refuses : (room n j : ℕ) → First (feedChecks st p room) (Refused (refusal n j)) ↔ Refuses room n j
+  table-refuses room n j = (λ h. one (parts-refuses (stateChecks st) (pairTable ∷ endChecks end room ∷ []) (refusal n j) .0 h), λ w. parts-refuses (stateChecks st) (pairTable ∷ endChecks end room ∷ []) (refusal n j) .1 (from w))
+    where
+      pair : First pairTable (Refused (refusal n j)) ↔ PairRefuses (p .self .form) (p .self .words) (p .self .listed) (p .rank .form) (p .rank .words) (p .rank .listed) n j
+      pair = pair-refuses (p .self .form) (p .self .words) (p .self .listed) (p .rank .form) (p .rank .words) (p .rank .listed) n j
+
+      ends : Within st → Matched p → ((n ≡ 11) × (j ≡ 0) × (limit < end)) ⊎ ((n ≡ 8) × (j ≡ 0) × (end ≤ limit) × (room < wordsFor end)) → Refuses room n j
+      ends w m (inl (e, q, a)) = inr (inr (inl (e, q, w, m, a)))
+      ends w m (inr (e, q, a, b)) = inr (inr (inr (e, q, w, m, a, b)))
+
+      three : Within st → Matched p → First (endChecks end room) (Refused (refusal n j)) ⊎ (Met (endChecks end room) × First (inOrder []) (Refused (refusal n j))) → Refuses room n j
+      three w m (inl h) = ends w m (end-refuses room n j .0 h)
+      three w m (inr h) = none-refuse (refusal n j) (h .1)
+
+      two : Within st → First pairTable (Refused (refusal n j)) ⊎ (Met pairTable × First (inOrder (endChecks end room ∷ [])) (Refused (refusal n j))) → Refuses room n j
+      two w (inl h) = inr (inl (w, pair .0 h))
+      two w (inr (m, h)) = three w (matched-met st p .0 m) (parts-refuses (endChecks end room) [] (refusal n j) .0 h)
+
+      one : First (stateChecks st) (Refused (refusal n j)) ⊎ (Met (stateChecks st) × First (inOrder (pairTable ∷ endChecks end room ∷ [])) (Refused (refusal n j))) → Refuses room n j
+      one (inl h) = inl (state-refuses n j .0 h)
+      one (inr (m, h)) = two (within-met .0 m) (parts-refuses pairTable (endChecks end room ∷ []) (refusal n j) .0 h)
+
+      last : Within st → Matched p → ((n ≡ 11) × (j ≡ 0) × (limit < end)) ⊎ ((n ≡ 8) × (j ≡ 0) × (end ≤ limit) × (room < wordsFor end))
+          → First (stateChecks st) (Refused (refusal n j)) ⊎ (Met (stateChecks st) × First (inOrder (pairTable ∷ endChecks end room ∷ [])) (Refused (refusal n j)))
+      last w m h = inr (within-met .1 w, parts-refuses pairTable (endChecks end room ∷ []) (refusal n j) .1 (inr (matched-met st p .1 m, parts-refuses (endChecks end room) [] (refusal n j) .1 (inl (end-refuses room n j .1 h)))))
+
+      from : Refuses room n j → First (stateChecks st) (Refused (refusal n j)) ⊎ (Met (stateChecks st) × First (inOrder (pairTable ∷ endChecks end room ∷ [])) (Refused (refusal n j)))
+      from (inl t) = inl (state-refuses n j .1 t)
+      from (inr (inl (w, t))) = inr (within-met .1 w, parts-refuses pairTable (endChecks end room ∷ []) (refusal n j) .1 (inl (pair .1 t)))
+      from (inr (inr (inl (e, q, w, m, a)))) = last w m (inl (e, q, a))
+      from (inr (inr (inr (e, q, w, m, a, b)))) = last w m (inr (e, q, a, b))
+
+  module _ (out : List ℕ) where
+    -- each number exactly when, and with it the operand
+    pub fed-refuses : (n j : ℕ) → zero < n → (fed st p out .answer .refusal ≡ refusal n j) ↔ Refuses (length out) n j
+    unfolding judged
+    fed-refuses n j z =
+        let t = told-exactly (feedChecks st p (length out)) (refusal n j) z in
+        let q = answered-told (first (feedChecks st p (length out))) (kept p) (routed p) in
+        (λ e. table-refuses (length out) n j .0 (t .0 (sym q ∙ e)), λ w. q ∙ t .1 (table-refuses (length out) n j .1 w))
+
+    -- and number 0, accepted, exactly otherwise
+    pub fed-accepts : (fed st p out .answer .refusal .number ≡ 0) ↔ Accepts st p (length out)
+    unfolding judged
+    fed-accepts =
+        let m = accepts-exactly (feedChecks st p (length out)) (feed-numbered st p (length out)) in
+        let q = ap (λ (x : Refusal). x .number) (answered-told (first (feedChecks st p (length out))) (kept p) (routed p)) in
+        (λ e. feed-met st p (length out) .0 (m .0 (sym q ∙ e)), λ t. q ∙ m .1 (feed-met st p (length out) .1 t))
+
+    -- a refusal hands the state back as given and changes no lent word, and reports count 0, route 0 and density 0.0
+    pub fed-refused : fed st p out .answer .refusal .number ≢ 0 → (fed st p out .state ≡ st) × (fedOut st p out ≡ out) × Bare (fed st p out .answer)
+    fed-refused h =
+        let v = judged st p (length out) in
+        let s = nothing-done v (kept p) (routed p) (moved st p) st h in
+        (s .0, nothing-done v (kept p) (routed p) (laid (st .done .0) (kept p) out) out h .0, s .1)
+
+    -- an accepted feed keeps refusal 10's bound
+    pub fed-within : Accepts st p (length out) → Within (fed st p out .state)
+    fed-within t = rw (feed-fine st p (length out) .1 t) (moved-within st p (length out) t)
+
+-- what an accepted feed leaves: the piece's rows from done on, and no other bit written; the piece's own count and density and the
+-- table's route told; and all three numbers added to
+pub record Feeds (st : State) (p : Pair) (gave : Fed) (left out : List ℕ) : Type 0 where
+  pub accepted : gave .answer .refusal ≡ noRefusal
+  pub bits : (i : ℕ) → i < long p → bitAt left (st .done .0 + i) ≡ (getD (rows (p .self)) i false && getD (rows (p .rank)) (rankAt (rows (p .self)) i) false)
+  pub others : (i : ℕ) → (i < st .done .0) ⊎ (st .done .0 + long p ≤ i) → bitAt left i ≡ bitAt out i
+  pub counted : gave .answer .summary .count ≡ count (kept p)
+  pub route : gave .answer .summary .route ≡ routed p
+  pub dense : gave .answer .summary .density ≡ densityOf (gave .answer .summary .count) (long p)
+  pub state : gave .state ≡ stateOf (st .done .0 + long p) (st .ranks .0 + count (rows (p .self))) (st .kept + gave .answer .summary .count)
+
+pub fed-feeds : (st : State) (p : Pair) (out : List ℕ) → Accepts st p (length out) → Feeds st p (fed st p out) (fedOut st p out) out
+fed-feeds st p out t =
+    let m = t .matched in
+    let short : st .done .0 + length (kept p) ≤ length (bitsOfAll 64 out) = omega (arith, kept-length p m, t .space, bitsOfAll-length 64 out) in
+    let at = laid-bits 64 (st .done .0) (kept p) out in
+    rw (feed-fine st p (length out) .1 t)
+    (record {
+      accepted = refl;
+      bits = λ i h. ap (λ (l : List Bool). getD l (st .done .0 + i) false) at ∙ splice-in (st .done .0) (bitsOfAll 64 out) (kept p) i false (omega (arith, kept-length p m, short)) (omega (arith, kept-length p m)) ∙ compose-row (rows (p .self)) (rows (p .rank)) i;
+      others = λ i h. ap (λ (l : List Bool). getD l i false) at ∙ outside i h;
+      counted = refl;
+      route = refl;
+      dense = ap (densityOf (count (kept p))) (kept-length p m);
+      state = ap (λ (n : ℕ). stateOf (st .done .0 + n) (st .ranks .0 + count (rows (p .self))) (st .kept + count (kept p))) (self-length p m);
+    })
+  where
+    outside : (i : ℕ) → (i < st .done .0) ⊎ (st .done .0 + long p ≤ i) → getD (splice (st .done .0) (bitsOfAll 64 out) (kept p)) i false ≡ getD (bitsOfAll 64 out) i false
+    outside i (inl h) = splice-before (st .done .0) (bitsOfAll 64 out) (kept p) i false h
+    outside i (inr h) = splice-after (st .done .0) (bitsOfAll 64 out) (kept p) i false (omega (arith, kept-length p (t .matched)))
+
+-- two pieces of length 0 change nothing
+pub fed-nothing : (st : State) (p : Pair) (out : List ℕ) → Accepts st p (length out) → long p ≡ 0 → (fed st p out .state ≡ st) × ((i : ℕ) → bitAt (fedOut st p out) i ≡ bitAt out i)
+fed-nothing st p out t z =
+    let w = fed-feeds st p out t in
+    let s = count-le-length (rows (p .self)) in
+    let k = count-le-length (kept p) in
+    let none : count (rows (p .self)) ≡ 0 = omega (arith, s, self-length p (t .matched), z) in
+    let kept : fed st p out .answer .summary .count ≡ 0 = w .counted ∙ omega (arith, k, kept-length p (t .matched), z) in
+    (w .state ∙ rw (z, none, kept) (simp add-zero), λ i. w .others i (side i (decLe (suc i) (st .done .0))))
+  where
+    side : (i : ℕ) → Dec (suc i ≤ st .done .0) → (i < st .done .0) ⊎ (st .done .0 + long p ≤ i)
+    side i (yes h) = inl h
+    side i (no h) = inr (omega (arith, z, h))
