@@ -1,16 +1,19 @@
--- E11, the program's masks, in each mix of forms: one statement over one list, by computation on the definitions that the contracts cite.
+-- E11, the program's masks, in each mix of forms, and E12, the same in two feeds: each one statement over one list, by computation on the
+-- definitions that the contracts cite.
 -- Assumes nothing.
-use Prim.Native.Nat.{ℕ, _-_, _^_}
+use Prim.Native.Nat.{ℕ, _+_, _-_, _^_}
 use mathlib.Core.Path.{_≡_, refl}
 use mathlib.Core.List.{List, [], _∷_}
 use native.Mathlib.Decide.{ℕ-discrete, decLe}
 use Rattle.rows.specs.Word.{bitsOf, wordOf}
 use Rattle.rows.specs.Table.{first, inOrder, noRefusal}
+use Rattle.mask.specs.declared.Answer.{Answer}
 use Rattle.mask.specs.declared.Form.{Form}
 use Rattle.mask.specs.declared.Form.the-variants.{Words, List as Listed}
 use Rattle.mask.specs.Answer.{densityOf}
 use Rattle.intersect_by_rank.specs.Route.{routeOf, published}
 use Rattle.intersect_by_rank.specs.Compose.{composed, composedOut}
+use Rattle.composer.specs.Stream.{Pair, lent, pairOf, stateOf, fresh, judged, run}
 
 -- 01101011 composed with 10010 is 01000010. The output had all ones, and a second word that stays
 
@@ -40,3 +43,29 @@ masks =
 pub e11 : Every masks
 unfolding composed composedOut routeOf first inOrder bitsOf wordOf ℕ-discrete decLe
 e11 = ((refl, refl), ((refl, refl), ((refl, refl), ((refl, refl), tt))))
+
+-- E12, the same fed as 0110 with 10, then 1011 with 010, in each mix of forms: bits 0 to 7 are 01000010, and the others stay
+
+pub data Fed : Type 0 where
+  feeds : (one two : Pair) (first second : ℕ) → Fed
+
+abbrev pub answers : ℕ → ℕ → ℕ → Answer
+answers n route len = record { refusal = noRefusal; summary = record { count = n; route = route; density = densityOf n len } }
+
+abbrev pub FeedsHold : Fed → Type 0
+FeedsHold (feeds one two n m) = run fresh before (one ∷ two ∷ []) ≡ record { answers = answers 1 n 4 ∷ answers 1 m 4 ∷ []; state = stateOf 8 5 2; out = (2 ^ 64 - 256 + 66) ∷ 7 ∷ [] }
+
+abbrev pub EveryFed : List Fed → Type 0
+EveryFed [] = Unit {0}
+EveryFed (f ∷ fs) = FeedsHold f × EveryFed fs
+
+abbrev pub pieces : List Fed
+pieces =
+    feeds (pairOf (lent (Words 0 4 2) (6 ∷ []) []) (lent (Words 0 2 1) (1 ∷ []) [])) (pairOf (lent (Words 0 4 3) (13 ∷ []) []) (lent (Words 0 3 1) (2 ∷ []) [])) 9 9
+    ∷ feeds (pairOf (lent (Listed 4) [] (1 ∷ 2 ∷ [])) (lent (Listed 2) [] (0 ∷ []))) (pairOf (lent (Words 4 4 3) (214 ∷ []) []) (lent (Listed 3) [] (1 ∷ []))) 4 7
+    ∷ feeds (pairOf (lent (Words 0 4 2) (214 ∷ []) []) (lent (Listed 2) [] (0 ∷ []))) (pairOf (lent (Listed 4) [] (0 ∷ 2 ∷ 3 ∷ [])) (lent (Words 2 3 1) (9 ∷ []) [])) 7 5
+    ∷ []
+
+pub e12 : EveryFed pieces
+unfolding judged routeOf first inOrder bitsOf wordOf ℕ-discrete decLe
+e12 = (refl, (refl, (refl, tt)))

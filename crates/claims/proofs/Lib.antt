@@ -2,3 +2,4 @@ pub mod Composition
 pub mod Examples
 pub mod Once
 pub mod SetOperations
+pub mod Streams

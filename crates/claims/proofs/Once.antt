@@ -25,6 +25,10 @@ use Rattle.bitops.proofs.not.Kinds as not-kinds
 use Rattle.bitops.proofs.not.Reads as not-one
 use Rattle.intersect_by_rank.proofs.intersect_by_rank.Kinds as intersect-kinds
 use Rattle.intersect_by_rank.proofs.intersect_by_rank.Reads as intersect
+use Rattle.composer.proofs.Composer.fresh.Kinds as fresh-kinds
+use Rattle.composer.proofs.Composer.fresh.Reads as fresh
+use Rattle.composer.proofs.feed.Kinds as feed-kinds
+use Rattle.composer.proofs.feed.Reads as feed
 
 pub word-deposit-one : OneAnswer 0 deposit-kinds.ps deposit-kinds.r deposit.Pre deposit.Post
 word-deposit-one κs a p x y v w hv hw = (hv ∙ sym hw, refl)
@@ -55,3 +59,9 @@ bitops-not-one κs a p x y v w hv hw = (hv .0 ∙ sym (hw .0), ap (λ (l : List 
 
 pub intersect-by-rank-intersect-by-rank-one : OneAnswer 5 intersect-kinds.ps intersect-kinds.r intersect.Pre intersect.Post
 intersect-by-rank-intersect-by-rank-one κs a p x y v w hv hw = (hv .0 ∙ sym (hw .0), ap (λ (l : List ℕ). (tt, (tt, (tt, (tt, (tt, (tt, (l, tt)))))))) (hv .1 ∙ sym (hw .1)))
+
+pub composer-fresh-one : OneAnswer 0 fresh-kinds.ps fresh-kinds.r fresh.Pre fresh.Post
+composer-fresh-one κs a p x y v w hv hw = (hv ∙ sym hw, refl)
+
+pub composer-feed-one : OneAnswer 5 feed-kinds.ps feed-kinds.r feed.Pre feed.Post
+composer-feed-one κs a p x y v w hv hw = (hv .0 ∙ sym (hw .0), ap (λ (l : List ℕ). (tt, (tt, (tt, (tt, (tt, (tt, (tt, (l, tt))))))))) (hv .1 ∙ sym (hw .1)))
