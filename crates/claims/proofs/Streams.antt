@@ -1,12 +1,12 @@
 -- Demands 1 and 3 for the stream composer, of whatever the contract of `feed` allows: of one call, x is what it gives and `left` what
 -- then stands in the output; of calls one after the other, each is handed the state that the one before gave back and the output as it
 -- left it. By the theorems about the definitions. Assumes nothing.
-use mathlib.Core.Path.{_≡_, refl, sym, ap, ap₂, subst, _∙_}
+use mathlib.Core.Path.{_≡_, refl, sym, ap, subst, _∙_}
 use mathlib.Core.Logic.{_↔_, _≢_}
 use mathlib.Core.Bool.{Bool, true, false}
 use mathlib.Core.List.{List, [], _∷_}
 use Prim.Native.Nat.{ℕ, zero, _<_}
-use lib.ListN.{length, take, getD}
+use lib.ListN.{length, getD}
 use lib.Seq.{getD-take}
 use contract.Lifetimes.{Lfts}
 use borrow.Fn.Kinds.{Dens, resT, endedOf}
@@ -16,7 +16,7 @@ use Rattle.rows.specs.Rows.{rankAt}
 use Rattle.rows.specs.Words.{bitsOfAll}
 use Rattle.rows.specs.Table.{refusal}
 use Rattle.mask.proofs.Theorems.{Bare}
-use Rattle.mask.proofs.Writes.{bitAt, row}
+use Rattle.mask.proofs.Writes.{bitAt}
 use Rattle.intersect_by_rank.specs.Route.{published}
 use Rattle.intersect_by_rank.proofs.Theorems.{composed-accepts, composed-row}
 use Rattle.composer.specs.declared.State.{State}

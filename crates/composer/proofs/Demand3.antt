@@ -8,7 +8,6 @@ use mathlib.Core.Bool.{Bool}
 use mathlib.Core.List.{List, [], _∷_, _++_}
 use lib.ListN.{length, take, drop, length-append}
 use lib.Seq.{take-at, drop-at}
-use Rattle.rows.specs.declared.Refusal.{Refusal}
 use Rattle.rows.specs.declared.Verdict.{Verdict}
 use Rattle.rows.specs.declared.Verdict.the-variants.{Fine, Refused}
 use Rattle.rows.specs.Rows.{count, compose, splice}
@@ -28,8 +27,9 @@ use Rattle.intersect_by_rank.proofs.ComposeLaws.{compose-fine, compose-accepted
 use Rattle.intersect_by_rank.proofs.Theorems.{composed-accepts}
 use Rattle.composer.specs.declared.State.{State}
 use Rattle.composer.specs.Stream.{Pair, pairOf, rows, long, kept, stateOf, fresh, moved, judged, fedBy, outBy, Run, after, run}
-use Rattle.composer.specs.Demand3.{once, onceOut, WellFormed, Pieces, joined, Joins, AllAccepted, taken, summed, Whole, Forward, Converse, inWords, ConverseInWords}
-use Rattle.composer.proofs.StreamLaws.{Within, Matched, Accepts, feed-fine, self-length, self-limit, rank-length, kept-length, moved-within, refused-number}
+use Rattle.composer.specs.Demand3.{once, WellFormed, Pieces, joined, AllAccepted, taken, summed, Whole, Forward, Converse, inWords, ConverseInWords}
+use Rattle.composer.proofs.Theorems.{feed-fine}
+use Rattle.composer.proofs.StreamLaws.{Within, Matched, Accepts, feed-takes, self-length, self-limit, rank-length, kept-length, moved-within, refused-number}
 
 abbrev selves : List Pair → List Bool
 selves ps = joined (λ p. p .self) ps
@@ -54,7 +54,7 @@ step : (st : State) (p : Pair) (out : List ℕ) (ps : List Pair) (v : Verdict) �
     → ((st : State) (out : List ℕ) → Goes ps st out (run st out ps))
     → Goes (p ∷ ps) st out (after (fedBy v st p .answer) (run (fedBy v st p .state) (outBy v st p out) ps))
 step st p out ps Fine e ih =
-    let a = feed-fine st p (length out) .0 e in
+    let a = feed-takes st p (length out) e in
     let st′ = moved st p in
     let out′ = laid (st .done .0) (kept p) out in
     let t = run st′ out′ ps in

@@ -1,9 +1,9 @@
 -- A feed's table, met and not met: what is known of the state and of the pair where every need is met, the verdict part by part, and
 -- the state moved. By the laws of tables, of an accepted operand and of `compose`. Assumes nothing.
-use Prim.Native.Nat.{ℕ, _+_, _*_, _≤_}
-use mathlib.Core.Path.{_≡_, refl, sym, ap, ap₂, _∙_}
+use Prim.Native.Nat.{ℕ, _+_, _≤_}
+use mathlib.Core.Path.{_≡_, refl, sym, ap, _∙_}
 use mathlib.Core.Logic.{_↔_, _≢_}
-use mathlib.Core.List.{List, [], _∷_}
+use mathlib.Core.List.{[], _∷_}
 use native.Mathlib.Omega.{arith}
 use lib.ListN.{length}
 use Rattle.rows.specs.declared.Refusal.{Refusal}
@@ -12,7 +12,7 @@ use Rattle.rows.specs.declared.Verdict.the-variants.{Fine, Refused}
 use Rattle.rows.specs.Rows.{count}
 use Rattle.rows.specs.Laid.{wordsFor}
 use Rattle.rows.specs.Table.{Met, Numbered, first, inOrder, ifFine, told}
-use Rattle.rows.proofs.TableLaws.{fine-exactly, accepts-exactly, parts-met, parts-first, parts-last, none-met}
+use Rattle.rows.proofs.TableLaws.{fine-exactly, accepts-exactly, parts-met, parts-first, parts-last}
 use Rattle.rows.proofs.RowLaws.{count-le-length}
 use Rattle.mask.specs.Operand.{limit, countOf}
 use Rattle.mask.proofs.OperandLaws.{accepted-length, accepted-count, accepted-limit}
@@ -21,7 +21,7 @@ use Rattle.intersect_by_rank.specs.Compose.{Paired, pairChecks}
 use Rattle.intersect_by_rank.proofs.ComposeLaws.{pair-met, result-length, result-count}
 use Rattle.intersect_by_rank.proofs.Theorems.{pair-numbered}
 use Rattle.composer.specs.declared.State.{State}
-use Rattle.composer.specs.Stream.{Pair, rows, long, kept, stateOf, stateChecks, endChecks, feedChecks, moved, judged}
+use Rattle.composer.specs.Stream.{Pair, rows, long, kept, stateChecks, endChecks, feedChecks, moved, judged}
 
 -- refusal 10's bound
 abbrev pub Within : State → Type 0
@@ -42,22 +42,14 @@ module _ (st : State) (p : Pair) where
   pub matched-met : Met (pairChecks (p .self .form) (p .self .words) (p .self .listed) (p .rank .form) (p .rank .words) (p .rank .listed)) ↔ Matched p
   matched-met = pair-met (p .self .form) (p .self .words) (p .self .listed) (p .rank .form) (p .rank .words) (p .rank .listed)
 
-  pub feed-met : (room : ℕ) → Met (feedChecks st p room) ↔ Accepts st p room
-  feed-met room = (to, from)
-    where
-      to : Met (feedChecks st p room) → Accepts st p room
-      to m =
-          let a = parts-met _ _ .0 m in
-          let b = parts-met _ _ .0 (a .1) in
-          let c = parts-met _ _ .0 (b .1) in
-          record { within = (a .0 .0, a .0 .1 .0, a .0 .1 .1 .0); matched = matched-met .0 (b .0); limited = c .0 .0; space = c .0 .1 .0 }
-
-      from : Accepts st p room → Met (feedChecks st p room)
-      from t = parts-met _ _ .1 ((t .within .0, (t .within .1, (t .within .2, tt))), parts-met _ _ .1 (matched-met .1 (t .matched), parts-met _ _ .1 ((t .limited, (t .space, tt)), none-met)))
-
-  pub feed-fine : (room : ℕ) → (judged st p room ≡ Fine) ↔ Accepts st p room
+  -- a feed that every check lets pass has what it needs
+  pub feed-takes : (room : ℕ) → judged st p room ≡ Fine → Accepts st p room
   unfolding judged
-  feed-fine room = (λ e. feed-met room .0 (fine-exactly (feedChecks st p room) .0 e), λ t. fine-exactly (feedChecks st p room) .1 (feed-met room .1 t))
+  feed-takes room e =
+      let a = parts-met _ _ .0 (fine-exactly (feedChecks st p room) .0 e) in
+      let b = parts-met _ _ .0 (a .1) in
+      let c = parts-met _ _ .0 (b .1) in
+      record { within = (a .0 .0, a .0 .1 .0, a .0 .1 .1 .0); matched = matched-met .0 (b .0); limited = c .0 .0; space = c .0 .1 .0 }
 
 -- ---- the verdict, part by part
 
@@ -133,9 +125,16 @@ pub feed-numbered : (st : State) (p : Pair) (room : ℕ) → Numbered (feedCheck
 unfolding inOrder
 feed-numbered st p room =
     let pair = pairChecks (p .self .form) (p .self .words) (p .self .listed) (p .rank .form) (p .rank .words) (p .rank .listed) in
-    let end = endChecks (st .done .0 + long p) room in
-    (omega arith, (omega arith, (omega arith,
-    numbered-append pair end (pair-numbered (p .self .form) (p .self .words) (p .self .listed) (p .rank .form) (p .rank .words) (p .rank .listed)) (omega arith, (omega arith, tt)))))
+    let end = endChecks (st .done .0 + long p) room in (
+      omega arith,
+      (
+        omega arith,
+        (
+          omega arith,
+          numbered-append pair end (pair-numbered (p .self .form) (p .self .words) (p .self .listed) (p .rank .form) (p .rank .words) (p .rank .listed)) (omega arith, (omega arith, tt)),
+        ),
+      ),
+    )
 
 -- no refusal tells the number 0
 pub refused-number : (st : State) (p : Pair) (room : ℕ) (x : Refusal) → judged st p room ≡ Refused x → x .number ≢ 0

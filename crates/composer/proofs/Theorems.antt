@@ -9,30 +9,28 @@ use mathlib.Core.Path.{_≡_, refl, sym, ap, _∙_}
 use mathlib.Core.Logic.{_↔_, _≢_, _⊎_, inl, inr}
 use mathlib.Core.Bool.{Bool, false, _&&_}
 use mathlib.Core.List.{List, [], _∷_}
-use lib.ListN.{length, take, drop, getD}
-use Rattle.rows.specs.declared.Refusal.{Refusal}
+use lib.ListN.{length, getD}
 use Rattle.rows.specs.declared.Verdict.{Verdict}
 use Rattle.rows.specs.declared.Verdict.the-variants.{Fine, Refused}
 use Rattle.rows.specs.Rows.{count, rankAt, splice}
 use Rattle.rows.specs.Words.{bitsOfAll}
 use Rattle.rows.specs.Laid.{wordsFor, laid}
 use Rattle.rows.specs.Table.{Line, First, Met, first, inOrder, refusal, noRefusal}
-use Rattle.rows.proofs.TableLaws.{told-exactly, accepts-exactly}
+use Rattle.rows.proofs.TableLaws.{told-exactly, fine-exactly, parts-met, none-met}
 use Rattle.rows.proofs.RowLaws.{compose-row, count-le-length}
 use Rattle.rows.proofs.SpliceLaws.{splice-before, splice-in, splice-after}
 use Rattle.rows.proofs.WordsLaws.{bitsOfAll-length}
 use Rattle.rows.proofs.LaidLaws.{laid-bits}
-use Rattle.mask.specs.declared.Answer.{Answer}
 use Rattle.mask.specs.Operand.{limit}
-use Rattle.mask.specs.Answer.{answered, densityOf}
-use Rattle.mask.proofs.Writes.{bitAt, row}
+use Rattle.mask.specs.Answer.{densityOf}
+use Rattle.mask.proofs.Writes.{bitAt}
 use Rattle.mask.proofs.Theorems.{Bare, parts-refuses, none-refuse, answered-told, nothing-done, never, number, names, same}
 use Rattle.intersect_by_rank.specs.Compose.{pairChecks}
 use Rattle.intersect_by_rank.proofs.Theorems.{PairRefuses, pair-refuses}
 use Rattle.composer.specs.declared.State.{State}
 use Rattle.composer.specs.declared.Fed.{Fed}
-use Rattle.composer.specs.Stream.{Pair, rows, long, kept, routed, stateOf, stateChecks, endChecks, feedChecks, moved, judged, fed, fedBy, outBy, fedOut}
-use Rattle.composer.proofs.StreamLaws.{Within, Matched, Accepts, matched-met, feed-met, feed-fine, feed-numbered, self-length, kept-length, moved-within}
+use Rattle.composer.specs.Stream.{Pair, rows, long, kept, routed, stateOf, stateChecks, endChecks, feedChecks, moved, judged, fed, fedBy, fedOut}
+use Rattle.composer.proofs.StreamLaws.{Within, Matched, Accepts, matched-met, feed-takes, refused-number, self-length, kept-length, moved-within}
 
 module _ (st : State) (p : Pair) where
   abbrev pairTable : List Line
@@ -112,6 +110,14 @@ module _ (st : State) (p : Pair) where
       from (inr (inr (inl (e, q, w, m, a)))) = last w m (inl (e, q, a))
       from (inr (inr (inr (e, q, w, m, a, b)))) = last w m (inr (e, q, a, b))
 
+  -- a feed that has what it needs is let pass, and no other
+  pub feed-fine : (room : ℕ) → (judged st p room ≡ Fine) ↔ Accepts st p room
+  unfolding judged
+  feed-fine room = (feed-takes st p room, λ t. fine-exactly (feedChecks st p room) .1 (fits t))
+    where
+      fits : Accepts st p room → Met (feedChecks st p room)
+      fits t = parts-met _ _ .1 ((t .within .0, (t .within .1, (t .within .2, tt))), parts-met _ _ .1 (matched-met st p .1 (t .matched), parts-met _ _ .1 ((t .limited, (t .space, tt)), none-met)))
+
   module _ (out : List ℕ) where
     -- each number exactly when, and with it the operand
     pub fed-refuses : (n j : ℕ) → zero < n → (fed st p out .answer .refusal ≡ refusal n j) ↔ Refuses (length out) n j
@@ -123,11 +129,11 @@ module _ (st : State) (p : Pair) where
 
     -- and number 0, accepted, exactly otherwise
     pub fed-accepts : (fed st p out .answer .refusal .number ≡ 0) ↔ Accepts st p (length out)
-    unfolding judged
-    fed-accepts =
-        let m = accepts-exactly (feedChecks st p (length out)) (feed-numbered st p (length out)) in
-        let q = ap (λ (x : Refusal). x .number) (answered-told (first (feedChecks st p (length out))) (kept p) (routed p)) in
-        (λ e. feed-met st p (length out) .0 (m .0 (sym q ∙ e)), λ t. q ∙ m .1 (feed-met st p (length out) .1 t))
+    fed-accepts = (to (judged st p (length out)) refl, λ t. rw (feed-fine (length out) .1 t) refl)
+      where
+        to : (v : Verdict) → judged st p (length out) ≡ v → fedBy v st p .answer .refusal .number ≡ 0 → Accepts st p (length out)
+        to Fine e z = feed-takes st p (length out) e
+        to (Refused x) e z = absurd (refused-number st p (length out) x e z)
 
     -- a refusal hands the state back as given and changes no lent word, and reports count 0, route 0 and density 0.0
     pub fed-refused : fed st p out .answer .refusal .number ≢ 0 → (fed st p out .state ≡ st) × (fedOut st p out ≡ out) × Bare (fed st p out .answer)
@@ -138,7 +144,7 @@ module _ (st : State) (p : Pair) where
 
     -- an accepted feed keeps refusal 10's bound
     pub fed-within : Accepts st p (length out) → Within (fed st p out .state)
-    fed-within t = rw (feed-fine st p (length out) .1 t) (moved-within st p (length out) t)
+    fed-within t = rw (feed-fine (length out) .1 t) (moved-within st p (length out) t)
 
 -- what an accepted feed leaves: the piece's rows from done on, and no other bit written; the piece's own count and density and the
 -- table's route told; and all three numbers added to

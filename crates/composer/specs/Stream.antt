@@ -1,6 +1,6 @@
 -- What is right of a feed, and of feeds run one after the other on one output, each handed the state that the one before gave back.
 -- Assumes nothing.
-use Prim.Native.Nat.{ℕ, _+_, _≤_}
+use Prim.Native.Nat.{ℕ, _+_}
 use native.Mathlib.Decide.{decLe}
 use mathlib.Core.Bool.{Bool}
 use mathlib.Core.List.{List, [], _∷_}

@@ -1,9 +1,6 @@
 -- `composer::feed` meets its contract: a refusal is answered, the state handed back and nothing written; else the step is taken.
 -- By the verdict of its table. Assumes nothing.
-use mathlib.Core.Path.{_≡_, refl, sym, _∙_}
-use lib.ListN.{length}
-use denote.Ref.{now}
-use Rattle.composer.specs.Stream.{Pair, lent, pairOf, fedBy, outBy}
+use mathlib.Core.Path.{refl, sym, _∙_}
 use borrow.Author.Needs.{needs}
 use Rattle.composer.proofs.feed.Statement.{statement}
 use Rattle.composer.proofs.feed.Tie as tie

@@ -3,8 +3,6 @@
 use mathlib.Core.Path.{_≡_, refl, sym, _∙_}
 use native.Mathlib.Omega.{arith}
 use denote.Ref.{now}
-use Rattle.rows.specs.declared.Verdict.{Verdict}
-use Rattle.rows.specs.declared.Verdict.the-variants.{Fine}
 use Rattle.composer.specs.Stream.{Pair, lent, pairOf}
 use Rattle.composer.proofs.StreamLaws.{opening, opening-refuses, opening-passes, opening-fine, self-limit}
 use borrow.Author.Needs.{needs}

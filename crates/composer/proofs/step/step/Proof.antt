@@ -1,14 +1,13 @@
 -- `composer::step::step` meets its contract: the pair is laid from done on, and its rows, their set rows and the result's are added.
 -- By what acceptance gives. Assumes nothing.
-use Prim.Native.Nat.{ℕ, _+_}
-use mathlib.Core.Path.{_≡_, refl, sym, ap, _∙_}
+use mathlib.Core.Path.{refl, ap}
 use native.Mathlib.Omega.{arith}
 use lib.ListN.{length}
 use denote.Ref.{now}
 use Rattle.rows.specs.Rows.{count}
 use Rattle.mask.specs.declared.Answer.{Answer}
-use Rattle.composer.specs.Stream.{Pair, lent, pairOf, rows, kept}
-use Rattle.composer.proofs.StreamLaws.{feed-fine, moved-within, self-length, self-count}
+use Rattle.composer.specs.Stream.{Pair, lent, pairOf}
+use Rattle.composer.proofs.StreamLaws.{feed-takes, moved-within, self-length, self-count}
 use borrow.Author.Needs.{needs}
 use Rattle.composer.proofs.step.step.Statement.{statement}
 use Rattle.composer.proofs.step.step.Tie as tie
@@ -20,7 +19,7 @@ lay-composition-requires : tie.Need-lay-composition-requires
 lay-composition-requires c κs =
     let a = (c .before .before .before .before .before .before .before) .args in
     let p : Pair = pairOf (lent (a .s) (now (a .swords)) (now (a .srows))) (lent (a .r) (now (a .rwords)) (now (a .rrows))) in
-    let t = feed-fine (a .state) p (length (now (a .out))) .0 ((c .before .before .before .before .before .before .before) .pre) in
+    let t = feed-takes (a .state) p (length (now (a .out))) ((c .before .before .before .before .before .before .before) .pre) in
     (t .matched, omega (arith, t .space), omega (arith, t .limited))
 
 length-of-requires : tie.Need-length-of-requires
@@ -33,7 +32,7 @@ moved-requires : tie.Need-moved-requires
 moved-requires c κs =
     let a = (c .before .before .before .before .before .before .before .before .before .before .before .before) .args in
     let p : Pair = pairOf (lent (a .s) (now (a .swords)) (now (a .srows))) (lent (a .r) (now (a .rwords)) (now (a .rrows))) in
-    let t = feed-fine (a .state) p (length (now (a .out))) .0 ((c .before .before .before .before .before .before .before .before .before .before .before .before) .pre) in
+    let t = feed-takes (a .state) p (length (now (a .out))) ((c .before .before .before .before .before .before .before .before .before .before .before .before) .pre) in
     let w = moved-within (a .state) p (length (now (a .out))) t in
     let n = ap (λ (x : Answer). x .summary .count) (c .before .before .before .before .lay-composition .ensures .0) in
     (omega (arith, t .limited, c .before .length-of .ensures), omega (arith, c .count-of .ensures, self-count p (t .matched), w .1, w .2), omega (arith, n, w .0, w .1, w .2))
@@ -45,7 +44,7 @@ returns : tie.Need-returns
 returns c =
     let a = (c .before .before .before .before .before .before .before .before .before .before .before .before .before) .args in
     let p : Pair = pairOf (lent (a .s) (now (a .swords)) (now (a .srows))) (lent (a .r) (now (a .rwords)) (now (a .rrows))) in
-    let t = feed-fine (a .state) p (length (now (a .out))) .0 ((c .before .before .before .before .before .before .before .before .before .before .before .before .before) .pre) in
+    let t = feed-takes (a .state) p (length (now (a .out))) ((c .before .before .before .before .before .before .before .before .before .before .before .before .before) .pre) in
     let n = ap (λ (x : Answer). x .summary .count) (c .before .before .before .before .before .lay-composition .ensures .0) in
     (rw (c .moved .ensures, c .before .before .length-of .ensures, c .before .count-of .ensures, n, c .before .before .before .before .before .lay-composition .ensures .0, c .before .before .before .before .before .before .before .document-factors .ensures, self-length p (t .matched), self-count p (t .matched)) refl, c .before .before .before .before .before .lay-composition .ensures .1)
 
