@@ -2,7 +2,7 @@
 -- the state moved. By the laws of tables, of an accepted operand and of `compose`. Assumes nothing.
 use Prim.Native.Nat.{ℕ, _+_, _≤_}
 use mathlib.Core.Path.{_≡_, refl, sym, ap, _∙_}
-use mathlib.Core.Logic.{_↔_, _≢_}
+use mathlib.Core.Logic.{_≢_}
 use mathlib.Core.List.{[], _∷_}
 use native.Mathlib.Omega.{arith}
 use lib.ListN.{length}
@@ -11,17 +11,17 @@ use Rattle.rows.specs.declared.Verdict.{Verdict}
 use Rattle.rows.specs.declared.Verdict.the-variants.{Fine, Refused}
 use Rattle.rows.specs.Rows.{count}
 use Rattle.rows.specs.Laid.{wordsFor}
-use Rattle.rows.specs.Table.{Met, Numbered, first, inOrder, ifFine, told}
+use Rattle.rows.specs.Table.{Numbered, first, inOrder, ifFine, told}
 use Rattle.rows.proofs.TableLaws.{fine-exactly, accepts-exactly, parts-met, parts-first, parts-last}
 use Rattle.rows.proofs.RowLaws.{count-le-length}
-use Rattle.mask.specs.Operand.{limit, countOf}
+use Rattle.mask.specs.Operand.{limit, lengthOf, countOf}
 use Rattle.mask.proofs.OperandLaws.{accepted-length, accepted-count, accepted-limit}
 use Rattle.mask.proofs.Theorems.{numbered-append, never}
-use Rattle.intersect_by_rank.specs.Compose.{Paired, pairChecks}
-use Rattle.intersect_by_rank.proofs.ComposeLaws.{pair-met, result-length, result-count}
-use Rattle.intersect_by_rank.proofs.Theorems.{pair-numbered}
+use Rattle.intersect_by_rank.specs.Compose.{Paired, bothChecks}
+use Rattle.intersect_by_rank.proofs.ComposeLaws.{both-met, result-length, result-count}
+use Rattle.intersect_by_rank.proofs.Theorems.{both-numbered}
 use Rattle.composer.specs.declared.State.{State}
-use Rattle.composer.specs.Stream.{Pair, rows, long, kept, stateChecks, endChecks, feedChecks, moved, judged}
+use Rattle.composer.specs.Stream.{Pair, rows, long, kept, stateChecks, lengthChecks, feedChecks, moved, judged}
 
 -- refusal 10's bound
 abbrev pub Within : State → Type 0
@@ -38,18 +38,20 @@ pub record Accepts (st : State) (p : Pair) (room : ℕ) : Type 0 where
   pub limited : st .done .0 + long p ≤ limit
   pub space : wordsFor (st .done .0 + long p) ≤ room
 
-module _ (st : State) (p : Pair) where
-  pub matched-met : Met (pairChecks (p .self .form) (p .self .words) (p .self .listed) (p .rank .form) (p .rank .words) (p .rank .listed)) ↔ Matched p
-  matched-met = pair-met (p .self .form) (p .self .words) (p .self .listed) (p .rank .form) (p .rank .words) (p .rank .listed)
-
-  -- a feed that every check lets pass has what it needs
-  pub feed-takes : (room : ℕ) → judged st p room ≡ Fine → Accepts st p room
-  unfolding judged
-  feed-takes room e =
-      let a = parts-met _ _ .0 (fine-exactly (feedChecks st p room) .0 e) in
-      let b = parts-met _ _ .0 (a .1) in
-      let c = parts-met _ _ .0 (b .1) in
-      record { within = (a .0 .0, a .0 .1 .0, a .0 .1 .1 .0); matched = matched-met .0 (b .0); limited = c .0 .0; space = c .0 .1 .0 }
+-- a feed that every check lets pass has what it needs
+pub feed-takes : (st : State) (p : Pair) (room : ℕ) → judged st p room ≡ Fine → Accepts st p room
+unfolding judged
+feed-takes st p room e =
+    let a = parts-met _ _ .0 (fine-exactly (feedChecks st p room) .0 e) in
+    let b = parts-met _ _ .0 (a .1) in
+    let c = parts-met _ _ .0 (b .1) in
+    let o = both-met (p .self .form) (p .self .words) (p .self .listed) (p .rank .form) (p .rank .words) (p .rank .listed) .0 (b .0) in
+    record {
+      within = (a .0 .0, a .0 .1 .0, a .0 .1 .1 .0);
+      matched = record { self = o .0; rank = o .1; ranks = c .0 .0 };
+      limited = c .0 .1 .0;
+      space = c .0 .1 .1 .0;
+    }
 
 -- ---- the verdict, part by part
 
@@ -57,37 +59,38 @@ join : (v w e : Verdict) → ifFine v (ifFine w e w) v ≡ ifFine (ifFine v w v)
 join Fine w e = refl
 join (Refused x) w e = refl
 
-both : (v w : Verdict) → ifFine v w v ≡ Fine → (v ≡ Fine) × (w ≡ Fine)
-both Fine w h = (refl, h)
-both (Refused x) w h = absurd (let z : _≡_ {A = ℕ} 0 1 = cc in omega arith)
+joined-fine : (v w : Verdict) → ifFine v w v ≡ Fine → (v ≡ Fine) × (w ≡ Fine)
+joined-fine Fine w h = (refl, h)
+joined-fine (Refused x) w h = absurd (let z : _≡_ {A = ℕ} 0 1 = cc in omega arith)
 
 module _ (st : State) (p : Pair) where
-  -- what the state and then the pair say
+  -- what the state and then the operands say
   abbrev pub opening : Verdict
-  opening = ifFine (first (stateChecks st)) (first (pairChecks (p .self .form) (p .self .words) (p .self .listed) (p .rank .form) (p .rank .words) (p .rank .listed))) (first (stateChecks st))
+  opening = ifFine (first (stateChecks st)) (first (bothChecks (p .self .form) (p .self .words) (p .self .listed) (p .rank .form) (p .rank .words) (p .rank .listed))) (first (stateChecks st))
 
-  pub judged-parts : (room : ℕ) → judged st p room ≡ ifFine opening (first (endChecks (st .done .0 + long p) room)) opening
+  judged-parts : (room : ℕ) → judged st p room ≡ ifFine opening (first (lengthChecks (lengthOf (p .rank .form)) (countOf (p .self .form) (p .self .listed)) (st .done .0 + long p) room)) opening
   unfolding judged
   judged-parts room =
-      let pair = pairChecks (p .self .form) (p .self .words) (p .self .listed) (p .rank .form) (p .rank .words) (p .rank .listed) in
-      let end = endChecks (st .done .0 + long p) room in
-      parts-first (stateChecks st) pair (end ∷ [])
-      ∙ ap (λ (v : Verdict). ifFine (first (stateChecks st)) v (first (stateChecks st))) (parts-first pair end [] ∙ ap (λ (v : Verdict). ifFine (first pair) v (first pair)) (parts-last end))
-      ∙ join (first (stateChecks st)) (first pair) (first end)
+      let both = bothChecks (p .self .form) (p .self .words) (p .self .listed) (p .rank .form) (p .rank .words) (p .rank .listed) in
+      let lengths = lengthChecks (lengthOf (p .rank .form)) (countOf (p .self .form) (p .self .listed)) (st .done .0 + long p) room in
+      parts-first (stateChecks st) both (lengths ∷ [])
+      ∙ ap (λ (v : Verdict). ifFine (first (stateChecks st)) v (first (stateChecks st))) (parts-first both lengths [] ∙ ap (λ (v : Verdict). ifFine (first both) v (first both)) (parts-last lengths))
+      ∙ join (first (stateChecks st)) (first both) (first lengths)
 
-  -- a refusal of either is told, and else what the end says
+  -- a refusal of either is told, and else what the lengths say
   pub opening-refuses : (room : ℕ) (x : Refusal) → opening ≡ Refused x → judged st p room ≡ Refused x
-  opening-refuses room x e = judged-parts room ∙ ap (λ (v : Verdict). ifFine v (first (endChecks (st .done .0 + long p) room)) v) e
+  opening-refuses room x e = judged-parts room ∙ ap (λ (v : Verdict). ifFine v (first (lengthChecks (lengthOf (p .rank .form)) (countOf (p .self .form) (p .self .listed)) (st .done .0 + long p) room)) v) e
 
-  pub opening-passes : (room : ℕ) → opening ≡ Fine → judged st p room ≡ first (endChecks (st .done .0 + long p) room)
-  opening-passes room e = judged-parts room ∙ ap (λ (v : Verdict). ifFine v (first (endChecks (st .done .0 + long p) room)) v) e
+  pub opening-passes : (room : ℕ) → opening ≡ Fine → judged st p room ≡ first (lengthChecks (lengthOf (p .rank .form)) (countOf (p .self .form) (p .self .listed)) (st .done .0 + long p) room)
+  opening-passes room e = judged-parts room ∙ ap (λ (v : Verdict). ifFine v (first (lengthChecks (lengthOf (p .rank .form)) (countOf (p .self .form) (p .self .listed)) (st .done .0 + long p) room)) v) e
 
   -- where neither refuses, the sum of done and the piece's length is small
-  pub opening-fine : opening ≡ Fine → Within st × Matched p
-  opening-fine h =
-      let t = both _ _ h in
+  pub opening-small : opening ≡ Fine → st .done .0 + long p ≤ limit + limit
+  opening-small h =
+      let t = joined-fine _ _ h in
       let m = fine-exactly (stateChecks st) .0 (t .0) in
-      ((m .0, m .1 .0, m .1 .1 .0), matched-met st p .0 (fine-exactly _ .0 (t .1)))
+      let o = both-met (p .self .form) (p .self .words) (p .self .listed) (p .rank .form) (p .rank .words) (p .rank .listed) .0 (fine-exactly _ .0 (t .1)) in
+      omega (arith, m .1 .1 .0, accepted-limit (p .self .form) (p .self .words) (p .self .listed) (o .0))
 
 -- ---- lengths and counts of an accepted pair
 
@@ -121,20 +124,19 @@ moved-within st p room t =
 
 -- ---- what a refusal tells
 
-pub feed-numbered : (st : State) (p : Pair) (room : ℕ) → Numbered (feedChecks st p room)
+feed-numbered : (st : State) (p : Pair) (room : ℕ) → Numbered (feedChecks st p room)
 unfolding inOrder
-feed-numbered st p room =
-    let pair = pairChecks (p .self .form) (p .self .words) (p .self .listed) (p .rank .form) (p .rank .words) (p .rank .listed) in
-    let end = endChecks (st .done .0 + long p) room in (
+feed-numbered st p room = (
+  omega arith,
+  (
+    omega arith,
+    (
       omega arith,
-      (
-        omega arith,
-        (
-          omega arith,
-          numbered-append pair end (pair-numbered (p .self .form) (p .self .words) (p .self .listed) (p .rank .form) (p .rank .words) (p .rank .listed)) (omega arith, (omega arith, tt)),
-        ),
-      ),
-    )
+      numbered-append (bothChecks (p .self .form) (p .self .words) (p .self .listed) (p .rank .form) (p .rank .words) (p .rank .listed)) (lengthChecks (lengthOf (p .rank .form)) (countOf (p .self .form) (p .self .listed)) (st .done .0 + long p) room) (both-numbered (p .self .form) (p .self .words) (p .self .listed) (p .rank .form) (p .rank .words) (p .rank .listed))
+          (omega arith, (omega arith, (omega arith, tt))),
+    ),
+  ),
+)
 
 -- no refusal tells the number 0
 pub refused-number : (st : State) (p : Pair) (room : ℕ) (x : Refusal) → judged st p room ≡ Refused x → x .number ≢ 0

@@ -21,35 +21,50 @@ use Rattle.rows.proofs.RowLaws.{compose-row, count-le-length}
 use Rattle.rows.proofs.SpliceLaws.{splice-before, splice-in, splice-after}
 use Rattle.rows.proofs.WordsLaws.{bitsOfAll-length}
 use Rattle.rows.proofs.LaidLaws.{laid-bits}
-use Rattle.mask.specs.Operand.{limit}
+use Rattle.mask.specs.Operand.{limit, lengthOf, countOf, Accepted}
 use Rattle.mask.specs.Answer.{densityOf}
 use Rattle.mask.proofs.Writes.{bitAt}
 use Rattle.mask.proofs.Theorems.{Bare, parts-refuses, none-refuse, answered-told, nothing-done, never, number, names, same}
-use Rattle.intersect_by_rank.specs.Compose.{pairChecks}
-use Rattle.intersect_by_rank.proofs.Theorems.{PairRefuses, pair-refuses}
+use Rattle.intersect_by_rank.specs.Compose.{bothChecks}
+use Rattle.intersect_by_rank.proofs.ComposeLaws.{both-met}
+use Rattle.intersect_by_rank.proofs.Theorems.{OperandRefuses, both-refuses}
 use Rattle.composer.specs.declared.State.{State}
 use Rattle.composer.specs.declared.Fed.{Fed}
-use Rattle.composer.specs.Stream.{Pair, rows, long, kept, routed, stateOf, stateChecks, endChecks, feedChecks, moved, judged, fed, fedBy, fedOut}
-use Rattle.composer.proofs.StreamLaws.{Within, Matched, Accepts, matched-met, feed-takes, refused-number, self-length, kept-length, moved-within}
+use Rattle.composer.specs.Stream.{Pair, rows, long, kept, routed, stateOf, stateChecks, lengthChecks, feedChecks, moved, judged, fed, fedBy, fedOut}
+use Rattle.composer.proofs.StreamLaws.{Within, Accepts, feed-takes, refused-number, self-length, kept-length, moved-within}
 
 module _ (st : State) (p : Pair) where
-  abbrev pairTable : List Line
-  pairTable = pairChecks (p .self .form) (p .self .words) (p .self .listed) (p .rank .form) (p .rank .words) (p .rank .listed)
+  abbrev both : List Line
+  both = bothChecks (p .self .form) (p .self .words) (p .self .listed) (p .rank .form) (p .rank .words) (p .rank .listed)
 
-  abbrev pub end : ℕ
+  abbrev end : ℕ
   end = st .done .0 + long p
 
-  -- ---- demand 1: 10, then self's number and the rank mask's and 7, then 11, then 8
+  abbrev lengths : ℕ → List Line
+  lengths room = lengthChecks (lengthOf (p .rank .form)) (countOf (p .self .form) (p .self .listed)) end room
+
+  -- ---- demand 1: 10, then self's number and the rank mask's, then 7, 11, 8
+
+  abbrev pub Formed : Type 0
+  Formed = Accepted (p .self .form) (p .self .words) (p .self .listed) × Accepted (p .rank .form) (p .rank .words) (p .rank .listed)
+
+  abbrev pub LengthRefuses : ℕ → ℕ → Type 0
+  LengthRefuses room n =
+      ((n ≡ 7) × (lengthOf (p .rank .form) ≢ countOf (p .self .form) (p .self .listed)))
+      ⊎ ((n ≡ 11) × (lengthOf (p .rank .form) ≡ countOf (p .self .form) (p .self .listed)) × (limit < st .done .0 + long p))
+      ⊎ ((n ≡ 8) × (lengthOf (p .rank .form) ≡ countOf (p .self .form) (p .self .listed)) × (st .done .0 + long p ≤ limit) × (room < wordsFor (st .done .0 + long p)))
 
   abbrev pub Refuses : ℕ → ℕ → ℕ → Type 0
   Refuses room n j =
       ((n ≡ 10) × (j ≡ 0) × (¬ Within st))
-      ⊎ (Within st × PairRefuses (p .self .form) (p .self .words) (p .self .listed) (p .rank .form) (p .rank .words) (p .rank .listed) n j)
-      ⊎ ((n ≡ 11) × (j ≡ 0) × Within st × Matched p × (limit < st .done .0 + long p))
-      ⊎ ((n ≡ 8) × (j ≡ 0) × Within st × Matched p × (st .done .0 + long p ≤ limit) × (room < wordsFor (st .done .0 + long p)))
+      ⊎ (Within st × OperandRefuses (p .self .form) (p .self .words) (p .self .listed) (p .rank .form) (p .rank .words) (p .rank .listed) n j)
+      ⊎ ((j ≡ 0) × Within st × Formed × LengthRefuses room n)
 
   within-met : Met (stateChecks st) ↔ Within st
   within-met = (λ m. (m .0, m .1 .0, m .1 .1 .0), λ w. (w .0, (w .1, (w .2, tt))))
+
+  formed-met : Met both ↔ Formed
+  formed-met = both-met (p .self .form) (p .self .words) (p .self .listed) (p .rank .form) (p .rank .words) (p .rank .listed)
 
   state-refuses : (n j : ℕ) → First (stateChecks st) (Refused (refusal n j)) ↔ ((n ≡ 10) × (j ≡ 0) × (¬ Within st))
   state-refuses n j = (to, λ t. from (decLe (st .kept) (st .ranks .0)) (decLe (st .ranks .0) (st .done .0)) (t .0) (t .1) (t .2))
@@ -65,50 +80,47 @@ module _ (st : State) (p : Pair) where
       from (yes a) (no b) e q h = inl (a, inr (b, same e q))
       from (no a) d e q h = inr (a, same e q)
 
-  end-refuses : (room n j : ℕ) → First (endChecks end room) (Refused (refusal n j))
-      ↔ (((n ≡ 11) × (j ≡ 0) × (limit < end)) ⊎ ((n ≡ 8) × (j ≡ 0) × (end ≤ limit) × (room < wordsFor end)))
-  end-refuses room n j = (to, from)
+  length-refuses : (room n j : ℕ) → First (lengths room) (Refused (refusal n j)) ↔ ((j ≡ 0) × LengthRefuses room n)
+  length-refuses room n j = (to, λ t. from (t .0) (t .1))
     where
-      to : First (endChecks end room) (Refused (refusal n j)) → ((n ≡ 11) × (j ≡ 0) × (limit < end)) ⊎ ((n ≡ 8) × (j ≡ 0) × (end ≤ limit) × (room < wordsFor end))
-      to (inr (a, e)) = inl (number e, names e, omega (arith, a))
-      to (inl (a, inr (b, e))) = inr (number e, names e, a, omega (arith, b))
-      to (inl (a, inl (b, e))) = never e
+      to : First (lengths room) (Refused (refusal n j)) → (j ≡ 0) × LengthRefuses room n
+      to (inr (a, e)) = (names e, inl (number e, a))
+      to (inl (a, inr (b, e))) = (names e, inr (inl (number e, a, omega (arith, b))))
+      to (inl (a, inl (b, inr (c, e)))) = (names e, inr (inr (number e, a, b, omega (arith, c))))
+      to (inl (a, inl (b, inl (c, e)))) = never e
 
-      from : ((n ≡ 11) × (j ≡ 0) × (limit < end)) ⊎ ((n ≡ 8) × (j ≡ 0) × (end ≤ limit) × (room < wordsFor end)) → First (endChecks end room) (Refused (refusal n j))
-      from (inl (e, q, a)) = inr (λ h. omega arith, same e q)
-      from (inr (e, q, a, b)) = inl (a, inr (λ h. omega arith, same e q))
+      from : j ≡ 0 → LengthRefuses room n → First (lengths room) (Refused (refusal n j))
+      from q (inl (e, a)) = inr (a, same e q)
+      from q (inr (inl (e, a, b))) = inl (a, inr (λ h. omega arith, same e q))
+      from q (inr (inr (e, a, b, c))) = inl (a, inl (b, inr (λ h. omega arith, same e q)))
 
   table-refuses : (room n j : ℕ) → First (feedChecks st p room) (Refused (refusal n j)) ↔ Refuses room n j
-  table-refuses room n j = (λ h. one (parts-refuses (stateChecks st) (pairTable ∷ endChecks end room ∷ []) (refusal n j) .0 h), λ w. parts-refuses (stateChecks st) (pairTable ∷ endChecks end room ∷ []) (refusal n j) .1 (from w))
+  table-refuses room n j = (λ h. one (parts-refuses (stateChecks st) (both ∷ lengths room ∷ []) (refusal n j) .0 h), λ w. parts-refuses (stateChecks st) (both ∷ lengths room ∷ []) (refusal n j) .1 (from w))
     where
-      pair : First pairTable (Refused (refusal n j)) ↔ PairRefuses (p .self .form) (p .self .words) (p .self .listed) (p .rank .form) (p .rank .words) (p .rank .listed) n j
-      pair = pair-refuses (p .self .form) (p .self .words) (p .self .listed) (p .rank .form) (p .rank .words) (p .rank .listed) n j
+      operands : First both (Refused (refusal n j)) ↔ OperandRefuses (p .self .form) (p .self .words) (p .self .listed) (p .rank .form) (p .rank .words) (p .rank .listed) n j
+      operands = both-refuses (p .self .form) (p .self .words) (p .self .listed) (p .rank .form) (p .rank .words) (p .rank .listed) n j
 
-      ends : Within st → Matched p → ((n ≡ 11) × (j ≡ 0) × (limit < end)) ⊎ ((n ≡ 8) × (j ≡ 0) × (end ≤ limit) × (room < wordsFor end)) → Refuses room n j
-      ends w m (inl (e, q, a)) = inr (inr (inl (e, q, w, m, a)))
-      ends w m (inr (e, q, a, b)) = inr (inr (inr (e, q, w, m, a, b)))
-
-      three : Within st → Matched p → First (endChecks end room) (Refused (refusal n j)) ⊎ (Met (endChecks end room) × First (inOrder []) (Refused (refusal n j))) → Refuses room n j
-      three w m (inl h) = ends w m (end-refuses room n j .0 h)
+      three : Within st → Formed → First (lengths room) (Refused (refusal n j)) ⊎ (Met (lengths room) × First (inOrder []) (Refused (refusal n j))) → Refuses room n j
+      three w m (inl h) = let t = length-refuses room n j .0 h in inr (inr (t .0, w, m, t .1))
       three w m (inr h) = none-refuse (refusal n j) (h .1)
 
-      two : Within st → First pairTable (Refused (refusal n j)) ⊎ (Met pairTable × First (inOrder (endChecks end room ∷ [])) (Refused (refusal n j))) → Refuses room n j
-      two w (inl h) = inr (inl (w, pair .0 h))
-      two w (inr (m, h)) = three w (matched-met st p .0 m) (parts-refuses (endChecks end room) [] (refusal n j) .0 h)
+      two : Within st → First both (Refused (refusal n j)) ⊎ (Met both × First (inOrder (lengths room ∷ [])) (Refused (refusal n j))) → Refuses room n j
+      two w (inl h) = inr (inl (w, operands .0 h))
+      two w (inr (m, h)) = three w (formed-met .0 m) (parts-refuses (lengths room) [] (refusal n j) .0 h)
 
-      one : First (stateChecks st) (Refused (refusal n j)) ⊎ (Met (stateChecks st) × First (inOrder (pairTable ∷ endChecks end room ∷ [])) (Refused (refusal n j))) → Refuses room n j
+      one : First (stateChecks st) (Refused (refusal n j)) ⊎ (Met (stateChecks st) × First (inOrder (both ∷ lengths room ∷ [])) (Refused (refusal n j))) → Refuses room n j
       one (inl h) = inl (state-refuses n j .0 h)
-      one (inr (m, h)) = two (within-met .0 m) (parts-refuses pairTable (endChecks end room ∷ []) (refusal n j) .0 h)
+      one (inr (m, h)) = two (within-met .0 m) (parts-refuses both (lengths room ∷ []) (refusal n j) .0 h)
 
-      last : Within st → Matched p → ((n ≡ 11) × (j ≡ 0) × (limit < end)) ⊎ ((n ≡ 8) × (j ≡ 0) × (end ≤ limit) × (room < wordsFor end))
-          → First (stateChecks st) (Refused (refusal n j)) ⊎ (Met (stateChecks st) × First (inOrder (pairTable ∷ endChecks end room ∷ [])) (Refused (refusal n j)))
-      last w m h = inr (within-met .1 w, parts-refuses pairTable (endChecks end room ∷ []) (refusal n j) .1 (inr (matched-met st p .1 m, parts-refuses (endChecks end room) [] (refusal n j) .1 (inl (end-refuses room n j .1 h)))))
-
-      from : Refuses room n j → First (stateChecks st) (Refused (refusal n j)) ⊎ (Met (stateChecks st) × First (inOrder (pairTable ∷ endChecks end room ∷ [])) (Refused (refusal n j)))
+      from : Refuses room n j → First (stateChecks st) (Refused (refusal n j)) ⊎ (Met (stateChecks st) × First (inOrder (both ∷ lengths room ∷ [])) (Refused (refusal n j)))
       from (inl t) = inl (state-refuses n j .1 t)
-      from (inr (inl (w, t))) = inr (within-met .1 w, parts-refuses pairTable (endChecks end room ∷ []) (refusal n j) .1 (inl (pair .1 t)))
-      from (inr (inr (inl (e, q, w, m, a)))) = last w m (inl (e, q, a))
-      from (inr (inr (inr (e, q, w, m, a, b)))) = last w m (inr (e, q, a, b))
+      from (inr (inl (w, t))) = inr (within-met .1 w, parts-refuses both (lengths room ∷ []) (refusal n j) .1 (inl (operands .1 t)))
+      from (inr (inr (q, w, m, t))) =
+          inr (
+            within-met .1 w,
+            parts-refuses both (lengths room ∷ []) (refusal n j) .1
+                (inr (formed-met .1 m, parts-refuses (lengths room) [] (refusal n j) .1 (inl (length-refuses room n j .1 (q, t))))),
+          )
 
   -- a feed that has what it needs is let pass, and no other
   pub feed-fine : (room : ℕ) → (judged st p room ≡ Fine) ↔ Accepts st p room
@@ -116,7 +128,7 @@ module _ (st : State) (p : Pair) where
   feed-fine room = (feed-takes st p room, λ t. fine-exactly (feedChecks st p room) .1 (fits t))
     where
       fits : Accepts st p room → Met (feedChecks st p room)
-      fits t = parts-met _ _ .1 ((t .within .0, (t .within .1, (t .within .2, tt))), parts-met _ _ .1 (matched-met st p .1 (t .matched), parts-met _ _ .1 ((t .limited, (t .space, tt)), none-met)))
+      fits t = parts-met _ _ .1 ((t .within .0, (t .within .1, (t .within .2, tt))), parts-met _ _ .1 (formed-met .1 (t .matched .self, t .matched .rank), parts-met _ _ .1 ((t .matched .ranks, (t .limited, (t .space, tt))), none-met)))
 
   module _ (out : List ℕ) where
     -- each number exactly when, and with it the operand

@@ -1,7 +1,7 @@
 -- What is right of a feed, and of feeds run one after the other on one output, each handed the state that the one before gave back.
 -- Assumes nothing.
 use Prim.Native.Nat.{ℕ, _+_}
-use native.Mathlib.Decide.{decLe}
+use native.Mathlib.Decide.{ℕ-discrete, decLe}
 use mathlib.Core.Bool.{Bool}
 use mathlib.Core.List.{List, [], _∷_}
 use lib.ListN.{length}
@@ -11,10 +11,10 @@ use Rattle.rows.specs.Laid.{wordsFor, laid}
 use Rattle.rows.specs.Table.{Line, need, first, inOrder, ifFine}
 use Rattle.mask.specs.declared.Answer.{Answer}
 use Rattle.mask.specs.declared.Form.{Form}
-use Rattle.mask.specs.Operand.{limit, rowsOf, lengthOf}
+use Rattle.mask.specs.Operand.{limit, rowsOf, lengthOf, countOf}
 use Rattle.mask.specs.Answer.{answered}
 use Rattle.intersect_by_rank.specs.Route.{routeOf, numberOf, published}
-use Rattle.intersect_by_rank.specs.Compose.{pairChecks, result}
+use Rattle.intersect_by_rank.specs.Compose.{bothChecks, result}
 use Rattle.composer.specs.declared.State.{State}
 use Rattle.composer.specs.declared.Fed.{Fed}
 
@@ -65,20 +65,21 @@ stateChecks st =
     ∷ need (decLe (st .done .0) limit) 10 0
     ∷ []
 
--- where the piece would end: 11, it is over the limit, then 8, the output is shorter
-abbrev pub endChecks : ℕ → ℕ → List Line
-endChecks end room =
-    need (decLe end limit) 11 0
+-- 7, the rank piece's length is not the self piece's count; 11, done plus the piece's length is over the limit; 8
+abbrev pub lengthChecks : ℕ → ℕ → ℕ → ℕ → List Line
+lengthChecks ranks set end room =
+    need (ℕ-discrete ranks set) 7 0
+    ∷ need (decLe end limit) 11 0
     ∷ need (decLe (wordsFor end) room) 8 0
     ∷ []
 
--- 10; each operand's and 7; 11 and 8 for done plus the piece's length
+-- 10; the first operand's, then the second's; 7, 11, 8
 abbrev pub feedChecks : State → Pair → ℕ → List Line
 feedChecks st p room =
     inOrder
     (stateChecks st
-    ∷ pairChecks (p .self .form) (p .self .words) (p .self .listed) (p .rank .form) (p .rank .words) (p .rank .listed)
-    ∷ endChecks (st .done .0 + long p) room
+    ∷ bothChecks (p .self .form) (p .self .words) (p .self .listed) (p .rank .form) (p .rank .words) (p .rank .listed)
+    ∷ lengthChecks (lengthOf (p .rank .form)) (countOf (p .self .form) (p .self .listed)) (st .done .0 + long p) room
     ∷ [])
 
 -- the state after the pair: its rows, their set rows and the result's are added

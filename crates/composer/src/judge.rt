@@ -2,13 +2,15 @@
 ghost use mathlib.Core.Path.{_≡_};
 ghost use denote.Ref.{now};
 ghost use Rattle.rows.specs.Table.{first};
-ghost use Rattle.composer.specs.Stream.{lent, pairOf, stateChecks, endChecks, judged};
+ghost use Rattle.composer.specs.Stream.{lent, pairOf, stateChecks, lengthChecks, judged};
 use super::Composer;
 use super::State;
-use intersect_by_rank::inner::judge_pair;
+use intersect_by_rank::inner::judge_both;
 use lent::inner::words_for;
 use mask::Form;
 use mask::inner::at_most;
+use mask::inner::count_of;
+use mask::inner::equal;
 use mask::inner::has_room;
 use mask::inner::length_of;
 use mask::inner::then;
@@ -24,13 +26,14 @@ fn judge_state(state: State) -> Verdict
     then(kept, then(ranks, done))
 }
 
-// Where the piece would end, its last row's place and one: within the limit, and within the output.
-fn judge_end(end: u64, room: u64) -> Verdict
-    ensures { λ v. ⌜ v ≡ first (endChecks end room) ⌝ }
+// The rank piece is as long as the self piece has set rows; and where the piece would end is within the limit, and within the output.
+fn judge_lengths(ranks: u64, set: u64, end: u64, room: u64) -> Verdict
+    ensures { λ v. ⌜ v ≡ first (lengthChecks ranks set end room) ⌝ }
 {
+    let matched = equal(ranks, set);
     let limit = at_most(11, end, Composer::ROW_LIMIT);
     let space = has_room(words_for(end), room);
-    then(limit, space)
+    then(matched, then(limit, space))
 }
 
 // The end is computed only where the state and the piece are within their limits: their sum does not wrap.
@@ -48,10 +51,15 @@ pub fn judge(
 {
     let before = then(
         judge_state(state),
-        judge_pair(s, swords, srows, r, rwords, rrows),
+        judge_both(s, swords, srows, r, rwords, rrows),
     );
     match before {
         Verdict::Refused(refusal) => Verdict::Refused(refusal),
-        Verdict::Fine => judge_end(state.done.0 + length_of(s), room),
+        Verdict::Fine => judge_lengths(
+            length_of(r),
+            count_of(s, srows),
+            state.done.0 + length_of(s),
+            room,
+        ),
     }
 }

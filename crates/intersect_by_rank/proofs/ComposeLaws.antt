@@ -13,34 +13,27 @@ use Rattle.rows.specs.Table.{Met, first}
 use Rattle.rows.proofs.TableLaws.{fine-exactly, parts-met, none-met}
 use Rattle.rows.proofs.RowLaws.{compose-length, compose-count}
 use Rattle.mask.specs.declared.Form.{Form}
-use Rattle.mask.specs.Operand.{rowsOf, lengthOf, countOf}
+use Rattle.mask.specs.Operand.{rowsOf, lengthOf, countOf, Accepted}
 use Rattle.mask.specs.Answer.{answered}
 use Rattle.mask.proofs.OperandLaws.{accepted-as, accepted-length, accepted-count}
 use Rattle.intersect_by_rank.specs.declared.Factors.{Factors}
 use Rattle.intersect_by_rank.specs.Route.{routeOf, numberOf}
-use Rattle.intersect_by_rank.specs.Compose.{Paired, pairChecks, composeChecks, result, composed, composedOut}
+use Rattle.intersect_by_rank.specs.Compose.{Paired, bothChecks, composeChecks, result, composed, composedOut}
 
 module _ (s : Form) (sws ses : List ℕ) (r : Form) (rws res : List ℕ) where
-  -- the needs part by part; `search` finds each where it stands, so that the order is the theorem's alone to say
-  pub pair-met : Met (pairChecks s sws ses r rws res) ↔ Paired s sws ses r rws res
-  pair-met = (to, from)
+  pub both-met : Met (bothChecks s sws ses r rws res) ↔ (Accepted s sws ses × Accepted r rws res)
+  both-met = (to, from)
     where
-      to : Met (pairChecks s sws ses r rws res) → Paired s sws ses r rws res
+      to : Met (bothChecks s sws ses r rws res) → Accepted s sws ses × Accepted r rws res
       to m =
           let p = parts-met _ _ .0 m in
           let q = parts-met _ _ .0 (p .1) in
-          let t = parts-met _ _ .0 (q .1) in
-          let one = accepted-as 1 s sws ses .0 in
-          let two = accepted-as 2 r rws res .0 in
-          record { self = one (search); rank = two (search); ranks = search }
+          (accepted-as 1 s sws ses .0 (p .0), accepted-as 2 r rws res .0 (q .0))
 
-      from : Paired s sws ses r rws res → Met (pairChecks s sws ses r rws res)
-      from t =
-          let one = accepted-as 1 s sws ses .1 (t .self) in
-          let two = accepted-as 2 r rws res .1 (t .rank) in
-          let ranks = t .ranks in
-          parts-met _ _ .1 (search, parts-met _ _ .1 (search, parts-met _ _ .1 (search, none-met)))
+      from : Accepted s sws ses × Accepted r rws res → Met (bothChecks s sws ses r rws res)
+      from t = parts-met _ _ .1 (accepted-as 1 s sws ses .1 (t .0), parts-met _ _ .1 (accepted-as 2 r rws res .1 (t .1), none-met))
 
+  -- the needs part by part; `search` finds each where it stands, so that the order is the theorem's alone to say
   pub compose-met : (room : ℕ) → Met (composeChecks s sws ses r rws res room) ↔ (Paired s sws ses r rws res × (wordsFor (lengthOf s) ≤ room))
   compose-met room = (to, from)
     where
@@ -48,10 +41,15 @@ module _ (s : Form) (sws ses : List ℕ) (r : Form) (rws res : List ℕ) where
       to m =
           let p = parts-met _ _ .0 m in
           let q = parts-met _ _ .0 (p .1) in
-          (pair-met .0 (p .0), q .0 .0)
+          let u = parts-met _ _ .0 (q .1) in
+          let a = both-met .0 (search) in
+          (record { self = a .0; rank = a .1; ranks = search }, search)
 
       from : Paired s sws ses r rws res × (wordsFor (lengthOf s) ≤ room) → Met (composeChecks s sws ses r rws res room)
-      from t = parts-met _ _ .1 (pair-met .1 (t .0), parts-met _ _ .1 ((t .1, tt), none-met))
+      from t =
+          let both = both-met .1 (t .0 .self, t .0 .rank) in
+          let ranks = t .0 .ranks in
+          parts-met _ _ .1 (search, parts-met _ _ .1 (search, parts-met _ _ .1 (search, none-met)))
 
   pub compose-fine : (room : ℕ) → (first (composeChecks s sws ses r rws res room) ≡ Fine) ↔ (Paired s sws ses r rws res × (wordsFor (lengthOf s) ≤ room))
   compose-fine room = (λ e. compose-met room .0 (fine-exactly (composeChecks s sws ses r rws res room) .0 e), λ t. fine-exactly (composeChecks s sws ses r rws res room) .1 (compose-met room .1 t))

@@ -26,20 +26,22 @@ use Rattle.mask.proofs.Writes.{bitAt, row, Writes, writes, in-both}
 use Rattle.mask.proofs.Theorems.{Wrong, Bare, operand-refuses, operand-numbered, parts-refuses, none-refuse, line-refuses, numbered-append, answered-told, nothing-done}
 use Rattle.intersect_by_rank.specs.declared.Factors.{Factors}
 use Rattle.intersect_by_rank.specs.Route.{routeOf, numberOf, published}
-use Rattle.intersect_by_rank.specs.Compose.{Paired, pairChecks, composeChecks, result, composed, composedOut}
-use Rattle.intersect_by_rank.proofs.ComposeLaws.{pair-met, compose-met, compose-fine, compose-accepted, result-length, result-count}
+use Rattle.intersect_by_rank.specs.Compose.{Paired, bothChecks, composeChecks, result, composed, composedOut}
+use Rattle.intersect_by_rank.proofs.ComposeLaws.{both-met, compose-met, compose-fine, compose-accepted, result-length, result-count}
 
 module _ (s : Form) (sws ses : List ℕ) (r : Form) (rws res : List ℕ) where
   -- ---- demand 1: self's number, then the rank mask's, then 7, then 8
 
-  abbrev pub PairRefuses : ℕ → ℕ → Type 0
-  PairRefuses n j =
+  abbrev pub OperandRefuses : ℕ → ℕ → Type 0
+  OperandRefuses n j =
       ((j ≡ 1) × Wrong s sws ses n)
       ⊎ ((j ≡ 2) × Accepted s sws ses × Wrong r rws res n)
-      ⊎ ((n ≡ 7) × (j ≡ 0) × Accepted s sws ses × Accepted r rws res × (lengthOf r ≢ countOf s ses))
 
   abbrev pub Refuses : ℕ → ℕ → ℕ → Type 0
-  Refuses room n j = PairRefuses n j ⊎ ((n ≡ 8) × (j ≡ 0) × Paired s sws ses r rws res × (room < wordsFor (lengthOf s)))
+  Refuses room n j =
+      OperandRefuses n j
+      ⊎ ((n ≡ 7) × (j ≡ 0) × Accepted s sws ses × Accepted r rws res × (lengthOf r ≢ countOf s ses))
+      ⊎ ((n ≡ 8) × (j ≡ 0) × Paired s sws ses r rws res × (room < wordsFor (lengthOf s)))
 
   abbrev pub Accepts : ℕ → Type 0
   Accepts room = Paired s sws ses r rws res × (wordsFor (lengthOf s) ≤ room)
@@ -50,55 +52,57 @@ module _ (s : Form) (sws ses : List ℕ) (r : Form) (rws res : List ℕ) where
   abbrev eight : ℕ → List Line
   eight room = need (decLe (wordsFor (lengthOf s)) room) 8 0 ∷ []
 
-  pub pair-refuses : (n j : ℕ) → First (pairChecks s sws ses r rws res) (Refused (refusal n j)) ↔ PairRefuses n j
-  pair-refuses n j = (λ h. to (parts-refuses (operandChecks 1 s sws ses) (operandChecks 2 r rws res ∷ seven ∷ []) (refusal n j) .0 h), λ w. parts-refuses (operandChecks 1 s sws ses) (operandChecks 2 r rws res ∷ seven ∷ []) (refusal n j) .1 (from w))
+  pub both-refuses : (n j : ℕ) → First (bothChecks s sws ses r rws res) (Refused (refusal n j)) ↔ OperandRefuses n j
+  both-refuses n j = (λ h. to (parts-refuses (operandChecks 1 s sws ses) (operandChecks 2 r rws res ∷ []) (refusal n j) .0 h), λ w. parts-refuses (operandChecks 1 s sws ses) (operandChecks 2 r rws res ∷ []) (refusal n j) .1 (from w))
     where
-      last : First seven (Refused (refusal n j)) ⊎ (Met seven × First (inOrder []) (Refused (refusal n j))) → (n ≡ 7) × (j ≡ 0) × (lengthOf r ≢ countOf s ses)
-      last (inl h) = line-refuses (ℕ-discrete (lengthOf r) (countOf s ses)) 7 0 n j .0 h
-      last (inr h) = none-refuse (refusal n j) (h .1)
+      later : Accepted s sws ses → First (operandChecks 2 r rws res) (Refused (refusal n j)) ⊎ (Met (operandChecks 2 r rws res) × First (inOrder []) (Refused (refusal n j))) → OperandRefuses n j
+      later m (inl h) = let w = operand-refuses 2 j n r rws res .0 h in inr (w .0, m, w .1)
+      later m (inr h) = none-refuse (refusal n j) (h .1)
 
-      later : Accepted s sws ses → First (operandChecks 2 r rws res) (Refused (refusal n j)) ⊎ (Met (operandChecks 2 r rws res) × First (inOrder (seven ∷ [])) (Refused (refusal n j))) → PairRefuses n j
-      later m (inl h) = let w = operand-refuses 2 j n r rws res .0 h in inr (inl (w .0, m, w .1))
-      later m (inr (o, h)) = let w = last (parts-refuses seven [] (refusal n j) .0 h) in inr (inr (w .0, w .1, m, accepted-as 2 r rws res .0 o, w .2))
-
-      to : First (operandChecks 1 s sws ses) (Refused (refusal n j)) ⊎ (Met (operandChecks 1 s sws ses) × First (inOrder (operandChecks 2 r rws res ∷ seven ∷ [])) (Refused (refusal n j))) → PairRefuses n j
+      to : First (operandChecks 1 s sws ses) (Refused (refusal n j)) ⊎ (Met (operandChecks 1 s sws ses) × First (inOrder (operandChecks 2 r rws res ∷ [])) (Refused (refusal n j))) → OperandRefuses n j
       to (inl h) = inl (operand-refuses 1 j n s sws ses .0 h)
-      to (inr (m, h)) = later (accepted-as 1 s sws ses .0 m) (parts-refuses (operandChecks 2 r rws res) (seven ∷ []) (refusal n j) .0 h)
+      to (inr (m, h)) = later (accepted-as 1 s sws ses .0 m) (parts-refuses (operandChecks 2 r rws res) [] (refusal n j) .0 h)
 
-      from : PairRefuses n j → First (operandChecks 1 s sws ses) (Refused (refusal n j)) ⊎ (Met (operandChecks 1 s sws ses) × First (inOrder (operandChecks 2 r rws res ∷ seven ∷ [])) (Refused (refusal n j)))
+      from : OperandRefuses n j → First (operandChecks 1 s sws ses) (Refused (refusal n j)) ⊎ (Met (operandChecks 1 s sws ses) × First (inOrder (operandChecks 2 r rws res ∷ [])) (Refused (refusal n j)))
       from (inl w) = inl (operand-refuses 1 j n s sws ses .1 w)
-      from (inr (inl (q, t, w))) = inr (accepted-as 1 s sws ses .1 t, parts-refuses (operandChecks 2 r rws res) (seven ∷ []) (refusal n j) .1 (inl (operand-refuses 2 j n r rws res .1 (q, w))))
-      from (inr (inr (e, q, t, u, x))) =
-          inr (
-            accepted-as 1 s sws ses .1 t,
-            parts-refuses (operandChecks 2 r rws res) (seven ∷ []) (refusal n j) .1
-                (inr (accepted-as 2 r rws res .1 u, parts-refuses seven [] (refusal n j) .1 (inl (line-refuses (ℕ-discrete (lengthOf r) (countOf s ses)) 7 0 n j .1 (e, q, x))))),
-          )
+      from (inr (q, t, w)) = inr (accepted-as 1 s sws ses .1 t, parts-refuses (operandChecks 2 r rws res) [] (refusal n j) .1 (inl (operand-refuses 2 j n r rws res .1 (q, w))))
 
   table-refuses : (room n j : ℕ) → First (composeChecks s sws ses r rws res room) (Refused (refusal n j)) ↔ Refuses room n j
-  table-refuses room n j = (λ h. to (parts-refuses (pairChecks s sws ses r rws res) (eight room ∷ []) (refusal n j) .0 h), λ w. parts-refuses (pairChecks s sws ses r rws res) (eight room ∷ []) (refusal n j) .1 (from w))
+  table-refuses room n j =
+      (λ h. to (parts-refuses (bothChecks s sws ses r rws res) (seven ∷ eight room ∷ []) (refusal n j) .0 h), λ w. parts-refuses (bothChecks s sws ses r rws res) (seven ∷ eight room ∷ []) (refusal n j) .1 (from w))
     where
       last : Paired s sws ses r rws res → First (eight room) (Refused (refusal n j)) ⊎ (Met (eight room) × First (inOrder []) (Refused (refusal n j))) → Refuses room n j
-      last p (inl h) = let w = line-refuses (decLe (wordsFor (lengthOf s)) room) 8 0 n j .0 h in inr (w .0, w .1, p, omega (arith, w .2))
+      last p (inl h) = let w = line-refuses (decLe (wordsFor (lengthOf s)) room) 8 0 n j .0 h in inr (inr (w .0, w .1, p, omega (arith, w .2)))
       last p (inr h) = none-refuse (refusal n j) (h .1)
 
-      to : First (pairChecks s sws ses r rws res) (Refused (refusal n j)) ⊎ (Met (pairChecks s sws ses r rws res) × First (inOrder (eight room ∷ [])) (Refused (refusal n j))) → Refuses room n j
-      to (inl h) = inl (pair-refuses n j .0 h)
-      to (inr (m, h)) = last (pair-met s sws ses r rws res .0 m) (parts-refuses (eight room) [] (refusal n j) .0 h)
+      next : Accepted s sws ses × Accepted r rws res → First seven (Refused (refusal n j)) ⊎ (Met seven × First (inOrder (eight room ∷ [])) (Refused (refusal n j))) → Refuses room n j
+      next a (inl h) = let w = line-refuses (ℕ-discrete (lengthOf r) (countOf s ses)) 7 0 n j .0 h in inr (inl (w .0, w .1, a .0, a .1, w .2))
+      next a (inr (m, h)) = last (record { self = a .0; rank = a .1; ranks = m .0 }) (parts-refuses (eight room) [] (refusal n j) .0 h)
 
-      from : Refuses room n j → First (pairChecks s sws ses r rws res) (Refused (refusal n j)) ⊎ (Met (pairChecks s sws ses r rws res) × First (inOrder (eight room ∷ [])) (Refused (refusal n j)))
-      from (inl w) = inl (pair-refuses n j .1 w)
-      from (inr (e, q, p, y)) = inr (pair-met s sws ses r rws res .1 p, parts-refuses (eight room) [] (refusal n j) .1 (inl (line-refuses (decLe (wordsFor (lengthOf s)) room) 8 0 n j .1 (e, q, λ h. omega arith))))
+      to : First (bothChecks s sws ses r rws res) (Refused (refusal n j)) ⊎ (Met (bothChecks s sws ses r rws res) × First (inOrder (seven ∷ eight room ∷ [])) (Refused (refusal n j))) → Refuses room n j
+      to (inl h) = inl (both-refuses n j .0 h)
+      to (inr (m, h)) = next (both-met s sws ses r rws res .0 m) (parts-refuses seven (eight room ∷ []) (refusal n j) .0 h)
 
-  pub pair-numbered : Numbered (pairChecks s sws ses r rws res)
+      from : Refuses room n j → First (bothChecks s sws ses r rws res) (Refused (refusal n j)) ⊎ (Met (bothChecks s sws ses r rws res) × First (inOrder (seven ∷ eight room ∷ [])) (Refused (refusal n j)))
+      from (inl w) = inl (both-refuses n j .1 w)
+      from (inr (inl (e, q, t, u, x))) =
+          inr (both-met s sws ses r rws res .1 (t, u), parts-refuses seven (eight room ∷ []) (refusal n j) .1 (inl (line-refuses (ℕ-discrete (lengthOf r) (countOf s ses)) 7 0 n j .1 (e, q, x))))
+      from (inr (inr (e, q, p, y))) =
+          inr (
+            both-met s sws ses r rws res .1 (p .self, p .rank),
+            parts-refuses seven (eight room ∷ []) (refusal n j) .1
+                (inr ((p .ranks, tt), parts-refuses (eight room) [] (refusal n j) .1 (inl (line-refuses (decLe (wordsFor (lengthOf s)) room) 8 0 n j .1 (e, q, λ h. omega arith))))),
+          )
+
+  pub both-numbered : Numbered (bothChecks s sws ses r rws res)
   unfolding inOrder
-  pair-numbered =
-      numbered-append (operandChecks 1 s sws ses) (operandChecks 2 r rws res ++ seven) (operand-numbered 1 s sws ses)
-      (numbered-append (operandChecks 2 r rws res) seven (operand-numbered 2 r rws res) (omega arith, tt))
+  both-numbered =
+      numbered-append (operandChecks 1 s sws ses) (operandChecks 2 r rws res ++ []) (operand-numbered 1 s sws ses)
+      (numbered-append (operandChecks 2 r rws res) [] (operand-numbered 2 r rws res) tt)
 
   table-numbered : (room : ℕ) → Numbered (composeChecks s sws ses r rws res room)
   unfolding inOrder
-  table-numbered room = numbered-append (pairChecks s sws ses r rws res) (eight room) pair-numbered (omega arith, tt)
+  table-numbered room = numbered-append (bothChecks s sws ses r rws res) (need (ℕ-discrete (lengthOf r) (countOf s ses)) 7 0 ∷ eight room) both-numbered (omega arith, (omega arith, tt))
 
   module _ (k : Factors) (out : List ℕ) where
     -- each number exactly when, and with it the operand

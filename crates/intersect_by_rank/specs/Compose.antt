@@ -22,20 +22,17 @@ pub record Paired (s : Form) (sws ses : List ℕ) (r : Form) (rws res : List ℕ
   pub rank : Accepted r rws res
   pub ranks : lengthOf r ≡ countOf s ses
 
--- the checks of the pair: each operand's, then 7, the rank mask's length is not self's count
-abbrev pub pairChecks : Form → List ℕ → List ℕ → Form → List ℕ → List ℕ → List Line
-pairChecks s sws ses r rws res =
-    inOrder
-    (operandChecks 1 s sws ses
-    ∷ operandChecks 2 r rws res
-    ∷ (need (ℕ-discrete (lengthOf r) (countOf s ses)) 7 0 ∷ [])
-    ∷ [])
+-- the checks of both operands: self's, then the rank mask's
+abbrev pub bothChecks : Form → List ℕ → List ℕ → Form → List ℕ → List ℕ → List Line
+bothChecks s sws ses r rws res = inOrder (operandChecks 1 s sws ses ∷ operandChecks 2 r rws res ∷ [])
 
--- the checks, for an output of `room` words: the pair's, then 8, the output is shorter than the result
+-- the checks, for an output of `room` words: the operands', then 7, the rank mask's length is not self's count, then 8, the output is
+-- shorter than the result
 abbrev pub composeChecks : Form → List ℕ → List ℕ → Form → List ℕ → List ℕ → ℕ → List Line
 composeChecks s sws ses r rws res room =
     inOrder
-    (pairChecks s sws ses r rws res
+    (bothChecks s sws ses r rws res
+    ∷ (need (ℕ-discrete (lengthOf r) (countOf s ses)) 7 0 ∷ [])
     ∷ (need (decLe (wordsFor (lengthOf s)) room) 8 0 ∷ [])
     ∷ [])
 

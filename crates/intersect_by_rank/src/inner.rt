@@ -1,4 +1,4 @@
-// What the composer calls too: the checks of a pair, and a composition laid over the output from any bit on, by a route of the table; and a
+// What the composer calls too: the checks of both operands, and a composition laid over the output from any bit on, by a route of the table; and a
 // whole composition with the factors handed in.
 ghost use mathlib.Core.Path.{_≡_};
 ghost use Prim.Native.Nat.{_+_, _*_, _^_, _≤_, _<_};
@@ -11,7 +11,7 @@ ghost use Rattle.mask.specs.Operand.{lengthOf};
 ghost use Rattle.mask.specs.Answer.{answered};
 ghost use Rattle.intersect_by_rank.specs.declared.route.Route.the-variants.{MaskDriven};
 ghost use Rattle.intersect_by_rank.specs.Route.{Fits, routeOf, numberOf, published};
-ghost use Rattle.intersect_by_rank.specs.Compose.{Paired, pairChecks, result, composed, composedOut};
+ghost use Rattle.intersect_by_rank.specs.Compose.{Paired, bothChecks, result, composed, composedOut};
 use super::Factors;
 use super::deposit::intersect_bit_buffer_by_rank_indices;
 use super::deposit::intersect_bit_buffers;
@@ -30,7 +30,6 @@ use mask::Form;
 use mask::inner::accepted;
 use mask::inner::check;
 use mask::inner::count_of;
-use mask::inner::equal;
 use mask::inner::is_list;
 use mask::inner::lay_rows;
 use mask::inner::length_of;
@@ -162,9 +161,8 @@ pub fn document_factors() -> Factors
     }
 }
 
-// The checks of two operands as a pair: self is operand 1 and the rank mask operand 2; the first part of the table that refuses is the
-// verdict.
-pub fn judge_pair(
+// The checks of both operands: self is operand 1 and the rank mask operand 2.
+pub fn judge_both(
     s: Form,
     swords: &[u64],
     srows: &[u32],
@@ -172,12 +170,11 @@ pub fn judge_pair(
     rwords: &[u64],
     rrows: &[u32],
 ) -> Verdict
-    ensures { λ v. ⌜ v ≡ first (pairChecks s (now (swords .entry)) (now (srows .entry)) r (now (rwords .entry)) (now (rrows .entry))) ⌝ }
+    ensures { λ v. ⌜ v ≡ first (bothChecks s (now (swords .entry)) (now (srows .entry)) r (now (rwords .entry)) (now (rrows .entry))) ⌝ }
 {
     let one = check(1, s, swords, srows);
     let two = check(2, r, rwords, rrows);
-    let ranks = equal(length_of(r), count_of(s, srows));
-    then(one, then(two, ranks))
+    then(one, two)
 }
 
 // With any factors: they decide the route and nothing else.

@@ -3,15 +3,17 @@ ghost use mathlib.Core.Path.{_≡_};
 ghost use denote.Ref.{now};
 ghost use Rattle.rows.specs.Table.{first};
 ghost use Rattle.intersect_by_rank.specs.Compose.{composeChecks};
-use super::inner::judge_pair;
+use super::inner::judge_both;
 use lent::inner::words_for;
 use mask::Form;
+use mask::inner::count_of;
+use mask::inner::equal;
 use mask::inner::has_room;
 use mask::inner::length_of;
 use mask::inner::then;
 use rows::Verdict;
 
-// The pair's checks, and then that the result has room.
+// The operands' checks, and then what they are to each other and to the output.
 pub fn judge(
     s: Form,
     swords: &[u64],
@@ -23,7 +25,8 @@ pub fn judge(
 ) -> Verdict
     ensures { λ v. ⌜ v ≡ first (composeChecks s (now (swords .entry)) (now (srows .entry)) r (now (rwords .entry)) (now (rrows .entry)) room) ⌝ }
 {
-    let pair = judge_pair(s, swords, srows, r, rwords, rrows);
+    let both = judge_both(s, swords, srows, r, rwords, rrows);
+    let ranks = equal(length_of(r), count_of(s, srows));
     let space = has_room(words_for(length_of(s)), room);
-    then(pair, space)
+    then(both, then(ranks, space))
 }

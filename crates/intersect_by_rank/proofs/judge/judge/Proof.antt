@@ -1,24 +1,33 @@
--- `intersect_by_rank::judge::judge` meets its contract: the pair's refusal is told, and else that of the room.
+-- `intersect_by_rank::judge::judge` meets its contract: the first part of the table that refuses is told.
 -- By the law of parts in order. Assumes nothing.
 use mathlib.Core.Path.{sym, ap, _∙_}
 use mathlib.Core.List.{List, [], _∷_}
-use native.Mathlib.Decide.{decLe}
+use native.Mathlib.Decide.{ℕ-discrete, decLe}
 use denote.Ref.{now}
 use Rattle.rows.specs.declared.Verdict.{Verdict}
 use Rattle.rows.specs.Laid.{wordsFor}
 use Rattle.rows.specs.Table.{Line, first, need, ifFine}
 use Rattle.rows.proofs.TableLaws.{parts-first, parts-last}
-use Rattle.mask.specs.Operand.{lengthOf}
-use Rattle.intersect_by_rank.specs.Compose.{pairChecks}
+use Rattle.mask.specs.Operand.{lengthOf, countOf}
+use Rattle.intersect_by_rank.specs.Compose.{bothChecks}
 use borrow.Author.Needs.{needs}
 use Rattle.intersect_by_rank.proofs.judge.judge.Statement.{statement}
 use Rattle.intersect_by_rank.proofs.judge.judge.Tie as tie
 
-judge-pair-requires : tie.Need-judge-pair-requires
-judge-pair-requires c κs = search needs
+judge-both-requires : tie.Need-judge-both-requires
+judge-both-requires c κs = search needs
 
 length-of-requires : tie.Need-length-of-requires
 length-of-requires c κs = search needs
+
+count-of-requires : tie.Need-count-of-requires
+count-of-requires c κs = search needs
+
+equal-requires : tie.Need-equal-requires
+equal-requires c κs = search needs
+
+length-of-requires-2 : tie.Need-length-of-requires-2
+length-of-requires-2 c κs = search needs
 
 words-for-requires : tie.Need-words-for-requires
 words-for-requires c κs = search needs
@@ -29,22 +38,30 @@ has-room-requires c κs = search needs
 then-requires : tie.Need-then-requires
 then-requires c κs = search needs
 
+then-requires-2 : tie.Need-then-requires-2
+then-requires-2 c κs = search needs
+
 returns : tie.Need-returns
 returns c =
-    let a = (c .before .before .before .before .before .before .before .before .before) .args in
-    let pair : List Line = pairChecks (a .s) (now (a .swords)) (now (a .srows)) (a .r) (now (a .rwords)) (now (a .rrows)) in
+    let a = (c .before .before .before .before .before .before .before .before .before .before .before .before .before) .args in
+    let both : List Line = bothChecks (a .s) (now (a .swords)) (now (a .srows)) (a .r) (now (a .rwords)) (now (a .rrows)) in
+    let ranks : List Line = need (ℕ-discrete (lengthOf (a .r)) (countOf (a .s) (now (a .srows)))) 7 0 ∷ [] in
     let space : List Line = need (decLe (wordsFor (lengthOf (a .s))) (a .room)) 8 0 ∷ [] in
-    c .then .ensures
-    ∙ rw (c .before .has-room .ensures, c .before .before .words-for .ensures, c .before .before .before .length-of .ensures, c .before .before .before .before .judge-pair .ensures)
-    (sym (parts-first pair space [] ∙ ap (λ (v : Verdict). ifFine (first pair) v (first pair)) (parts-last space)))
+    c .then2 .ensures
+    ∙ rw (c .before .then .ensures, c .before .before .has-room .ensures, c .before .before .before .words-for .ensures, c .before .before .before .before .length-of2 .ensures, c .before .before .before .before .before .equal .ensures, c .before .before .before .before .before .before .count-of .ensures, c .before .before .before .before .before .before .before .length-of .ensures, c .before .before .before .before .before .before .before .before .judge-both .ensures)
+    (sym (parts-first both ranks (space ∷ []) ∙ ap (λ (v : Verdict). ifFine (first both) v (first both)) (parts-first ranks space [] ∙ ap (λ (v : Verdict). ifFine (first ranks) v (first ranks)) (parts-last space))))
 
 pub judge-spec : {M : Type 1} → statement M
 judge-spec =
     tie.close
     (tie.spec
-    judge-pair-requires
+    judge-both-requires
     length-of-requires
+    count-of-requires
+    equal-requires
+    length-of-requires-2
     words-for-requires
     has-room-requires
     then-requires
+    then-requires-2
     returns)
