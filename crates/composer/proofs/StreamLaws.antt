@@ -38,7 +38,7 @@ pub record Accepts (st : State) (p : Pair) (room : ℕ) : Type 0 where
   pub limited : st .done .0 + long p ≤ limit
   pub space : wordsFor (st .done .0 + long p) ≤ room
 
--- a feed that every check lets pass has what it needs
+-- a feed that every check lets pass has what it needs; `search` finds each where it stands, so that the order is the theorem's alone to say
 pub feed-takes : (st : State) (p : Pair) (room : ℕ) → judged st p room ≡ Fine → Accepts st p room
 unfolding judged
 feed-takes st p room e =
@@ -48,9 +48,9 @@ feed-takes st p room e =
     let o = both-met (p .self .form) (p .self .words) (p .self .listed) (p .rank .form) (p .rank .words) (p .rank .listed) .0 (b .0) in
     record {
       within = (a .0 .0, a .0 .1 .0, a .0 .1 .1 .0);
-      matched = record { self = o .0; rank = o .1; ranks = c .0 .0 };
-      limited = c .0 .1 .0;
-      space = c .0 .1 .1 .0;
+      matched = record { self = o .0; rank = o .1; ranks = search };
+      limited = search;
+      space = search;
     }
 
 -- ---- the verdict, part by part
