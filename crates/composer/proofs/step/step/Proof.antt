@@ -4,7 +4,6 @@ use mathlib.Core.Path.{refl, ap}
 use native.Mathlib.Omega.{arith}
 use lib.ListN.{length}
 use denote.Ref.{now}
-use Rattle.rows.specs.Rows.{count}
 use Rattle.mask.specs.declared.Answer.{Answer}
 use Rattle.composer.specs.Stream.{Pair, lent, pairOf}
 use Rattle.composer.proofs.StreamLaws.{feed-takes, moved-within, self-length, self-count}
