@@ -107,8 +107,11 @@ module _ (p : Pair) (m : Matched p) where
   pub kept-length : length (kept p) ≡ long p
   kept-length = result-length (p .self .form) (p .self .words) (p .self .listed) (p .rank .form) (p .rank .words) (p .rank .listed) m
 
-  pub kept-count : count (kept p) ≡ count (rows (p .rank))
-  kept-count = result-count (p .self .form) (p .self .words) (p .self .listed) (p .rank .form) (p .rank .words) (p .rank .listed) m ∙ sym (accepted-count (p .rank .form) (p .rank .words) (p .rank .listed) (m .rank))
+  pub kept-count : count (kept p) ≡ countOf (p .rank .form) (p .rank .listed)
+  kept-count = result-count (p .self .form) (p .self .words) (p .self .listed) (p .rank .form) (p .rank .words) (p .rank .listed) m
+
+  pub kept-few : count (kept p) ≤ count (rows (p .self))
+  kept-few = omega (arith, kept-count, sym (accepted-count (p .rank .form) (p .rank .words) (p .rank .listed) (m .rank)), rank-length, count-le-length (rows (p .rank)))
 
   pub self-limit : long p ≤ limit
   self-limit = accepted-limit (p .self .form) (p .self .words) (p .self .listed) (m .self)
@@ -117,7 +120,7 @@ module _ (p : Pair) (m : Matched p) where
 pub moved-within : (st : State) (p : Pair) (room : ℕ) → Accepts st p room → Within (moved st p)
 moved-within st p room t =
     let m = t .matched in (
-      omega (arith, t .within .0, kept-count p m, rank-length p m, count-le-length (rows (p .rank))),
+      omega (arith, t .within .0, kept-few p m),
       omega (arith, t .within .1, count-le-length (rows (p .self))),
       omega (arith, t .limited, self-length p m),
     )
