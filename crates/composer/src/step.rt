@@ -30,6 +30,7 @@ fn moved(state: State, rows: Row, ranks: Rank, kept: u64) -> State
     }
 }
 
+// As many rows are kept as the rank piece sets.
 pub fn step(
     state: State,
     s: Form,
@@ -45,11 +46,11 @@ pub fn step(
         × (now (out .exit) ≡ outBy Fine state (pairOf (lent s (now (swords .entry)) (now (srows .entry))) (lent r (now (rwords .entry)) (now (rrows .entry)))) (now (out .entry))) ⌝ }
 {
     let at = state.done.0;
-    let factors = document_factors();
-    let answer = lay_composition(factors, s, swords, srows, r, rwords, rrows, at, out);
     let rows = Row(length_of(s));
     let ranks = Rank(count_of(s, srows));
-    let next = moved(state, rows, ranks, answer.summary.count);
+    let next = moved(state, rows, ranks, count_of(r, rrows));
+    let factors = document_factors();
+    let answer = lay_composition(factors, s, swords, srows, r, rwords, rrows, at, out);
     Fed {
         answer,
         state: next,

@@ -1,25 +1,14 @@
 -- `composer::step::step` meets its contract: the pair is laid from done on, and its rows, their set rows and the result's are added.
 -- By what acceptance gives. Assumes nothing.
-use mathlib.Core.Path.{refl, ap}
+use mathlib.Core.Path.{refl}
 use native.Mathlib.Omega.{arith}
 use lib.ListN.{length}
 use denote.Ref.{now}
-use Rattle.mask.specs.declared.Answer.{Answer}
 use Rattle.composer.specs.Stream.{Pair, lent, pairOf}
-use Rattle.composer.proofs.StreamLaws.{feed-takes, moved-within, self-length, self-count}
+use Rattle.composer.proofs.StreamLaws.{feed-takes, moved-within, self-length, self-count, kept-count}
 use borrow.Author.Needs.{needs}
 use Rattle.composer.proofs.step.step.Statement.{statement}
 use Rattle.composer.proofs.step.step.Tie as tie
-
-document-factors-requires : tie.Need-document-factors-requires
-document-factors-requires c κs = search needs
-
-lay-composition-requires : tie.Need-lay-composition-requires
-lay-composition-requires c κs =
-    let a = (c .before .before .before .before .before .before .before) .args in
-    let p : Pair = pairOf (lent (a .s) (now (a .swords)) (now (a .srows))) (lent (a .r) (now (a .rwords)) (now (a .rrows))) in
-    let t = feed-takes (a .state) p (length (now (a .out))) ((c .before .before .before .before .before .before .before) .pre) in
-    (t .matched, omega (arith, t .space), omega (arith, t .limited))
 
 length-of-requires : tie.Need-length-of-requires
 length-of-requires c κs = search needs
@@ -27,34 +16,46 @@ length-of-requires c κs = search needs
 count-of-requires : tie.Need-count-of-requires
 count-of-requires c κs = search needs
 
+count-of-requires-2 : tie.Need-count-of-requires-2
+count-of-requires-2 c κs = search needs
+
 moved-requires : tie.Need-moved-requires
 moved-requires c κs =
-    let a = (c .before .before .before .before .before .before .before .before .before .before .before .before) .args in
+    let a = (c .before .before .before .before .before .before .before .before) .args in
     let p : Pair = pairOf (lent (a .s) (now (a .swords)) (now (a .srows))) (lent (a .r) (now (a .rwords)) (now (a .rrows))) in
-    let t = feed-takes (a .state) p (length (now (a .out))) ((c .before .before .before .before .before .before .before .before .before .before .before .before) .pre) in
+    let t = feed-takes (a .state) p (length (now (a .out))) ((c .before .before .before .before .before .before .before .before) .pre) in
     let w = moved-within (a .state) p (length (now (a .out))) t in
-    let n = ap (λ (x : Answer). x .summary .count) (c .before .before .before .before .lay-composition .ensures .0) in
-    (omega (arith, t .limited, c .before .length-of .ensures), omega (arith, c .count-of .ensures, self-count p (t .matched), w .1, w .2), omega (arith, n, w .0, w .1, w .2))
+    (omega (arith, t .limited, c .before .before .length-of .ensures), omega (arith, c .before .count-of .ensures, self-count p (t .matched), w .1, w .2), omega (arith, c .count-of2 .ensures, kept-count p (t .matched), w .0, w .1, w .2))
+
+document-factors-requires : tie.Need-document-factors-requires
+document-factors-requires c κs = search needs
+
+lay-composition-requires : tie.Need-lay-composition-requires
+lay-composition-requires c κs =
+    let a = (c .before .before .before .before .before .before .before .before .before .before .before) .args in
+    let p : Pair = pairOf (lent (a .s) (now (a .swords)) (now (a .srows))) (lent (a .r) (now (a .rwords)) (now (a .rrows))) in
+    let t = feed-takes (a .state) p (length (now (a .out))) ((c .before .before .before .before .before .before .before .before .before .before .before) .pre) in
+    (t .matched, omega (arith, t .space), omega (arith, t .limited))
 
 same-length : tie.Need-same-length
 same-length c = search needs
 
 returns : tie.Need-returns
 returns c =
-    let a = (c .before .before .before .before .before .before .before .before .before .before .before .before .before) .args in
+    let a = (c .before .before .before .before .before .before .before .before .before .before .before .before .before .before) .args in
     let p : Pair = pairOf (lent (a .s) (now (a .swords)) (now (a .srows))) (lent (a .r) (now (a .rwords)) (now (a .rrows))) in
-    let t = feed-takes (a .state) p (length (now (a .out))) ((c .before .before .before .before .before .before .before .before .before .before .before .before .before) .pre) in
-    let n = ap (λ (x : Answer). x .summary .count) (c .before .before .before .before .before .lay-composition .ensures .0) in
-    (rw (c .moved .ensures, c .before .before .length-of .ensures, c .before .count-of .ensures, n, c .before .before .before .before .before .lay-composition .ensures .0, c .before .before .before .before .before .before .before .document-factors .ensures, self-length p (t .matched), self-count p (t .matched)) refl, c .before .before .before .before .before .lay-composition .ensures .1)
+    let t = feed-takes (a .state) p (length (now (a .out))) ((c .before .before .before .before .before .before .before .before .before .before .before .before .before .before) .pre) in
+    (rw (c .before .before .lay-composition .ensures .0, c .before .before .before .before .document-factors .ensures, c .before .before .before .before .before .moved .ensures, c .before .before .before .before .before .before .before .before .length-of .ensures, c .before .before .before .before .before .before .before .count-of .ensures, c .before .before .before .before .before .before .count-of2 .ensures, self-length p (t .matched), self-count p (t .matched), kept-count p (t .matched)) refl, c .before .before .lay-composition .ensures .1)
 
 pub step-spec : {M : Type 1} → statement M
 step-spec =
     tie.close
     (tie.spec
-    document-factors-requires
-    lay-composition-requires
     length-of-requires
     count-of-requires
+    count-of-requires-2
     moved-requires
+    document-factors-requires
+    lay-composition-requires
     same-length
     returns)
