@@ -151,8 +151,8 @@ module _ (st : State) (p : Pair) where
     pub fed-refused : fed st p out .answer .refusal .number ≢ 0 → (fed st p out .state ≡ st) × (fedOut st p out ≡ out) × Bare (fed st p out .answer)
     fed-refused h =
         let v = judged st p (length out) in
-        let s = nothing-done v (kept p) (routed p) (moved st p) st h in
-        (s .0, nothing-done v (kept p) (routed p) (laid (st .done .0) (kept p) out) out h .0, s .1)
+        let s = nothing-done v (kept p) (routed p) _ st h in
+        (s .0, nothing-done v (kept p) (routed p) _ out h .0, s .1)
 
     -- an accepted feed keeps refusal 10's bound
     pub fed-within : Accepts st p (length out) → Within (fed st p out .state)
