@@ -1,0 +1,143 @@
+-- Document 01's words on the text, as statements that can be held against it: which inputs are well formed, what each input is told, that
+-- only 0, 7 and 13 are told, and that no input is too long to be read in part. By the laws of the two lines and of composition.
+-- Assumes nothing.
+use Prim.Native.Nat.{ℕ, _≤_, _<_}
+use native.Mathlib.Decide.{ℕ-discrete, decLe}
+use mathlib.Core.Path.{_≡_, refl, sym, ap, ap₂, _∙_}
+use mathlib.Core.Logic.{_↔_, _≢_, _⊎_, inl, inr}
+use mathlib.Core.Bool.{Bool, true}
+use mathlib.Core.List.{List, []}
+use mathlib.Core.Option.{Option, none, some, Option·some-injective}
+use native.Mathlib.Omega.{arith}
+use lib.ListN.{length, take, length-take}
+use lib.Seq.{take-all}
+use Rattle.rows.specs.Rows.{count, compose}
+use Rattle.rows.specs.Table.{choose}
+use Rattle.rows.proofs.RowLaws.{compose-length, count-le-length}
+use Rattle.rows.proofs.TableLaws.{chosen}
+use Rattle.mask.specs.declared.Answer.{Answer}
+use Rattle.intersect_by_rank.specs.Route.{published, routeOf}
+use Rattle.text.specs.declared.Written.{Written}
+use Rattle.text.specs.Text.{ascii, says, WellFormed, selfIn, rankIn, decWell, parsed, decimalIn, decimal, lines, linesOf, formOf, answerTo, toldOf, told, tells}
+use Rattle.text.specs.Parts.{begins}
+use Rattle.text.proofs.SaidLaws.{self-said, rank-said, said-length}
+use Rattle.text.proofs.ToldLaws.{told-ill}
+use Rattle.text.proofs.AnswerLaws.{routeTaken, answer-paired, answer-unpaired, lines-paired, lines-refused, decimal-short, lines-length, route-small}
+
+-- ---- which inputs are well formed
+
+-- the guess is the masks that the input says, where it says any
+guessed : (input : List ℕ) (self rank : List Bool) → WellFormed input self rank → WellFormed input (selfIn input) (rankIn input)
+guessed input self rank w =
+    let p = self-said input self rank (w .said) in
+    let q = rank-said input self rank (w .said) in
+    record { said = w .said ∙ ap₂ says (sym p) (sym q); self-short = omega (arith, ap length p, w .self-short); rank-short = omega (arith, ap length q, w .rank-short) }
+
+pub parsed-exactly : (input : List ℕ) (self rank : List Bool) → (parsed input ≡ some (self, rank)) ↔ WellFormed input self rank
+unfolding parsed
+parsed-exactly input self rank = (to (decWell input (selfIn input) (rankIn input)), from)
+  where
+    to : (d : Dec (WellFormed input (selfIn input) (rankIn input))) → choose {X = Option (List Bool × List Bool)} d (some (selfIn input, rankIn input)) none ≡ some (self, rank) → WellFormed input self rank
+    to (yes w) e =
+        let both : _≡_ {A = List Bool × List Bool} (selfIn input, rankIn input) (self, rank) = Option·some-injective (selfIn input, rankIn input) (self, rank) e in
+        let p = ap (λ (x : List Bool × List Bool). x .0) both in
+        let q = ap (λ (x : List Bool × List Bool). x .1) both in
+        record { said = w .said ∙ ap₂ says p q; self-short = omega (arith, ap length p, w .self-short); rank-short = omega (arith, ap length q, w .rank-short) }
+    to (no h) e = let z : _≡_ {A = ℕ} 0 1 = cc in absurd (omega arith)
+
+    from : WellFormed input self rank → choose {X = Option (List Bool × List Bool)} (decWell input (selfIn input) (rankIn input)) (some (selfIn input, rankIn input)) none ≡ some (self, rank)
+    from w =
+        chosen {X = Option (List Bool × List Bool)} (decWell input (selfIn input) (rankIn input)) (some (selfIn input, rankIn input)) none (guessed input self rank w)
+        ∙ ap₂ (λ (s r : List Bool). some (s, r)) (self-said input self rank (w .said)) (rank-said input self rank (w .said))
+
+-- ---- what is told
+
+-- two masks: the four lines of what composition answers to them
+pub well-formed-told : (input : List ℕ) (self rank : List Bool) → WellFormed input self rank → told input ≡ linesOf (answerTo self rank) (compose self rank)
+unfolding told
+well-formed-told input self rank w = ap toldOf (parsed-exactly input self rank .1 w)
+
+-- anything else: 13
+pub ill-formed-told : (input : List ℕ) → ((self rank : List Bool) → ¬ WellFormed input self rank) → told input ≡ lines 13 0 0 []
+ill-formed-told input h = told-ill input (h (selfIn input) (rankIn input))
+
+-- of two masks: where the rank mask is as long as self has set rows, 0, the table's route, the rank mask's count and the composition's rows
+pub paired-told : (input : List ℕ) (self rank : List Bool) → WellFormed input self rank → length rank ≡ count self → told input ≡ lines 0 (routeTaken self rank) (count rank) (compose self rank)
+paired-told input self rank w e =
+    well-formed-told input self rank w ∙ ap (λ (a : Answer). linesOf a (compose self rank)) (answer-paired self rank (w .self-short) (w .rank-short) e) ∙ lines-paired self rank (routeTaken self rank) e
+
+-- and else 7
+pub unpaired-told : (input : List ℕ) (self rank : List Bool) → WellFormed input self rank → length rank ≢ count self → told input ≡ lines 7 0 0 []
+unpaired-told input self rank w h =
+    let t = answer-unpaired self rank (w .self-short) (w .rank-short) h in
+    well-formed-told input self rank w ∙ lines-refused (answerTo self rank) (compose self rank) 7 (t .0) (λ z. omega arith) (t .1)
+
+-- only 0, 7 and 13 are told: the first line is one of three. And all lines have at most 8,228 bytes
+pub record Told (input : List ℕ) : Type 0 where
+  pub first-line : (begins (ascii "refusal=0\n") (told input) ≡ true) ⊎ (begins (ascii "refusal=7\n") (told input) ≡ true) ⊎ (begins (ascii "refusal=13\n") (told input) ≡ true)
+  pub short : length (told input) ≤ 8228
+
+first-lines : (route set : ℕ) (rows : List Bool)
+    → (begins (ascii "refusal=0\n") (lines 0 route set rows) ≡ true) × (begins (ascii "refusal=7\n") (lines 7 route set rows) ≡ true) × (begins (ascii "refusal=13\n") (lines 13 route set rows) ≡ true)
+unfolding lines decimal decimalIn
+first-lines route set rows = (refl, refl, refl)
+
+pub only-these : (input : List ℕ) → Told input
+only-these input = go (decWell input (selfIn input) (rankIn input)) (ℕ-discrete (length (rankIn input)) (count (selfIn input)))
+  where
+    one : (d : ℕ) → d < 10 → length (decimal d) ≤ 1
+    one d h = decimal-short 0 d h
+
+    go : Dec (WellFormed input (selfIn input) (rankIn input)) → Dec (length (rankIn input) ≡ count (selfIn input)) → Told input
+    go (yes w) (yes e) =
+        let self = selfIn input in
+        let rank = rankIn input in
+        let t = paired-told input self rank w e in
+        record {
+          first-line = inl (ap (begins (ascii "refusal=0\n")) t ∙ first-lines (routeTaken self rank) (count rank) (compose self rank) .0);
+          short = omega (
+            arith,
+            ap length t,
+            lines-length 0 (routeTaken self rank) (count rank) (compose self rank),
+            one 0 (omega arith),
+            decimal-short 1 (routeTaken self rank) (omega (arith, route-small (routeOf published (formOf self) [] (formOf rank) []))),
+            decimal-short 3 (count rank) (omega (arith, count-le-length rank, w .rank-short)),
+            compose-length self rank,
+            w .self-short,
+          );
+        }
+    go (yes w) (no h) =
+        let t = unpaired-told input (selfIn input) (rankIn input) w h in
+        record { first-line = inr (inl (ap (begins (ascii "refusal=7\n")) t ∙ first-lines 0 0 [] .1)); short = omega (arith, ap length t, lines-length 7 0 0 [], one 7 (omega arith), one 0 (omega arith)) }
+    go (no h) e =
+        let t = told-ill input h in
+        record { first-line = inr (inr (ap (begins (ascii "refusal=13\n")) t ∙ first-lines 0 0 [] .2)); short = omega (arith, ap length t, lines-length 13 0 0 [], decimal-short 1 13 (omega arith), one 0 (omega arith)) }
+
+-- ---- a long input
+
+-- the longest well formed input has 16,396 bytes
+pub too-long : (input : List ℕ) → 16396 < length input → (self rank : List Bool) → ¬ WellFormed input self rank
+too-long input h self rank w = omega (arith, said-length input self rank (w .said), w .self-short, w .rank-short)
+
+-- so the first 16,397 bytes tell what the whole tells
+pub told-cut : (input : List ℕ) → told (take 16397 input) ≡ told input
+told-cut input = go (decLe (length input) 16397)
+  where
+    go : Dec (length input ≤ 16397) → told (take 16397 input) ≡ told input
+    go (yes h) = ap told (take-all 16397 input h)
+    go (no h) = ill-formed-told (take 16397 input) (too-long (take 16397 input) (omega (arith, length-take 16397 input))) ∙ sym (ill-formed-told input (too-long input (omega arith)))
+
+-- ---- what is written has room
+
+pub tells-within : (input : List ℕ) (room : ℕ) (w : Written) → w ≡ tells input room → w .len ≤ room
+unfolding tells
+tells-within input room w e = go (decLe (length (told input)) room) e
+  where
+    go : (d : Dec (length (told input) ≤ room)) → w ≡ choose d (record { refusal = 0; len = length (told input) }) (record { refusal = 8; len = 0 }) → w .len ≤ room
+    go (yes h) q = omega (arith, ap (λ (x : Written). x .len) q)
+    go (no h) q = omega (arith, ap (λ (x : Written). x .len) q)
+
+-- an output of 8,228 bytes is never too short
+pub always-room : (input : List ℕ) (room : ℕ) → 8228 ≤ room → tells input room ≡ record { refusal = 0; len = length (told input) }
+unfolding tells
+always-room input room h = chosen (decLe (length (told input)) room) _ _ (omega (arith, only-these input .short))

@@ -1,0 +1,31 @@
+-- What the contracts of the code's parts cite: a key at the front of a text, what is found of an input, what words tell.
+-- Assumes nothing.
+use Prim.Native.Nat.{ℕ}
+use mathlib.Core.Bool.{Bool, true, false, _&&_}
+use mathlib.Core.List.{List, [], _∷_}
+use lib.ListN.{length}
+use lib.Dec.{eqb}
+use Rattle.rows.specs.Rows.{count, compose}
+use Rattle.rows.specs.Words.{view}
+use Rattle.rows.specs.Table.{choose}
+use Rattle.mask.specs.declared.Form.the-variants.{Words}
+use Rattle.intersect_by_rank.specs.Route.{published}
+use Rattle.intersect_by_rank.specs.Compose.{composed}
+use Rattle.text.specs.declared.find.Found.{Found}
+use Rattle.text.specs.declared.find.Found.the-variants.{Masks, Malformed}
+use Rattle.text.specs.Text.{selfIn, rankIn, decWell, linesOf}
+
+-- the text begins with the key
+abbrev pub begins : List ℕ → List ℕ → Bool
+begins [] text = true
+begins (k ∷ key) [] = false
+begins (k ∷ key) (t ∷ text) = eqb t k && begins key text
+
+-- how many rows each mask of a well formed input has
+unfoldable pub foundIn : List ℕ → Found
+foundIn input = choose (decWell input (selfIn input) (rankIn input)) (Masks (length (selfIn input)) (length (rankIn input))) Malformed
+
+-- what is told of s rows in words and r rows in words, for an output of these words
+unfoldable pub toldWords : List ℕ → ℕ → List ℕ → ℕ → List ℕ → List ℕ
+toldWords sws s rws r out =
+    linesOf (composed published (Words 0 s (count (view 0 s sws))) sws [] (Words 0 r (count (view 0 r rws))) rws [] out) (compose (view 0 s sws) (view 0 r rws))
