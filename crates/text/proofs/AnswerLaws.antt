@@ -58,7 +58,7 @@ module _ (self rank : List Bool) (self-short : length self ≤ 8192) (rank-short
   pub answer-unpaired : length rank ≢ count self → (answerTo self rank .refusal .number ≡ 7) × Bare (answerTo self rank)
   answer-unpaired h =
       let out : List ℕ = replicate (wordsFor (length self)) 0 in
-      let told = composed-refuses (formOf self) (wordsIn self) [] (formOf rank) (wordsIn rank) [] published out 7 0 (omega arith) .1 (inr (inr (inl (refl, refl, accepted self self-short, accepted rank rank-short, h)))) in
+      let told = composed-refuses (formOf self) (wordsIn self) [] (formOf rank) (wordsIn rank) [] published out 7 0 (omega arith) .1 (inr (inl (refl, refl, accepted self self-short, accepted rank rank-short, h))) in
       let seven = ap (λ (r : Refusal). r .number) told in
       (seven, composed-refused (formOf self) (wordsIn self) [] (formOf rank) (wordsIn rank) [] published out (λ z. omega (arith, seven)) .1)
 
