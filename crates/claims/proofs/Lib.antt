@@ -1,5 +1,6 @@
 pub mod Composition
 pub mod Examples
 pub mod Once
+pub mod Program
 pub mod SetOperations
 pub mod Streams

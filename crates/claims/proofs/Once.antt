@@ -29,6 +29,8 @@ use Rattle.composer.proofs.Composer.fresh.Kinds as fresh-kinds
 use Rattle.composer.proofs.Composer.fresh.Reads as fresh
 use Rattle.composer.proofs.feed.Kinds as feed-kinds
 use Rattle.composer.proofs.feed.Reads as feed
+use Rattle.text.proofs.answer.Kinds as answer-kinds
+use Rattle.text.proofs.answer.Reads as answer
 
 pub word-deposit-one : OneAnswer 0 deposit-kinds.ps deposit-kinds.r deposit.Pre deposit.Post
 word-deposit-one κs a p x y v w hv hw = (hv ∙ sym hw, refl)
@@ -65,3 +67,6 @@ composer-fresh-one κs a p x y v w hv hw = (hv ∙ sym hw, refl)
 
 pub composer-feed-one : OneAnswer 5 feed-kinds.ps feed-kinds.r feed.Pre feed.Post
 composer-feed-one κs a p x y v w hv hw = (hv .0 ∙ sym (hw .0), ap (λ (l : List ℕ). (tt, (tt, (tt, (tt, (tt, (tt, (tt, (l, tt))))))))) (hv .1 ∙ sym (hw .1)))
+
+pub text-answer-one : OneAnswer 2 answer-kinds.ps answer-kinds.r answer.Pre answer.Post
+text-answer-one κs a p x y v w hv hw = (hv .0 ∙ sym (hw .0), ap (λ (l : List ℕ). (tt, (l, tt))) (hv .1 ∙ sym (hw .1)))

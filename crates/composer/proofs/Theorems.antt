@@ -14,7 +14,7 @@ use Rattle.rows.specs.declared.Verdict.{Verdict}
 use Rattle.rows.specs.declared.Verdict.the-variants.{Fine, Refused}
 use Rattle.rows.specs.Rows.{count, rankAt, splice}
 use Rattle.rows.specs.Words.{bitsOfAll}
-use Rattle.rows.specs.Laid.{wordsFor, laid}
+use Rattle.rows.specs.Laid.{wordsFor}
 use Rattle.rows.specs.Table.{Line, First, Met, first, inOrder, refusal, noRefusal}
 use Rattle.rows.proofs.TableLaws.{told-exactly, fine-exactly, parts-met, none-met}
 use Rattle.rows.proofs.RowLaws.{compose-row, count-le-length}
@@ -30,7 +30,7 @@ use Rattle.intersect_by_rank.proofs.ComposeLaws.{both-met}
 use Rattle.intersect_by_rank.proofs.Theorems.{OperandRefuses, both-refuses}
 use Rattle.composer.specs.declared.State.{State}
 use Rattle.composer.specs.declared.Fed.{Fed}
-use Rattle.composer.specs.Stream.{Pair, rows, long, kept, routed, stateOf, stateChecks, lengthChecks, feedChecks, moved, judged, fed, fedBy, fedOut}
+use Rattle.composer.specs.Stream.{Pair, rows, long, kept, routed, stateOf, stateChecks, lengthChecks, feedChecks, judged, fed, fedBy, fedOut}
 use Rattle.composer.proofs.StreamLaws.{Within, Accepts, feed-takes, refused-number, self-length, kept-length, moved-within}
 
 module _ (st : State) (p : Pair) where
