@@ -591,4 +591,5 @@ def main():
     write_cases(sys.argv[1], answered, lines_of)
 
 
-main()
+if __name__ == "__main__":
+    main()
