@@ -1,0 +1,212 @@
+-- The contracts of the C library and of what stands in the `inner` modules admit one answer and one content of what is lent, on what they
+-- take: both are said to equal a function of the inputs.
+-- Assumes nothing.
+use mathlib.Core.Path.{sym, ap, _∙_, refl}
+use mathlib.Core.List.{List}
+use Prim.Native.Nat.{ℕ}
+use Rattle.claims.specs.OneAnswer.{OneAnswer}
+use Rattle.host.proofs.boltamber_deposit.Kinds as host-boltamber-deposit-kinds
+use Rattle.host.proofs.boltamber_deposit.Reads as host-boltamber-deposit
+use Rattle.host.proofs.boltamber_select.Kinds as host-boltamber-select-kinds
+use Rattle.host.proofs.boltamber_select.Reads as host-boltamber-select
+use Rattle.intersect_by_rank.proofs.inner.compose_at.Kinds as intersect-by-rank-compose-at-kinds
+use Rattle.intersect_by_rank.proofs.inner.compose_at.Reads as intersect-by-rank-compose-at
+use Rattle.intersect_by_rank.proofs.inner.lay_composition.Kinds as intersect-by-rank-lay-composition-kinds
+use Rattle.intersect_by_rank.proofs.inner.lay_composition.Reads as intersect-by-rank-lay-composition
+use Rattle.intersect_by_rank.proofs.inner.document_factors.Kinds as intersect-by-rank-document-factors-kinds
+use Rattle.intersect_by_rank.proofs.inner.document_factors.Reads as intersect-by-rank-document-factors
+use Rattle.intersect_by_rank.proofs.inner.judge_both.Kinds as intersect-by-rank-judge-both-kinds
+use Rattle.intersect_by_rank.proofs.inner.judge_both.Reads as intersect-by-rank-judge-both
+use Rattle.intersect_by_rank.proofs.inner.compose_with.Kinds as intersect-by-rank-compose-with-kinds
+use Rattle.intersect_by_rank.proofs.inner.compose_with.Reads as intersect-by-rank-compose-with
+use Rattle.lent.proofs.inner.word_at.Kinds as lent-word-at-kinds
+use Rattle.lent.proofs.inner.word_at.Reads as lent-word-at
+use Rattle.lent.proofs.inner.joined.Kinds as lent-joined-kinds
+use Rattle.lent.proofs.inner.joined.Reads as lent-joined
+use Rattle.lent.proofs.inner.read.Kinds as lent-read-kinds
+use Rattle.lent.proofs.inner.read.Reads as lent-read
+use Rattle.lent.proofs.inner.ones.Kinds as lent-ones-kinds
+use Rattle.lent.proofs.inner.ones.Reads as lent-ones
+use Rattle.lent.proofs.inner.chunk.Kinds as lent-chunk-kinds
+use Rattle.lent.proofs.inner.chunk.Reads as lent-chunk
+use Rattle.lent.proofs.inner.chunk_len.Kinds as lent-chunk-len-kinds
+use Rattle.lent.proofs.inner.chunk_len.Reads as lent-chunk-len
+use Rattle.lent.proofs.inner.count_view.Kinds as lent-count-view-kinds
+use Rattle.lent.proofs.inner.count_view.Reads as lent-count-view
+use Rattle.lent.proofs.inner.put.Kinds as lent-put-kinds
+use Rattle.lent.proofs.inner.put.Reads as lent-put
+use Rattle.lent.proofs.inner.clear.Kinds as lent-clear-kinds
+use Rattle.lent.proofs.inner.clear.Reads as lent-clear
+use Rattle.lent.proofs.inner.set_bit.Kinds as lent-set-bit-kinds
+use Rattle.lent.proofs.inner.set_bit.Reads as lent-set-bit
+use Rattle.lent.proofs.inner.words_for.Kinds as lent-words-for-kinds
+use Rattle.lent.proofs.inner.words_for.Reads as lent-words-for
+use Rattle.lent.proofs.inner.clear_last.Kinds as lent-clear-last-kinds
+use Rattle.lent.proofs.inner.clear_last.Reads as lent-clear-last
+use Rattle.mask.proofs.inner.check.Kinds as mask-check-kinds
+use Rattle.mask.proofs.inner.check.Reads as mask-check
+use Rattle.mask.proofs.inner.check_set.Kinds as mask-check-set-kinds
+use Rattle.mask.proofs.inner.check_set.Reads as mask-check-set
+use Rattle.mask.proofs.inner.judge.Kinds as mask-judge-kinds
+use Rattle.mask.proofs.inner.judge.Reads as mask-judge
+use Rattle.mask.proofs.inner.at_most.Kinds as mask-at-most-kinds
+use Rattle.mask.proofs.inner.at_most.Reads as mask-at-most
+use Rattle.mask.proofs.inner.has_room.Kinds as mask-has-room-kinds
+use Rattle.mask.proofs.inner.has_room.Reads as mask-has-room
+use Rattle.mask.proofs.inner.equal.Kinds as mask-equal-kinds
+use Rattle.mask.proofs.inner.equal.Reads as mask-equal
+use Rattle.mask.proofs.inner.then.Kinds as mask-then-kinds
+use Rattle.mask.proofs.inner.then.Reads as mask-then
+use Rattle.mask.proofs.inner.length_of.Kinds as mask-length-of-kinds
+use Rattle.mask.proofs.inner.length_of.Reads as mask-length-of
+use Rattle.mask.proofs.inner.start_of.Kinds as mask-start-of-kinds
+use Rattle.mask.proofs.inner.start_of.Reads as mask-start-of
+use Rattle.mask.proofs.inner.count_of.Kinds as mask-count-of-kinds
+use Rattle.mask.proofs.inner.count_of.Reads as mask-count-of
+use Rattle.mask.proofs.inner.is_empty.Kinds as mask-is-empty-kinds
+use Rattle.mask.proofs.inner.is_empty.Reads as mask-is-empty
+use Rattle.mask.proofs.inner.is_full.Kinds as mask-is-full-kinds
+use Rattle.mask.proofs.inner.is_full.Reads as mask-is-full
+use Rattle.mask.proofs.inner.is_list.Kinds as mask-is-list-kinds
+use Rattle.mask.proofs.inner.is_list.Reads as mask-is-list
+use Rattle.mask.proofs.inner.chunk_of.Kinds as mask-chunk-of-kinds
+use Rattle.mask.proofs.inner.chunk_of.Reads as mask-chunk-of
+use Rattle.mask.proofs.inner.lay_rows.Kinds as mask-lay-rows-kinds
+use Rattle.mask.proofs.inner.lay_rows.Reads as mask-lay-rows
+use Rattle.mask.proofs.inner.write_rows.Kinds as mask-write-rows-kinds
+use Rattle.mask.proofs.inner.write_rows.Reads as mask-write-rows
+use Rattle.mask.proofs.inner.density.Kinds as mask-density-kinds
+use Rattle.mask.proofs.inner.density.Reads as mask-density
+use Rattle.mask.proofs.inner.accepted.Kinds as mask-accepted-kinds
+use Rattle.mask.proofs.inner.accepted.Reads as mask-accepted
+use Rattle.mask.proofs.inner.refused.Kinds as mask-refused-kinds
+use Rattle.mask.proofs.inner.refused.Reads as mask-refused
+use Rattle.word.proofs.inner.deposit_portable.Kinds as word-deposit-portable-kinds
+use Rattle.word.proofs.inner.deposit_portable.Reads as word-deposit-portable
+use Rattle.word.proofs.inner.deposit_portable_loop.Kinds as word-deposit-portable-loop-kinds
+use Rattle.word.proofs.inner.deposit_portable_loop.Reads as word-deposit-portable-loop
+use Rattle.word.proofs.inner.select_bit_position.Kinds as word-select-bit-position-kinds
+use Rattle.word.proofs.inner.select_bit_position.Reads as word-select-bit-position
+
+pub host-boltamber-deposit-one : OneAnswer 0 host-boltamber-deposit-kinds.ps host-boltamber-deposit-kinds.r host-boltamber-deposit.Pre host-boltamber-deposit.Post
+host-boltamber-deposit-one κs a p x y v w hv hw = (hv ∙ sym hw, refl)
+
+pub host-boltamber-select-one : OneAnswer 0 host-boltamber-select-kinds.ps host-boltamber-select-kinds.r host-boltamber-select.Pre host-boltamber-select.Post
+host-boltamber-select-one κs a p x y v w hv hw = (hv ∙ sym hw, refl)
+
+pub intersect-by-rank-compose-at-one : OneAnswer 5 intersect-by-rank-compose-at-kinds.ps intersect-by-rank-compose-at-kinds.r intersect-by-rank-compose-at.Pre intersect-by-rank-compose-at.Post
+intersect-by-rank-compose-at-one κs a p x y v w hv hw = (refl, ap (λ (l : List ℕ). (tt, (tt, (tt, (tt, (tt, (tt, (tt, (tt, (l, tt)))))))))) (hv ∙ sym hw))
+
+pub intersect-by-rank-lay-composition-one : OneAnswer 5 intersect-by-rank-lay-composition-kinds.ps intersect-by-rank-lay-composition-kinds.r intersect-by-rank-lay-composition.Pre intersect-by-rank-lay-composition.Post
+intersect-by-rank-lay-composition-one κs a p x y v w hv hw = (hv .0 ∙ sym (hw .0), ap (λ (l : List ℕ). (tt, (tt, (tt, (tt, (tt, (tt, (tt, (tt, (l, tt)))))))))) (hv .1 ∙ sym (hw .1)))
+
+pub intersect-by-rank-document-factors-one : OneAnswer 0 intersect-by-rank-document-factors-kinds.ps intersect-by-rank-document-factors-kinds.r intersect-by-rank-document-factors.Pre intersect-by-rank-document-factors.Post
+intersect-by-rank-document-factors-one κs a p x y v w hv hw = (hv ∙ sym hw, refl)
+
+pub intersect-by-rank-judge-both-one : OneAnswer 4 intersect-by-rank-judge-both-kinds.ps intersect-by-rank-judge-both-kinds.r intersect-by-rank-judge-both.Pre intersect-by-rank-judge-both.Post
+intersect-by-rank-judge-both-one κs a p x y v w hv hw = (hv ∙ sym hw, refl)
+
+pub intersect-by-rank-compose-with-one : OneAnswer 5 intersect-by-rank-compose-with-kinds.ps intersect-by-rank-compose-with-kinds.r intersect-by-rank-compose-with.Pre intersect-by-rank-compose-with.Post
+intersect-by-rank-compose-with-one κs a p x y v w hv hw = (hv .0 ∙ sym (hw .0), ap (λ (l : List ℕ). (tt, (tt, (tt, (tt, (tt, (tt, (tt, (l, tt))))))))) (hv .1 ∙ sym (hw .1)))
+
+pub lent-word-at-one : OneAnswer 1 lent-word-at-kinds.ps lent-word-at-kinds.r lent-word-at.Pre lent-word-at.Post
+lent-word-at-one κs a p x y v w hv hw = (hv ∙ sym hw, refl)
+
+pub lent-joined-one : OneAnswer 0 lent-joined-kinds.ps lent-joined-kinds.r lent-joined.Pre lent-joined.Post
+lent-joined-one κs a p x y v w hv hw = (hv ∙ sym hw, refl)
+
+pub lent-read-one : OneAnswer 1 lent-read-kinds.ps lent-read-kinds.r lent-read.Pre lent-read.Post
+lent-read-one κs a p x y v w hv hw = (hv ∙ sym hw, refl)
+
+pub lent-ones-one : OneAnswer 0 lent-ones-kinds.ps lent-ones-kinds.r lent-ones.Pre lent-ones.Post
+lent-ones-one κs a p x y v w hv hw = (hv ∙ sym hw, refl)
+
+pub lent-chunk-one : OneAnswer 1 lent-chunk-kinds.ps lent-chunk-kinds.r lent-chunk.Pre lent-chunk.Post
+lent-chunk-one κs a p x y v w hv hw = (hv ∙ sym hw, refl)
+
+pub lent-chunk-len-one : OneAnswer 0 lent-chunk-len-kinds.ps lent-chunk-len-kinds.r lent-chunk-len.Pre lent-chunk-len.Post
+lent-chunk-len-one κs a p x y v w hv hw = (hv ∙ sym hw, refl)
+
+pub lent-count-view-one : OneAnswer 1 lent-count-view-kinds.ps lent-count-view-kinds.r lent-count-view.Pre lent-count-view.Post
+lent-count-view-one κs a p x y v w hv hw = (hv ∙ sym hw, refl)
+
+pub lent-put-one : OneAnswer 1 lent-put-kinds.ps lent-put-kinds.r lent-put.Pre lent-put.Post
+lent-put-one κs a p x y v w hv hw = (refl, ap (λ (l : List ℕ). (l, (tt, (tt, (tt, tt))))) (hv ∙ sym hw))
+
+pub lent-clear-one : OneAnswer 1 lent-clear-kinds.ps lent-clear-kinds.r lent-clear.Pre lent-clear.Post
+lent-clear-one κs a p x y v w hv hw = (refl, ap (λ (l : List ℕ). (l, (tt, (tt, tt)))) (hv ∙ sym hw))
+
+pub lent-set-bit-one : OneAnswer 1 lent-set-bit-kinds.ps lent-set-bit-kinds.r lent-set-bit.Pre lent-set-bit.Post
+lent-set-bit-one κs a p x y v w hv hw = (refl, ap (λ (l : List ℕ). (l, (tt, tt))) (hv ∙ sym hw))
+
+pub lent-words-for-one : OneAnswer 0 lent-words-for-kinds.ps lent-words-for-kinds.r lent-words-for.Pre lent-words-for.Post
+lent-words-for-one κs a p x y v w hv hw = (hv ∙ sym hw, refl)
+
+pub lent-clear-last-one : OneAnswer 1 lent-clear-last-kinds.ps lent-clear-last-kinds.r lent-clear-last.Pre lent-clear-last.Post
+lent-clear-last-one κs a p x y v w hv hw = (refl, ap (λ (l : List ℕ). (l, (tt, tt))) (hv ∙ sym hw))
+
+pub mask-check-one : OneAnswer 2 mask-check-kinds.ps mask-check-kinds.r mask-check.Pre mask-check.Post
+mask-check-one κs a p x y v w hv hw = (hv ∙ sym hw, refl)
+
+pub mask-check-set-one : OneAnswer 2 mask-check-set-kinds.ps mask-check-set-kinds.r mask-check-set.Pre mask-check-set.Post
+mask-check-set-one κs a p x y v w hv hw = (hv ∙ sym hw, refl)
+
+pub mask-judge-one : OneAnswer 2 mask-judge-kinds.ps mask-judge-kinds.r mask-judge.Pre mask-judge.Post
+mask-judge-one κs a p x y v w hv hw = (hv ∙ sym hw, refl)
+
+pub mask-at-most-one : OneAnswer 0 mask-at-most-kinds.ps mask-at-most-kinds.r mask-at-most.Pre mask-at-most.Post
+mask-at-most-one κs a p x y v w hv hw = (hv ∙ sym hw, refl)
+
+pub mask-has-room-one : OneAnswer 0 mask-has-room-kinds.ps mask-has-room-kinds.r mask-has-room.Pre mask-has-room.Post
+mask-has-room-one κs a p x y v w hv hw = (hv ∙ sym hw, refl)
+
+pub mask-equal-one : OneAnswer 0 mask-equal-kinds.ps mask-equal-kinds.r mask-equal.Pre mask-equal.Post
+mask-equal-one κs a p x y v w hv hw = (hv ∙ sym hw, refl)
+
+pub mask-then-one : OneAnswer 0 mask-then-kinds.ps mask-then-kinds.r mask-then.Pre mask-then.Post
+mask-then-one κs a p x y v w hv hw = (hv ∙ sym hw, refl)
+
+pub mask-length-of-one : OneAnswer 0 mask-length-of-kinds.ps mask-length-of-kinds.r mask-length-of.Pre mask-length-of.Post
+mask-length-of-one κs a p x y v w hv hw = (hv ∙ sym hw, refl)
+
+pub mask-start-of-one : OneAnswer 0 mask-start-of-kinds.ps mask-start-of-kinds.r mask-start-of.Pre mask-start-of.Post
+mask-start-of-one κs a p x y v w hv hw = (hv ∙ sym hw, refl)
+
+pub mask-count-of-one : OneAnswer 1 mask-count-of-kinds.ps mask-count-of-kinds.r mask-count-of.Pre mask-count-of.Post
+mask-count-of-one κs a p x y v w hv hw = (hv ∙ sym hw, refl)
+
+pub mask-is-empty-one : OneAnswer 1 mask-is-empty-kinds.ps mask-is-empty-kinds.r mask-is-empty.Pre mask-is-empty.Post
+mask-is-empty-one κs a p x y v w hv hw = (hv ∙ sym hw, refl)
+
+pub mask-is-full-one : OneAnswer 1 mask-is-full-kinds.ps mask-is-full-kinds.r mask-is-full.Pre mask-is-full.Post
+mask-is-full-one κs a p x y v w hv hw = (hv ∙ sym hw, refl)
+
+pub mask-is-list-one : OneAnswer 0 mask-is-list-kinds.ps mask-is-list-kinds.r mask-is-list.Pre mask-is-list.Post
+mask-is-list-one κs a p x y v w hv hw = (hv ∙ sym hw, refl)
+
+pub mask-chunk-of-one : OneAnswer 1 mask-chunk-of-kinds.ps mask-chunk-of-kinds.r mask-chunk-of.Pre mask-chunk-of.Post
+mask-chunk-of-one κs a p x y v w hv hw = (hv ∙ sym hw, refl)
+
+pub mask-lay-rows-one : OneAnswer 3 mask-lay-rows-kinds.ps mask-lay-rows-kinds.r mask-lay-rows.Pre mask-lay-rows.Post
+mask-lay-rows-one κs a p x y v w hv hw = (refl, ap (λ (l : List ℕ). (tt, (tt, (tt, (tt, (l, tt)))))) (hv ∙ sym hw))
+
+pub mask-write-rows-one : OneAnswer 3 mask-write-rows-kinds.ps mask-write-rows-kinds.r mask-write-rows.Pre mask-write-rows.Post
+mask-write-rows-one κs a p x y v w hv hw = (refl, ap (λ (l : List ℕ). (tt, (tt, (tt, (l, tt))))) (hv ∙ sym hw))
+
+pub mask-density-one : OneAnswer 0 mask-density-kinds.ps mask-density-kinds.r mask-density.Pre mask-density.Post
+mask-density-one κs a p x y v w hv hw = (hv ∙ sym hw, refl)
+
+pub mask-accepted-one : OneAnswer 0 mask-accepted-kinds.ps mask-accepted-kinds.r mask-accepted.Pre mask-accepted.Post
+mask-accepted-one κs a p x y v w hv hw = (hv ∙ sym hw, refl)
+
+pub mask-refused-one : OneAnswer 0 mask-refused-kinds.ps mask-refused-kinds.r mask-refused.Pre mask-refused.Post
+mask-refused-one κs a p x y v w hv hw = (hv ∙ sym hw, refl)
+
+pub word-deposit-portable-one : OneAnswer 0 word-deposit-portable-kinds.ps word-deposit-portable-kinds.r word-deposit-portable.Pre word-deposit-portable.Post
+word-deposit-portable-one κs a p x y v w hv hw = (hv ∙ sym hw, refl)
+
+pub word-deposit-portable-loop-one : OneAnswer 0 word-deposit-portable-loop-kinds.ps word-deposit-portable-loop-kinds.r word-deposit-portable-loop.Pre word-deposit-portable-loop.Post
+word-deposit-portable-loop-one κs a p x y v w hv hw = (hv ∙ sym hw, refl)
+
+pub word-select-bit-position-one : OneAnswer 0 word-select-bit-position-kinds.ps word-select-bit-position-kinds.r word-select-bit-position.Pre word-select-bit-position.Post
+word-select-bit-position-one κs a p x y v w hv hw = (hv ∙ sym hw, refl)
