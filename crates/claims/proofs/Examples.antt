@@ -1,12 +1,17 @@
--- E11, the program's masks, in each mix of forms, and E12, the same in two feeds: each one statement over one list, by computation on the
--- definitions that the contracts cite.
+-- E1 to E12 of document 01, one statement over one list, by computation on the definitions that the contracts cite: E11, the program's
+-- masks, in each mix of forms, and E12, the same in two feeds, stand here.
 -- Assumes nothing.
 use Prim.Native.Nat.{ℕ, _+_, _-_, _^_}
 use mathlib.Core.Path.{_≡_, refl}
-use mathlib.Core.List.{List, [], _∷_}
-use native.Mathlib.Decide.{ℕ-discrete, decLe}
+use mathlib.Core.List.{List, [], _∷_, _++_, map}
+use native.Mathlib.Decide.{ℕ-discrete, decLt, decLe}
 use Rattle.rows.specs.Word.{bitsOf, wordOf}
+use Rattle.rows.specs.Pdep.{pdepLoop, pdep}
 use Rattle.rows.specs.Table.{first, inOrder, noRefusal}
+use Rattle.word.specs.Answer.{deposited, selected}
+use Rattle.word.proofs.Examples as word-examples
+use Rattle.lent.specs.Read.{rankRead}
+use Rattle.lent.proofs.Examples as lent-examples
 use Rattle.mask.specs.declared.Answer.{Answer}
 use Rattle.mask.specs.declared.Form.{Form}
 use Rattle.mask.specs.declared.Form.the-variants.{Words, List as Listed}
@@ -28,10 +33,6 @@ Holds (gives s sws ses r rws res n) =
     (composed published s sws ses r rws res before ≡ record { refusal = noRefusal; summary = record { count = 2; route = n; density = densityOf 2 8 } })
     × (composedOut s sws ses r rws res before ≡ 66 ∷ 7 ∷ [])
 
-abbrev pub Every : List Case → Type 0
-Every [] = Unit {0}
-Every (c ∷ cs) = Holds c × Every cs
-
 abbrev pub masks : List Case
 masks =
     gives (Words 0 8 5) (214 ∷ []) [] (Words 0 5 2) (9 ∷ []) [] 9
@@ -39,10 +40,6 @@ masks =
     ∷ gives (Listed 8) [] (1 ∷ 2 ∷ 4 ∷ 6 ∷ 7 ∷ []) (Words 0 5 2) (9 ∷ []) [] 5
     ∷ gives (Listed 8) [] (1 ∷ 2 ∷ 4 ∷ 6 ∷ 7 ∷ []) (Listed 5) [] (0 ∷ 3 ∷ []) 4
     ∷ []
-
-pub e11 : Every masks
-unfolding composed composedOut routeOf first inOrder bitsOf wordOf ℕ-discrete decLe
-e11 = ((refl, refl), ((refl, refl), ((refl, refl), ((refl, refl), tt))))
 
 -- E12, the same fed as 0110 with 10, then 1011 with 010, in each mix of forms: bits 0 to 7 are 01000010, and the others stay
 
@@ -55,10 +52,6 @@ answers n route len = record { refusal = noRefusal; summary = record { count = n
 abbrev pub FeedsHold : Fed → Type 0
 FeedsHold (feeds one two n m) = run fresh before (one ∷ two ∷ []) ≡ record { answers = answers 1 n 4 ∷ answers 1 m 4 ∷ []; state = stateOf 8 5 2; out = (2 ^ 64 - 256 + 66) ∷ 7 ∷ [] }
 
-abbrev pub EveryFed : List Fed → Type 0
-EveryFed [] = Unit {0}
-EveryFed (f ∷ fs) = FeedsHold f × EveryFed fs
-
 abbrev pub pieces : List Fed
 pieces =
     feeds (pairOf (lent (Words 0 4 2) (6 ∷ []) []) (lent (Words 0 2 1) (1 ∷ []) [])) (pairOf (lent (Words 0 4 3) (13 ∷ []) []) (lent (Words 0 3 1) (2 ∷ []) [])) 9 9
@@ -66,6 +59,28 @@ pieces =
     ∷ feeds (pairOf (lent (Words 0 4 2) (214 ∷ []) []) (lent (Listed 2) [] (0 ∷ []))) (pairOf (lent (Listed 4) [] (0 ∷ 2 ∷ 3 ∷ [])) (lent (Words 2 3 1) (9 ∷ []) [])) 7 5
     ∷ []
 
-pub e12 : EveryFed pieces
-unfolding judged routeOf first inOrder bitsOf wordOf ℕ-discrete decLe
-e12 = (refl, (refl, (refl, tt)))
+-- ---- E1 to E12, one statement over one list: the words' and the reads' stand beside their definitions
+
+pub data Example : Type 0 where
+  word : word-examples.Case → Example
+  read : lent-examples.Case → Example
+  composition : Case → Example
+  stream : Fed → Example
+
+abbrev pub True : Example → Type 0
+True (word c) = word-examples.Holds c
+True (read c) = lent-examples.Holds c
+True (composition c) = Holds c
+True (stream c) = FeedsHold c
+
+abbrev pub AllTrue : List Example → Type 0
+AllTrue [] = Unit {0}
+AllTrue (e ∷ es) = True e × AllTrue es
+
+-- E1 to E8, E9 and E10, E11, E12
+abbrev pub document : List Example
+document = map word word-examples.cases ++ map read lent-examples.cases ++ map composition masks ++ map stream pieces
+
+pub examples : AllTrue document
+unfolding deposited selected pdep pdepLoop rankRead judged composed composedOut routeOf first inOrder bitsOf wordOf ℕ-discrete decLt decLe
+examples = (refl, (refl, (refl, (refl, (refl, (refl, (refl, (refl, (refl, (refl, (refl, (refl, (refl, (refl, (refl, ((refl, refl), ((refl, refl), ((refl, refl), ((refl, refl), (refl, (refl, (refl, tt))))))))))))))))))))))
