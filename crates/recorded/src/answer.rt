@@ -12,6 +12,7 @@ pub enum Finding {
     CountDiffers,
     RouteDiffers,
     DensityDiffers,
+    StateDiffers,
     OutputDiffers,
 }
 

@@ -8,6 +8,7 @@ use reader::Cursor;
 
 mod answer;
 mod conversions;
+mod feeds;
 mod pairs;
 mod reader;
 
@@ -15,6 +16,7 @@ mod reader;
 enum Subject {
     Conversions,
     Pairs,
+    Feeds,
 }
 
 // How many cases agreed, and what came of the one after them.
@@ -37,6 +39,7 @@ fn run_case(
     match subject {
         Subject::Conversions => conversions::run_case(text, cursor, awords, arows, out, brows),
         Subject::Pairs => pairs::run_case(text, cursor, awords, arows, bwords, brows, out),
+        Subject::Feeds => feeds::run_case(text, cursor, awords, arows, bwords, brows, out),
     }
 }
 
@@ -89,6 +92,7 @@ fn print_finding(finding: Finding) {
         Finding::CountDiffers => io::write_all(STDOUT_FILENO, b"the count differs\n"),
         Finding::RouteDiffers => io::write_all(STDOUT_FILENO, b"the route differs\n"),
         Finding::DensityDiffers => io::write_all(STDOUT_FILENO, b"the density differs\n"),
+        Finding::StateDiffers => io::write_all(STDOUT_FILENO, b"the state differs\n"),
         Finding::OutputDiffers => io::write_all(STDOUT_FILENO, b"the output differs\n"),
     }
     ;
@@ -142,4 +146,5 @@ fn run_file(subject: Subject, name: &[u8]) {
 fn main() {
     run_file(Subject::Conversions, b"conversions");
     run_file(Subject::Pairs, b"pairs");
+    run_file(Subject::Feeds, b"feeds");
 }
