@@ -1,11 +1,11 @@
 -- Document 01's program, of whatever the contract of `text::answer` allows: x is what it gives and `after` what then stands in the
--- output, which is long enough. Two masks are answered by the lines of their composition, anything else by the lines of 13. By the
--- theorems about the text. Assumes nothing.
-use mathlib.Core.Path.{_≡_, refl, ap, _∙_}
+-- output. Where that is long enough, two masks are answered by their composition and its lines, anything else by 13 and its lines; and
+-- where it is shorter than the text, by 8. By the theorems about the text. Assumes nothing.
+use mathlib.Core.Path.{_≡_, refl, sym, ap, _∙_}
 use mathlib.Core.Bool.{Bool}
 use mathlib.Core.List.{List, []}
-use mathlib.Core.Logic.{_≢_}
-use Prim.Native.Nat.{ℕ, _≤_}
+use mathlib.Core.Logic.{_↔_, _≢_}
+use Prim.Native.Nat.{ℕ, _≤_, _<_}
 use native.Mathlib.Decide.{decLe}
 use lib.ListN.{length, take, drop}
 use lib.Seq.{take-at}
@@ -14,12 +14,16 @@ use borrow.Fn.Kinds.{Dens, resT, endedOf}
 use denote.Ref.{now}
 use denote.Triple.Clauses.{Lasts, atExit}
 use native.Mathlib.Omega.{arith}
+use Rattle.rows.specs.declared.Verdict.the-variants.{Fine, Refused}
 use Rattle.rows.specs.Rows.{count, compose}
+use Rattle.rows.specs.Table.{refusal}
 use Rattle.rows.proofs.TableLaws.{chosen}
+use Rattle.mask.specs.Answer.{answered}
 use Rattle.text.specs.declared.Written.{Written}
-use Rattle.text.specs.Text.{WellFormed, lines, told, toldOut}
+use Rattle.text.specs.Text.{WellFormed, lines, answers, told, withText, toldOut}
+use Rattle.text.proofs.ToldLaws.{no-room}
 use Rattle.text.proofs.AnswerLaws.{routeTaken}
-use Rattle.text.proofs.Theorems.{only-these, always-room, ill-formed-told, paired-told, unpaired-told}
+use Rattle.text.proofs.Theorems.{only-these, always-room, eight-exactly, ill-formed-answered, ill-formed-told, paired-answered, paired-told, unpaired-answered, unpaired-told}
 use Rattle.text.proofs.answer.Kinds as kinds
 use Rattle.text.proofs.answer.Reads as reads
 
@@ -36,25 +40,42 @@ module _ (κs : Lfts 2) (a : Dens κs kinds.ps) (x : resT kinds.r κs .Denot) (v
   abbrev after : List ℕ
   after = v .1 .0
 
-  -- the bytes that it says it wrote are the text for the input
+  -- the answer is the input's, and the bytes that it says it wrote are the text of it
   module _ (room : 8228 ≤ length out) where
+    gives-whole : written ≡ withText (answers input) (told input)
+    gives-whole = allowed .0 ∙ always-room input (length out) room
+
     writes-text : take (written .len) after ≡ told input
     unfolding toldOut
     writes-text =
         let t = only-these input .short in
-        let n = ap (λ (w : Written). w .len) (allowed .0 ∙ always-room input (length out) room) in
+        let n = ap (λ (w : Written). w .len) gives-whole in
         let o = allowed .1 ∙ chosen (decLe (length (told input)) (length out)) _ _ (omega arith) in
         rw (o, n) (take-at (told input) (drop (length (told input)) out) (length (told input)) refl)
 
+    gives-answer : written .answer ≡ answers input
+    gives-answer = ap (λ (w : Written). w .answer) gives-whole
+
     -- two masks that go together: 0, the table's route, the count and the rows of their composition
     pub pair-is-composed : (self rank : List Bool) → WellFormed input self rank → length rank ≡ count self
-        → take (written .len) after ≡ lines 0 (routeTaken self rank) (count rank) (compose self rank)
-    pair-is-composed self rank w e = writes-text ∙ paired-told input self rank w e
+        → (written .answer ≡ answered Fine (compose self rank) (routeTaken self rank)) × (take (written .len) after ≡ lines 0 (routeTaken self rank) (count rank) (compose self rank))
+    pair-is-composed self rank w e = (gives-answer ∙ paired-answered input self rank w e, writes-text ∙ paired-told input self rank w e)
 
     -- two masks that do not: 7
-    pub other-pair-is-7 : (self rank : List Bool) → WellFormed input self rank → length rank ≢ count self → take (written .len) after ≡ lines 7 0 0 []
-    other-pair-is-7 self rank w h = writes-text ∙ unpaired-told input self rank w h
+    pub other-pair-is-7 : (self rank : List Bool) → WellFormed input self rank → length rank ≢ count self
+        → (written .answer ≡ answered (Refused (refusal 7 0)) [] 0) × (take (written .len) after ≡ lines 7 0 0 [])
+    other-pair-is-7 self rank w h = (gives-answer ∙ unpaired-answered input self rank w h, writes-text ∙ unpaired-told input self rank w h)
 
     -- anything else: 13
-    pub anything-else-is-13 : ((self rank : List Bool) → ¬ WellFormed input self rank) → take (written .len) after ≡ lines 13 0 0 []
-    anything-else-is-13 h = writes-text ∙ ill-formed-told input h
+    pub anything-else-is-13 : ((self rank : List Bool) → ¬ WellFormed input self rank) → (written .answer ≡ answered (Refused (refusal 13 0)) [] 0) × (take (written .len) after ≡ lines 13 0 0 [])
+    anything-else-is-13 h = (gives-answer ∙ ill-formed-answered input h, writes-text ∙ ill-formed-told input h)
+
+  -- an output that is shorter than the text, and no other: 8, no text, and the output as it was
+  pub shorter-is-8 : (written .answer .refusal .number ≡ 8) ↔ (length out < length (told input))
+  shorter-is-8 = (λ e. eight-exactly input (length out) .0 (sym (ap eight (allowed .0)) ∙ e), λ h. ap eight (allowed .0) ∙ eight-exactly input (length out) .1 h)
+    where
+      eight : Written → ℕ
+      eight w = w .answer .refusal .number
+
+  pub shorter-is-untouched : length out < length (told input) → (written ≡ withText (answered (Refused (refusal 8 0)) [] 0) []) × (after ≡ out)
+  shorter-is-untouched h = let n = no-room input out h in (allowed .0 ∙ n .0, allowed .1 ∙ n .1)

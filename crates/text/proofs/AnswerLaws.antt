@@ -10,9 +10,10 @@ use mathlib.Core.Bool.{Bool, true, false, cond}
 use mathlib.Core.List.{List, [], _∷_, _++_}
 use native.Mathlib.Omega.{arith}
 use lib.Dec.{ltb}
+use lib.Ieee.{Float}
 use lib.ListN.{length, replicate, length-append, length-replicate}
 use borrow.Author.Tests.{ltb-false}
-use Rattle.rows.specs.declared.Verdict.the-variants.{Fine}
+use Rattle.rows.specs.declared.Verdict.the-variants.{Fine, Refused}
 use Rattle.rows.specs.declared.Refusal.{Refusal}
 use Rattle.rows.specs.Rows.{count, compose}
 use Rattle.rows.specs.Laid.{wordsFor}
@@ -21,6 +22,7 @@ use Rattle.rows.proofs.RowLaws.{compose-count}
 use Rattle.rows.proofs.LaidLaws.{wordsOf-length}
 use Rattle.rows.proofs.TableLaws.{chosen, passed-over}
 use Rattle.mask.specs.declared.Answer.{Answer}
+use Rattle.mask.specs.declared.Summary.{Summary}
 use Rattle.mask.specs.Answer.{answered}
 use Rattle.mask.specs.Operand.{Accepted}
 use Rattle.mask.proofs.Theorems.{Bare}
@@ -41,6 +43,12 @@ use Rattle.text.proofs.ToldLaws.{words-view}
 accepted : (rows : List Bool) → length rows ≤ 8192 → Accepted (formOf rows) (wordsIn rows) []
 accepted rows h = (omega arith, (omega arith, (omega (arith, wordsOf-length 64 (wordsFor (length rows)) rows), (sym (ap count (words-view rows)), tt))))
 
+-- a refusal with nothing in its summary
+bare-answer : (a : Answer) (r : Refusal) → a .refusal ≡ r → Bare a → a ≡ answered (Refused r) [] 0
+bare-answer a r e bare =
+    ap₂ (λ (x : Refusal) (y : Summary). record { refusal = x; summary = y }) e
+    (ap₂ (λ (n m : ℕ). record { count = n; route = m; density = a .summary .density }) (bare .0) (bare .1) ∙ ap (λ (d : Float). record { count = 0; route = 0; density = d }) (bare .2))
+
 -- the number of the route that composition takes
 abbrev pub routeTaken : List Bool → List Bool → ℕ
 routeTaken self rank = numberOf (routeOf published (formOf self) [] (formOf rank) [])
@@ -55,12 +63,11 @@ module _ (self rank : List Bool) (self-short : length self ≤ 8192) (rank-short
       sym (compose-accepted (formOf self) (wordsIn self) [] (formOf rank) (wordsIn rank) [] published out fine .0)
       ∙ ap₂ (λ (s r : List Bool). answered Fine (compose s r) (routeTaken self rank)) (words-view self) (words-view rank)
 
-  pub answer-unpaired : length rank ≢ count self → (answerTo self rank .refusal .number ≡ 7) × Bare (answerTo self rank)
+  pub answer-unpaired : length rank ≢ count self → answerTo self rank ≡ answered (Refused (refusal 7 0)) [] 0
   answer-unpaired h =
       let out : List ℕ = replicate (wordsFor (length self)) 0 in
       let told = composed-refuses (formOf self) (wordsIn self) [] (formOf rank) (wordsIn rank) [] published out 7 0 (omega arith) .1 (inr (inl (refl, refl, accepted self self-short, accepted rank rank-short, h))) in
-      let seven = ap (λ (r : Refusal). r .number) told in
-      (seven, composed-refused (formOf self) (wordsIn self) [] (formOf rank) (wordsIn rank) [] published out (λ z. omega (arith, seven)) .1)
+      bare-answer (answerTo self rank) (refusal 7 0) told (composed-refused (formOf self) (wordsIn self) [] (formOf rank) (wordsIn rank) [] published out (λ z. omega (arith, ap (λ (r : Refusal). r .number) told)) .1)
 
 -- ---- its lines
 
@@ -70,11 +77,9 @@ lines-paired self rank route e =
     ap (lines 0 route (count (compose self rank))) (chosen (ℕ-discrete 0 0) (compose self rank) [] refl)
     ∙ ap (λ (n : ℕ). lines 0 route n (compose self rank)) (compose-count self rank e)
 
-pub lines-refused : (a : Answer) (rows : List Bool) (n : ℕ) → a .refusal .number ≡ n → n ≢ 0 → Bare a → linesOf a rows ≡ lines n 0 0 []
+pub lines-refused : (n : ℕ) (rows : List Bool) → n ≢ 0 → linesOf (answered (Refused (refusal n 0)) [] 0) rows ≡ lines n 0 0 []
 unfolding linesOf
-lines-refused a rows n e h bare =
-    ap (lines (a .refusal .number) (a .summary .route) (a .summary .count)) (passed-over (ℕ-discrete (a .refusal .number) 0) rows [] (λ z. h (sym e ∙ z)))
-    ∙ ap (λ (k : ℕ). lines k (a .summary .route) (a .summary .count) []) e ∙ ap₂ (λ (r k : ℕ). lines n r k []) (bare .1) (bare .0)
+lines-refused n rows h = ap (lines n 0 0) (passed-over (ℕ-discrete n 0) rows [] h)
 
 -- ---- how long they are
 

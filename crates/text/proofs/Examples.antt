@@ -9,7 +9,7 @@ use Rattle.rows.specs.Word.{bitsOf, wordOf}
 use Rattle.rows.specs.Table.{first, inOrder}
 use Rattle.intersect_by_rank.specs.Route.{routeOf}
 use Rattle.intersect_by_rank.specs.Compose.{composed}
-use Rattle.text.specs.Text.{ascii, rowsIn, decSame, parsed, decimalIn, decimal, lines, linesOf, told}
+use Rattle.text.specs.Text.{ascii, rowsIn, decSame, parsed, decimalIn, decimal, lines, linesOf, answers, told}
 
 -- an input, and the text
 pub data Case : Type 0 where
@@ -31,5 +31,5 @@ cases =
     ∷ []
 
 pub examples : Every cases
-unfolding told parsed rowsIn decSame ℕ-discrete decLe lines linesOf decimal decimalIn composed routeOf first inOrder bitsOf wordOf
+unfolding told answers parsed rowsIn decSame ℕ-discrete decLe lines linesOf decimal decimalIn composed routeOf first inOrder bitsOf wordOf
 examples = (refl, (refl, (refl, (refl, (refl, (refl, (refl, tt)))))))

@@ -1,9 +1,9 @@
--- Bytes put one after the other are the list of them laid over what was there; a number by `io`'s digits is the number in decimal; and
--- bits as digits, one more each time. By recursion over the lists, and over the number of digits.
+-- Bytes put one after the other are the list of them laid over what was there; a number by `io`'s digits is the number in decimal;
+-- bits as digits, one more each time; and what is shown of an answer. By recursion over the lists, and over the number of digits.
 -- Assumes nothing.
 use Prim.Native.Nat.{ℕ, zero, suc, _+_, _-_, _*_, _/_, _%_, _^_, _≤_, _<_}
 use native.Mathlib.Nat.{pow-suc, mod-eq-of-lt, mod-lt, zero-lt-suc, one-le-pow, pow-le-pow-right}
-use native.Mathlib.Decide.{decLe}
+use native.Mathlib.Decide.{ℕ-discrete, decLe}
 use mathlib.Core.Path.{_≡_, refl, sym, ap, ap₂, _∙_}
 use mathlib.Core.Bool.{Bool, true, false}
 use mathlib.Core.List.{List, [], _∷_, _++_}
@@ -16,11 +16,13 @@ use Rattle.io.specs.Digits as ioText
 use Rattle.rows.specs.Rows.{splice}
 use Rattle.rows.specs.Word.{wordOf}
 use Rattle.rows.specs.Words.{fit, bitsOfAll, view}
+use Rattle.rows.specs.Table.{choose}
 use Rattle.rows.proofs.SpliceLaws.{over-nil, splice-append}
 use Rattle.rows.proofs.WordLaws.{wordOf-lt}
 use Rattle.rows.proofs.WordsLaws.{fit-length}
 use Rattle.rows.proofs.FitLaws.{view-step}
-use Rattle.text.specs.Text.{digitOf, digits, line, bitsKey, decimalIn, decimal}
+use Rattle.mask.specs.declared.Answer.{Answer}
+use Rattle.text.specs.Text.{digitOf, digits, line, bitsKey, decimalIn, decimal, lines, linesOf}
 use Rattle.text.proofs.SaidLaws.{digits-length}
 
 -- ---- one byte more
@@ -115,3 +117,19 @@ digit-next i bit ws h e =
     let bits = fit 1 (drop (0 + i) (bitsOfAll 64 ws)) in
     ap digits (view-step 0 i 1 ws (omega arith)) ∙ digits-append (view 0 i ws) bits
     ∙ ap (λ (l : List ℕ). digits (view 0 i ws) ++ l) (one-digit (drop (0 + i) (bitsOfAll 64 ws)) ∙ ap (λ (b : ℕ). (48 + b) ∷ []) (sym e))
+
+-- ---- an answer's lines
+
+pub choose-le : {A : Type 0} (d : Dec A) (n : ℕ) → choose d n 0 ≤ n
+choose-le (yes a) n = omega arith
+choose-le (no h) n = omega arith
+
+shown-view : {A : Type 0} (d : Dec A) (n : ℕ) (ws : List ℕ) → view 0 (choose d n 0) ws ≡ choose d (view 0 n ws) []
+shown-view (yes a) n ws = refl
+shown-view (no h) n ws = refl
+
+pub answer-lines : (a : Answer) (n k : ℕ) (ws : List ℕ) → k ≡ choose (ℕ-discrete (a .refusal .number) 0) n 0
+    → lines (a .refusal .number) (a .summary .route) (a .summary .count) (view 0 k ws) ≡ linesOf a (view 0 n ws)
+unfolding linesOf
+answer-lines a n k ws e =
+    ap (lines (a .refusal .number) (a .summary .route) (a .summary .count)) (ap (λ (m : ℕ). view 0 m ws) e ∙ shown-view (ℕ-discrete (a .refusal .number) 0) n ws)

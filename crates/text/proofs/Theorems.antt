@@ -11,17 +11,19 @@ use mathlib.Core.Option.{Option, none, some, Option·some-injective}
 use native.Mathlib.Omega.{arith}
 use lib.ListN.{length, take, length-take}
 use lib.Seq.{take-all}
+use Rattle.rows.specs.declared.Verdict.the-variants.{Fine, Refused}
 use Rattle.rows.specs.Rows.{count, compose}
-use Rattle.rows.specs.Table.{choose}
+use Rattle.rows.specs.Table.{choose, refusal}
 use Rattle.rows.proofs.RowLaws.{compose-length, count-le-length}
-use Rattle.rows.proofs.TableLaws.{chosen}
+use Rattle.rows.proofs.TableLaws.{chosen, passed-over}
 use Rattle.mask.specs.declared.Answer.{Answer}
+use Rattle.mask.specs.Answer.{answered}
 use Rattle.intersect_by_rank.specs.Route.{published, routeOf}
 use Rattle.text.specs.declared.Written.{Written}
-use Rattle.text.specs.Text.{ascii, says, WellFormed, selfIn, rankIn, decWell, parsed, decimalIn, decimal, lines, linesOf, formOf, answerTo, toldOf, told, tells}
+use Rattle.text.specs.Text.{ascii, says, WellFormed, selfIn, rankIn, decWell, parsed, decimalIn, decimal, lines, linesOf, formOf, answerTo, answers, told, withText, shorter, tells}
 use Rattle.text.specs.Parts.{begins}
 use Rattle.text.proofs.SaidLaws.{self-said, rank-said, said-length}
-use Rattle.text.proofs.ToldLaws.{told-ill}
+use Rattle.text.proofs.ToldLaws.{answers-parsed, told-parsed, answers-ill, told-ill}
 use Rattle.text.proofs.AnswerLaws.{routeTaken, answer-paired, answer-unpaired, lines-paired, lines-refused, decimal-short, lines-length, route-small}
 
 -- ---- which inputs are well formed
@@ -50,30 +52,44 @@ parsed-exactly input self rank = (to (decWell input (selfIn input) (rankIn input
         chosen {X = Option (List Bool × List Bool)} (decWell input (selfIn input) (rankIn input)) (some (selfIn input, rankIn input)) none (guessed input self rank w)
         ∙ ap₂ (λ (s r : List Bool). some (s, r)) (self-said input self rank (w .said)) (rank-said input self rank (w .said))
 
--- ---- what is told
+-- ---- what is answered, and what is told
 
--- two masks: the four lines of what composition answers to them
-pub well-formed-told : (input : List ℕ) (self rank : List Bool) → WellFormed input self rank → told input ≡ linesOf (answerTo self rank) (compose self rank)
-unfolding told
-well-formed-told input self rank w = ap toldOf (parsed-exactly input self rank .1 w)
+ill-told : (input : List ℕ) → ¬ WellFormed input (selfIn input) (rankIn input) → told input ≡ lines 13 0 0 []
+ill-told input h = told-ill input h ∙ lines-refused 13 [] (λ z. omega arith)
+
+-- two masks: what composition answers to them, and its four lines
+module _ (input : List ℕ) (self rank : List Bool) (w : WellFormed input self rank) where
+  pub well-formed-answered : answers input ≡ answerTo self rank
+  well-formed-answered = answers-parsed input (some (self, rank)) (parsed-exactly input self rank .1 w)
+
+  pub well-formed-told : told input ≡ linesOf (answerTo self rank) (compose self rank)
+  well-formed-told = told-parsed input (some (self, rank)) (parsed-exactly input self rank .1 w)
+
+  -- where the rank mask is as long as self has set rows: 0, the table's route, the rank mask's count and the composition's rows
+  pub paired-answered : length rank ≡ count self → answers input ≡ answered Fine (compose self rank) (routeTaken self rank)
+  paired-answered e = well-formed-answered ∙ answer-paired self rank (w .self-short) (w .rank-short) e
+
+  pub paired-told : length rank ≡ count self → told input ≡ lines 0 (routeTaken self rank) (count rank) (compose self rank)
+  paired-told e = well-formed-told ∙ ap (λ (a : Answer). linesOf a (compose self rank)) (answer-paired self rank (w .self-short) (w .rank-short) e) ∙ lines-paired self rank (routeTaken self rank) e
+
+  -- and else 7
+  pub unpaired-answered : length rank ≢ count self → answers input ≡ answered (Refused (refusal 7 0)) [] 0
+  unpaired-answered h = well-formed-answered ∙ answer-unpaired self rank (w .self-short) (w .rank-short) h
+
+  pub unpaired-told : length rank ≢ count self → told input ≡ lines 7 0 0 []
+  unpaired-told h = well-formed-told ∙ ap (λ (a : Answer). linesOf a (compose self rank)) (answer-unpaired self rank (w .self-short) (w .rank-short) h) ∙ lines-refused 7 (compose self rank) (λ z. omega arith)
 
 -- anything else: 13
-pub ill-formed-told : (input : List ℕ) → ((self rank : List Bool) → ¬ WellFormed input self rank) → told input ≡ lines 13 0 0 []
-ill-formed-told input h = told-ill input (h (selfIn input) (rankIn input))
+module _ (input : List ℕ) (h : (self rank : List Bool) → ¬ WellFormed input self rank) where
+  pub ill-formed-answered : answers input ≡ answered (Refused (refusal 13 0)) [] 0
+  ill-formed-answered = answers-ill input (h (selfIn input) (rankIn input))
 
--- of two masks: where the rank mask is as long as self has set rows, 0, the table's route, the rank mask's count and the composition's rows
-pub paired-told : (input : List ℕ) (self rank : List Bool) → WellFormed input self rank → length rank ≡ count self → told input ≡ lines 0 (routeTaken self rank) (count rank) (compose self rank)
-paired-told input self rank w e =
-    well-formed-told input self rank w ∙ ap (λ (a : Answer). linesOf a (compose self rank)) (answer-paired self rank (w .self-short) (w .rank-short) e) ∙ lines-paired self rank (routeTaken self rank) e
+  pub ill-formed-told : told input ≡ lines 13 0 0 []
+  ill-formed-told = ill-told input (h (selfIn input) (rankIn input))
 
--- and else 7
-pub unpaired-told : (input : List ℕ) (self rank : List Bool) → WellFormed input self rank → length rank ≢ count self → told input ≡ lines 7 0 0 []
-unpaired-told input self rank w h =
-    let t = answer-unpaired self rank (w .self-short) (w .rank-short) h in
-    well-formed-told input self rank w ∙ lines-refused (answerTo self rank) (compose self rank) 7 (t .0) (λ z. omega arith) (t .1)
-
--- only 0, 7 and 13 are told: the first line is one of three. And all lines have at most 8,228 bytes
+-- only 0, 7 and 13 are answered, and told: the first line is one of three. And all lines have at most 8,228 bytes
 pub record Told (input : List ℕ) : Type 0 where
+  pub number : (answers input .refusal .number ≡ 0) ⊎ (answers input .refusal .number ≡ 7) ⊎ (answers input .refusal .number ≡ 13)
   pub first-line : (begins (ascii "refusal=0\n") (told input) ≡ true) ⊎ (begins (ascii "refusal=7\n") (told input) ≡ true) ⊎ (begins (ascii "refusal=13\n") (told input) ≡ true)
   pub short : length (told input) ≤ 8228
 
@@ -85,6 +101,9 @@ first-lines route set rows = (refl, refl, refl)
 pub only-these : (input : List ℕ) → Told input
 only-these input = go (decWell input (selfIn input) (rankIn input)) (ℕ-discrete (length (rankIn input)) (count (selfIn input)))
   where
+    numberIn : Answer → ℕ
+    numberIn a = a .refusal .number
+
     one : (d : ℕ) → d < 10 → length (decimal d) ≤ 1
     one d h = decimal-short 0 d h
 
@@ -94,6 +113,7 @@ only-these input = go (decWell input (selfIn input) (rankIn input)) (ℕ-discret
         let rank = rankIn input in
         let t = paired-told input self rank w e in
         record {
+          number = inl (ap numberIn (paired-answered input self rank w e));
           first-line = inl (ap (begins (ascii "refusal=0\n")) t ∙ first-lines (routeTaken self rank) (count rank) (compose self rank) .0);
           short = omega (
             arith,
@@ -108,10 +128,10 @@ only-these input = go (decWell input (selfIn input) (rankIn input)) (ℕ-discret
         }
     go (yes w) (no h) =
         let t = unpaired-told input (selfIn input) (rankIn input) w h in
-        record { first-line = inr (inl (ap (begins (ascii "refusal=7\n")) t ∙ first-lines 0 0 [] .1)); short = omega (arith, ap length t, lines-length 7 0 0 [], one 7 (omega arith), one 0 (omega arith)) }
+        record { number = inr (inl (ap numberIn (unpaired-answered input (selfIn input) (rankIn input) w h))); first-line = inr (inl (ap (begins (ascii "refusal=7\n")) t ∙ first-lines 0 0 [] .1)); short = omega (arith, ap length t, lines-length 7 0 0 [], one 7 (omega arith), one 0 (omega arith)) }
     go (no h) e =
-        let t = told-ill input h in
-        record { first-line = inr (inr (ap (begins (ascii "refusal=13\n")) t ∙ first-lines 0 0 [] .2)); short = omega (arith, ap length t, lines-length 13 0 0 [], decimal-short 1 13 (omega arith), one 0 (omega arith)) }
+        let t = ill-told input h in
+        record { number = inr (inr (ap numberIn (answers-ill input h))); first-line = inr (inr (ap (begins (ascii "refusal=13\n")) t ∙ first-lines 0 0 [] .2)); short = omega (arith, ap length t, lines-length 13 0 0 [], decimal-short 1 13 (omega arith), one 0 (omega arith)) }
 
 -- ---- a long input
 
@@ -133,11 +153,29 @@ pub tells-within : (input : List ℕ) (room : ℕ) (w : Written) → w ≡ tells
 unfolding tells
 tells-within input room w e = go (decLe (length (told input)) room) e
   where
-    go : (d : Dec (length (told input) ≤ room)) → w ≡ choose d (record { refusal = 0; len = length (told input) }) (record { refusal = 8; len = 0 }) → w .len ≤ room
+    go : (d : Dec (length (told input) ≤ room)) → w ≡ choose d (withText (answers input) (told input)) shorter → w .len ≤ room
     go (yes h) q = omega (arith, ap (λ (x : Written). x .len) q)
     go (no h) q = omega (arith, ap (λ (x : Written). x .len) q)
 
 -- an output of 8,228 bytes is never too short
-pub always-room : (input : List ℕ) (room : ℕ) → 8228 ≤ room → tells input room ≡ record { refusal = 0; len = length (told input) }
+pub always-room : (input : List ℕ) (room : ℕ) → 8228 ≤ room → tells input room ≡ withText (answers input) (told input)
 unfolding tells
 always-room input room h = chosen (decLe (length (told input)) room) _ _ (omega (arith, only-these input .short))
+
+-- and a shorter one is where 8 is answered
+pub eight-exactly : (input : List ℕ) (room : ℕ) → (tells input room .answer .refusal .number ≡ 8) ↔ (room < length (told input))
+unfolding tells
+eight-exactly input room = (to (decLe (length (told input)) room), from)
+  where
+    to : (d : Dec (length (told input) ≤ room)) → choose {X = Written} d (withText (answers input) (told input)) shorter .answer .refusal .number ≡ 8
+        → room < length (told input)
+    to (no h) e = omega arith
+    to (yes h) e = other (only-these input .number)
+      where
+        other : (answers input .refusal .number ≡ 0) ⊎ (answers input .refusal .number ≡ 7) ⊎ (answers input .refusal .number ≡ 13) → room < length (told input)
+        other (inl z) = absurd (omega (arith, e, z))
+        other (inr (inl z)) = absurd (omega (arith, e, z))
+        other (inr (inr z)) = absurd (omega (arith, e, z))
+
+    from : room < length (told input) → choose {X = Written} (decLe (length (told input)) room) (withText (answers input) (told input)) shorter .answer .refusal .number ≡ 8
+    from h = ap (λ (w : Written). w .answer .refusal .number) (passed-over {X = Written} (decLe (length (told input)) room) _ _ (λ k. omega arith))

@@ -7,7 +7,7 @@ use native.Mathlib.Decide.{ℕ-discrete, decLe}
 use mathlib.Core.Path.{_≡_, refl, sym, ap, ap₂, _∙_}
 use mathlib.Core.Bool.{Bool}
 use mathlib.Core.List.{List, [], _∷_, _++_}
-use mathlib.Core.Option.{none, some}
+use mathlib.Core.Option.{Option, none, some}
 use native.Mathlib.Omega.{arith}
 use lib.ListN.{length, take, drop, replicate}
 use lib.Seq.{take-at}
@@ -29,8 +29,8 @@ use Rattle.intersect_by_rank.specs.Compose.{result, composed, composedOut}
 use Rattle.intersect_by_rank.proofs.ComposeLaws.{compose-fine, compose-accepted, result-length}
 use Rattle.intersect_by_rank.proofs.Theorems.{composed-accepts}
 use Rattle.text.specs.declared.find.Found.the-variants.{Masks, Malformed}
-use Rattle.text.specs.Text.{WellFormed, rowsIn, selfIn, rankIn, decWell, parsed, lines, linesOf, wordsIn, answerTo, toldOf, told, tells, toldOut}
-use Rattle.text.specs.Parts.{foundIn, toldWords}
+use Rattle.text.specs.Text.{WellFormed, rowsIn, selfIn, rankIn, decWell, parsed, lines, linesOf, wordsIn, answerOf, resultOf, answers, told, withText, shorter, tells, toldOut}
+use Rattle.text.specs.Parts.{foundIn, answerWords, toldWords}
 
 -- ---- the composition of words
 
@@ -44,10 +44,6 @@ module _ (s c r d : ℕ) (sws rws es fs out : List ℕ) where
   unfolding composedOut
   rows-ignored-out = refl
 
-pub choose-le : {A : Type 0} (d : Dec A) (n : ℕ) → choose d n 0 ≤ n
-choose-le (yes a) n = omega arith
-choose-le (no h) n = omega arith
-
 module _ (sws : List ℕ) (s : ℕ) (rws : List ℕ) (r : ℕ) (out : List ℕ) where
   abbrev one : Form
   one = Words 0 s (count (view 0 s sws))
@@ -58,25 +54,24 @@ module _ (sws : List ℕ) (s : ℕ) (rws : List ℕ) (r : ℕ) (out : List ℕ) 
   abbrev after : List ℕ
   after = composedOut one sws [] two rws [] out
 
-  shown-rows : (n : ℕ) → n ≡ composed published one sws [] two rws [] out .refusal .number
-      → view 0 (choose (ℕ-discrete n 0) s 0) after ≡ choose (ℕ-discrete n 0) (compose (view 0 s sws) (view 0 r rws)) []
-  shown-rows n q = go (ℕ-discrete n 0)
-    where
-      go : (d : Dec (n ≡ 0)) → view 0 (choose d s 0) after ≡ choose d (compose (view 0 s sws) (view 0 r rws)) []
-      go (no h) = refl
-      go (yes e) =
-          let t = composed-accepts one sws [] two rws [] published out .0 (sym q ∙ e) in
-          let w = compose-accepted one sws [] two rws [] published out (compose-fine one sws [] two rws [] (length out) .1 t) .1 in
-          ap (λ (ws : List ℕ). take s (bitsOfAll 64 ws)) (sym w) ∙ written-rows s (result one sws [] two rws []) out (result-length one sws [] two rws [] (t .0))
+  shown-rows : (d : Dec (composed published one sws [] two rws [] out .refusal .number ≡ 0)) → choose d (view 0 s after) [] ≡ choose d (compose (view 0 s sws) (view 0 r rws)) []
+  shown-rows (no h) = refl
+  shown-rows (yes e) =
+      let t = composed-accepts one sws [] two rws [] published out .0 e in
+      let w = compose-accepted one sws [] two rws [] published out (compose-fine one sws [] two rws [] (length out) .1 t) .1 in
+      ap (λ (ws : List ℕ). take s (bitsOfAll 64 ws)) (sym w) ∙ written-rows s (result one sws [] two rws []) out (result-length one sws [] two rws [] (t .0))
 
-  -- the lines of the answer, with the rows of the output that are shown
-  pub words-told : (a : Answer) (n : ℕ) (ws : List ℕ) → a ≡ composed published one sws [] two rws [] out → ws ≡ after → n ≡ choose (ℕ-discrete (a .refusal .number) 0) s 0
-      → lines (a .refusal .number) (a .summary .route) (a .summary .count) (view 0 n ws) ≡ toldWords sws s rws r out
-  unfolding toldWords linesOf
-  words-told a n ws e w m =
-      ap₂ (λ (k : ℕ) (l : List ℕ). lines (a .refusal .number) (a .summary .route) (a .summary .count) (view 0 k l)) m w
-      ∙ ap (lines (a .refusal .number) (a .summary .route) (a .summary .count)) (shown-rows (a .refusal .number) (ap (λ (x : Answer). x .refusal .number) e))
-      ∙ ap (λ (x : Answer). lines (x .refusal .number) (x .summary .route) (x .summary .count) (choose (ℕ-discrete (x .refusal .number) 0) (compose (view 0 s sws) (view 0 r rws)) [])) e
+  pub words-answered : (a : Answer) → a ≡ composed published one sws [] two rws [] out → a ≡ answerWords sws s rws r out
+  unfolding answerWords
+  words-answered a e = e
+
+  -- the lines of the answer, with the rows that then stand in the output
+  pub words-told : (a : Answer) (ws : List ℕ) → a ≡ composed published one sws [] two rws [] out → ws ≡ after → linesOf a (view 0 s ws) ≡ toldWords sws s rws r out
+  unfolding toldWords answerWords linesOf
+  words-told a ws e w =
+      let x = composed published one sws [] two rws [] out in
+      ap₂ (λ (y : Answer) (l : List ℕ). linesOf y (view 0 s l)) e w
+      ∙ ap (lines (x .refusal .number) (x .summary .route) (x .summary .count)) (shown-rows (ℕ-discrete (x .refusal .number) 0))
 
 -- ---- a mask's words
 
@@ -109,45 +104,79 @@ found-masks input s r e = go (decWell input (selfIn input) (rankIn input)) e
     go (yes w) q = record { well = w; self-long = cc; rank-long = cc }
     go (no h) q = let z : _≡_ {A = ℕ} 0 1 = cc in absurd (omega arith)
 
-pub told-well : (input : List ℕ) → WellFormed input (selfIn input) (rankIn input) → told input ≡ linesOf (answerTo (selfIn input) (rankIn input)) (compose (selfIn input) (rankIn input))
-unfolding told parsed
-told-well input w = ap toldOf (chosen (decWell input (selfIn input) (rankIn input)) (some (selfIn input, rankIn input)) none w)
+parsed-well : (input : List ℕ) → WellFormed input (selfIn input) (rankIn input) → parsed input ≡ some (selfIn input, rankIn input)
+unfolding parsed
+parsed-well input w = chosen (decWell input (selfIn input) (rankIn input)) (some (selfIn input, rankIn input)) none w
 
-pub told-ill : (input : List ℕ) → ¬ WellFormed input (selfIn input) (rankIn input) → told input ≡ lines 13 0 0 []
-unfolding told parsed
-told-ill input h = ap toldOf (passed-over (decWell input (selfIn input) (rankIn input)) (some (selfIn input, rankIn input)) none h)
+parsed-ill : (input : List ℕ) → ¬ WellFormed input (selfIn input) (rankIn input) → parsed input ≡ none
+unfolding parsed
+parsed-ill input h = passed-over (decWell input (selfIn input) (rankIn input)) (some (selfIn input, rankIn input)) none h
 
-pub told-malformed : (input : List ℕ) → foundIn input ≡ Malformed → told input ≡ lines 13 0 0 []
+-- the text, by what is parsed
+abbrev toldOf : Option (List Bool × List Bool) → List ℕ
+toldOf p = linesOf (answerOf p) (resultOf p)
+
+module _ (input : List ℕ) (p : Option (List Bool × List Bool)) (e : parsed input ≡ p) where
+  pub answers-parsed : answers input ≡ answerOf p
+  unfolding answers
+  answers-parsed = ap answerOf e
+
+  pub told-parsed : told input ≡ linesOf (answerOf p) (resultOf p)
+  unfolding told answers
+  told-parsed = ap toldOf e
+
+module _ (input : List ℕ) (h : ¬ WellFormed input (selfIn input) (rankIn input)) where
+  pub answers-ill : answers input ≡ answerOf none
+  answers-ill = answers-parsed input none (parsed-ill input h)
+
+  pub told-ill : told input ≡ linesOf (answerOf none) []
+  told-ill = told-parsed input none (parsed-ill input h)
+
+pub found-ill : (input : List ℕ) → foundIn input ≡ Malformed → ¬ WellFormed input (selfIn input) (rankIn input)
 unfolding foundIn
-told-malformed input e = told-ill input (λ w. let p = sym (chosen (decWell input (selfIn input) (rankIn input)) (Masks (length (selfIn input)) (length (rankIn input))) Malformed w) ∙ e in let z : _≡_ {A = ℕ} 0 1 = cc in omega arith)
+found-ill input e w = let p = sym (chosen (decWell input (selfIn input) (rankIn input)) (Masks (length (selfIn input)) (length (rankIn input))) Malformed w) ∙ e in let z : _≡_ {A = ℕ} 0 1 = cc in omega arith
 
--- the rows beside the words that have them
-abbrev toldBy : List ℕ → List ℕ → ℕ → ℕ → List Bool → List Bool → List ℕ
-toldBy sws rws n m self rank = linesOf (composed published (Words 0 n (count self)) sws [] (Words 0 m (count rank)) rws [] (replicate (wordsFor n) 0)) (compose self rank)
+-- two masks that were found, and whatever is made of them: their lengths are those found, and their words say them
+module _ (input : List ℕ) (s r : ℕ) (e : foundIn input ≡ Masks s r) where
+  abbrev sws : List ℕ
+  sws = wordsIn (selfIn input)
 
-pub told-masks : (input : List ℕ) (s r : ℕ) → foundIn input ≡ Masks s r → told input ≡ toldWords (wordsIn (selfIn input)) s (wordsIn (rankIn input)) r (replicate (wordsFor s) 0)
-unfolding toldWords
-told-masks input s r e =
-    let f = found-masks input s r e in
-    let sws = wordsIn (selfIn input) in
-    let rws = wordsIn (rankIn input) in
-    told-well input (f .well)
-    ∙ sym (ap₂ (λ (n m : ℕ). toldBy sws rws n m (view 0 n sws) (view 0 m rws)) (f .self-long) (f .rank-long)
-    ∙ ap₂ (toldBy sws rws (length (selfIn input)) (length (rankIn input))) (words-view (selfIn input)) (words-view (rankIn input)))
+  abbrev rws : List ℕ
+  rws = wordsIn (rankIn input)
 
--- the same with the words that the digits were packed into, cut to those that have rows
-pub told-packed : (input : List ℕ) (s r : ℕ) → foundIn input ≡ Masks s r → (k l : ℕ) → k ≡ wordsFor s → l ≡ wordsFor r → (sws rws : List ℕ) (from to : List ℕ)
-    → sws ≡ written s (rowsIn (drop 5 input)) from → rws ≡ written r (rowsIn (drop (11 + s) input)) to
-    → toldWords (take k sws) s (take l rws) r (take k (replicate 128 0)) ≡ told input
-told-packed input s r e k l p q sws rws from to x y =
-    let f = found-masks input s r e in
-    let few : wordsFor s ≤ 128 = omega (arith, f .well .self-short, f .self-long) in
-    let self-words : take k sws ≡ wordsIn (selfIn input) = ap₂ take p x ∙ words-front (selfIn input) s from (f .self-long) in
-    let rank-words : take l rws ≡ wordsIn (rankIn input) =
-    ap₂ take q (y ∙ ap (λ (n : ℕ). written r (rowsIn (drop (11 + n) input)) to) (f .self-long)) ∙ words-front (rankIn input) r to (f .rank-long) in
-    ap₂ (λ (a b : List ℕ). toldWords a s b r (take k (replicate 128 0))) self-words rank-words
-    ∙ ap (toldWords (wordsIn (selfIn input)) s (wordsIn (rankIn input)) r) (ap (λ (n : ℕ). take n (replicate 128 0)) p ∙ zeros-front (wordsFor s) 128 few)
-    ∙ sym (told-masks input s r e)
+  masks-said : {X : Type 0} (f : ℕ → ℕ → List Bool → List Bool → X) → f s r (view 0 s sws) (view 0 r rws) ≡ f (length (selfIn input)) (length (rankIn input)) (selfIn input) (rankIn input)
+  masks-said f =
+      let m = found-masks input s r e in
+      ap₂ (λ (k l : ℕ). f k l (view 0 k sws) (view 0 l rws)) (m .self-long) (m .rank-long) ∙ ap₂ (f (length (selfIn input)) (length (rankIn input))) (words-view (selfIn input)) (words-view (rankIn input))
+
+  -- the answer to rows beside the words that have them
+  abbrev answerBy : ℕ → ℕ → List Bool → List Bool → Answer
+  answerBy k l self rank = composed published (Words 0 k (count self)) sws [] (Words 0 l (count rank)) rws [] (replicate (wordsFor k) 0)
+
+  answers-masks : answerWords sws s rws r (replicate (wordsFor s) 0) ≡ answers input
+  unfolding answerWords
+  answers-masks = masks-said answerBy ∙ sym (answers-parsed input (some (selfIn input, rankIn input)) (parsed-well input (found-masks input s r e .well)))
+
+  told-masks : toldWords sws s rws r (replicate (wordsFor s) 0) ≡ told input
+  unfolding toldWords answerWords
+  told-masks =
+      masks-said (λ (k l : ℕ) (self rank : List Bool). linesOf (answerBy k l self rank) (compose self rank))
+      ∙ sym (told-parsed input (some (selfIn input, rankIn input)) (parsed-well input (found-masks input s r e .well)))
+
+  -- the same with the words that the digits were packed into, cut to those that have rows
+  module _ (k l : ℕ) (p : k ≡ wordsFor s) (q : l ≡ wordsFor r) (ss rs from to : List ℕ) (x : ss ≡ written s (rowsIn (drop 5 input)) from) (y : rs ≡ written r (rowsIn (drop (11 + s) input)) to) where
+    packed : {X : Type 0} (f : List ℕ → List ℕ → List ℕ → X) → f (take k ss) (take l rs) (take k (replicate 128 0)) ≡ f sws rws (replicate (wordsFor s) 0)
+    packed f =
+        let m = found-masks input s r e in
+        let few : wordsFor s ≤ 128 = omega (arith, m .well .self-short, m .self-long) in
+        let self-words : take k ss ≡ sws = ap₂ take p x ∙ words-front (selfIn input) s from (m .self-long) in
+        let rank-words : take l rs ≡ rws =
+        ap₂ take q (y ∙ ap (λ (n : ℕ). written r (rowsIn (drop (11 + n) input)) to) (m .self-long)) ∙ words-front (rankIn input) r to (m .rank-long) in
+        ap₂ (λ (a b : List ℕ). f a b (take k (replicate 128 0))) self-words rank-words
+        ∙ ap (f sws rws) (ap (λ (n : ℕ). take n (replicate 128 0)) p ∙ zeros-front (wordsFor s) 128 few)
+
+    pub tells-packed : (answerWords (take k ss) s (take l rs) r (take k (replicate 128 0)) ≡ answers input) × (toldWords (take k ss) s (take l rs) r (take k (replicate 128 0)) ≡ told input)
+    tells-packed = (packed (λ (a b out : List ℕ). answerWords a s b r out) ∙ answers-masks, packed (λ (a b out : List ℕ). toldWords a s b r out) ∙ told-masks)
 
 -- ---- where it is written
 
@@ -155,11 +184,11 @@ pub text-front : (text from : List ℕ) (n : ℕ) → n ≡ length text → n �
 text-front text from n e h = ap (take n) (splice-eq 0 from text (omega arith)) ∙ take-at text (drop (0 + length text) from) n (sym e)
 
 module _ (input out : List ℕ) where
-  pub no-room : length out < length (told input) → (tells input (length out) ≡ record { refusal = 8; len = 0 }) × (toldOut input out ≡ out)
+  pub no-room : length out < length (told input) → (tells input (length out) ≡ shorter) × (toldOut input out ≡ out)
   unfolding tells toldOut
   no-room h = (passed-over (decLe (length (told input)) (length out)) _ _ (λ k. omega arith), passed-over (decLe (length (told input)) (length out)) _ _ (λ k. omega arith))
 
-  pub room : length (told input) ≤ length out → (tells input (length out) ≡ record { refusal = 0; len = length (told input) }) × (toldOut input out ≡ splice 0 out (told input))
+  pub room : length (told input) ≤ length out → (tells input (length out) ≡ withText (answers input) (told input)) × (toldOut input out ≡ splice 0 out (told input))
   unfolding tells toldOut
   room h = (
     chosen (decLe (length (told input)) (length out)) _ _ h,

@@ -8,6 +8,7 @@ use lib.Dec.{eqb}
 use Rattle.rows.specs.Rows.{count, compose}
 use Rattle.rows.specs.Words.{view}
 use Rattle.rows.specs.Table.{choose}
+use Rattle.mask.specs.declared.Answer.{Answer}
 use Rattle.mask.specs.declared.Form.the-variants.{Words}
 use Rattle.intersect_by_rank.specs.Route.{published}
 use Rattle.intersect_by_rank.specs.Compose.{composed}
@@ -25,7 +26,9 @@ begins (k ∷ key) (t ∷ text) = eqb t k && begins key text
 unfoldable pub foundIn : List ℕ → Found
 foundIn input = choose (decWell input (selfIn input) (rankIn input)) (Masks (length (selfIn input)) (length (rankIn input))) Malformed
 
--- what is told of s rows in words and r rows in words, for an output of these words
+-- the answer to s rows in words and r rows in words, for an output of these words, and the text of its lines
+unfoldable pub answerWords : List ℕ → ℕ → List ℕ → ℕ → List ℕ → Answer
+answerWords sws s rws r out = composed published (Words 0 s (count (view 0 s sws))) sws [] (Words 0 r (count (view 0 r rws))) rws [] out
+
 unfoldable pub toldWords : List ℕ → ℕ → List ℕ → ℕ → List ℕ → List ℕ
-toldWords sws s rws r out =
-    linesOf (composed published (Words 0 s (count (view 0 s sws))) sws [] (Words 0 r (count (view 0 r rws))) rws [] out) (compose (view 0 s sws) (view 0 r rws))
+toldWords sws s rws r out = linesOf (answerWords sws s rws r out) (compose (view 0 s sws) (view 0 r rws))

@@ -11,10 +11,12 @@ use mathlib.Core.Option.{Option, none, some}
 use native.Mathlib.Omega.{arith}
 use lib.ListN.{length, drop, replicate}
 use lib.Dec.{eqb, ltb}
+use Rattle.rows.specs.declared.Verdict.the-variants.{Refused}
 use Rattle.rows.specs.Rows.{count, compose}
 use Rattle.rows.specs.Words.{wordsOf}
 use Rattle.rows.specs.Laid.{wordsFor}
-use Rattle.rows.specs.Table.{choose}
+use Rattle.rows.specs.Table.{choose, refusal}
+use Rattle.mask.specs.Answer.{answered}
 use Rattle.mask.specs.declared.Answer.{Answer}
 use Rattle.mask.specs.declared.Form.{Form}
 use Rattle.mask.specs.declared.Form.the-variants.{Words}
@@ -144,18 +146,31 @@ abbrev pub answerTo : List Bool → List Bool → Answer
 answerTo self rank = composed published (formOf self) (wordsIn self) [] (formOf rank) (wordsIn rank) [] (replicate (wordsFor (length self)) 0)
 
 -- anything that is not well formed is 13
-abbrev pub toldOf : Option (List Bool × List Bool) → List ℕ
-toldOf none = lines 13 0 0 []
-toldOf (some (self, rank)) = linesOf (answerTo self rank) (compose self rank)
+abbrev pub answerOf : Option (List Bool × List Bool) → Answer
+answerOf none = answered (Refused (refusal 13 0)) [] 0
+answerOf (some (self, rank)) = answerTo self rank
 
--- the text that is written for an input
+abbrev pub resultOf : Option (List Bool × List Bool) → List Bool
+resultOf none = []
+resultOf (some (self, rank)) = compose self rank
+
+-- the answer to an input, and the text of its lines
+unfoldable pub answers : List ℕ → Answer
+answers input = answerOf (parsed input)
+
 unfoldable pub told : List ℕ → List ℕ
-told input = toldOf (parsed input)
+told input = linesOf (answers input) (resultOf (parsed input))
 
 -- ---- where it is written: 8 where the output is shorter than the text, and then nothing is written
 
+abbrev pub withText : Answer → List ℕ → Written
+withText a text = record { answer = a; len = length text }
+
+abbrev pub shorter : Written
+shorter = withText (answered (Refused (refusal 8 0)) [] 0) []
+
 unfoldable pub tells : List ℕ → ℕ → Written
-tells input room = choose (decLe (length (told input)) room) (record { refusal = 0; len = length (told input) }) (record { refusal = 8; len = 0 })
+tells input room = choose (decLe (length (told input)) room) (withText (answers input) (told input)) shorter
 
 -- the text from the start on, later bytes as they were
 unfoldable pub toldOut : List ℕ → List ℕ → List ℕ

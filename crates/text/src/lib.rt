@@ -3,14 +3,18 @@ ghost use mathlib.Core.Path.{_≡_};
 ghost use lib.ListN.{length};
 ghost use denote.Ref.{now};
 ghost use Rattle.text.specs.Text.{tells, toldOut};
+use mask::Answer;
+use mask::inner::refused;
+use rows::Refusal;
 
 mod find;
 mod put;
 mod tell;
 
-// What was written: refusal 8 where the output is shorter than the text, else 0 and the text's length.
+// What was written: the answer, and how long the text of its lines is. An output that is shorter than the text has refusal 8 and
+// length 0.
 pub struct Written {
-    pub refusal: u8,
+    pub answer: Answer,
     pub len: usize,
 }
 
@@ -20,10 +24,18 @@ pub fn answer(input: &[u8], out: &mut [u8]) -> Written
 {
     // three numbers of 20 digits and 8,192 bits would be 8,281 bytes, more than there ever are
     let mut text = [0u8; 8281];
-    let len = tell::tell(input, &mut text);
+    let told = tell::tell(input, &mut text);
+    let len = told.len;
     if out.len() < len {
-        return Written { refusal: 8, len: 0 };
+        let refusal = Refusal {
+            number: 8,
+            operand: 0,
+        };
+        return Written {
+            answer: refused(refusal),
+            len: 0,
+        };
     }
     put::put_bytes(&text[..len], 0, out);
-    Written { refusal: 0, len }
+    told
 }

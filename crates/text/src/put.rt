@@ -3,9 +3,13 @@ ghost use mathlib.Core.Path.{_≡_};
 ghost use Prim.Native.Nat.{_+_, _*_, _≤_};
 ghost use lib.ListN.{length};
 ghost use denote.Ref.{now};
+ghost use native.Mathlib.Decide.{ℕ-discrete};
 ghost use Rattle.rows.specs.Rows.{splice};
 ghost use Rattle.rows.specs.Words.{view};
-ghost use Rattle.text.specs.Text.{digits, line, bitsKey, decimal, lines};
+ghost use Rattle.rows.specs.Table.{choose};
+ghost use Rattle.text.specs.Text.{digits, line, bitsKey, decimal, lines, linesOf, withText};
+use super::Written;
+use mask::Answer;
 
 // All of bytes.
 pub fn put_bytes(bytes: &[u8], at: usize, out: &mut [u8]) -> usize
@@ -68,14 +72,7 @@ fn put_bits(words: &[u64], n: usize, at: usize, out: &mut [u8]) -> usize
 }
 
 // The four lines, with the first n bits of words. Each number is given room for 20 digits.
-pub fn put_lines(
-    refusal: u8,
-    route: u8,
-    count: u64,
-    words: &[u64],
-    n: usize,
-    out: &mut [u8],
-) -> usize
+fn put_lines(refusal: u8, route: u8, count: u64, words: &[u64], n: usize, out: &mut [u8]) -> usize
     requires { ⌜ (n ≤ length (now words) * 64) × (n + 89 ≤ length (now out)) ⌝ }
     ensures { λ r. ⌜ (r ≡ length (lines refusal route count (view 0 n (now (words .entry)))))
         × (now (out .exit) ≡ splice 0 (now (out .entry)) (lines refusal route count (view 0 n (now (words .entry)))))
@@ -85,4 +82,33 @@ pub fn put_lines(
     let second = put_line(b"route=", route as u64, first, out);
     let third = put_line(b"count=", count, second, out);
     put_bits(words, n, third, out)
+}
+
+// A refusal shows no rows.
+fn shown(refusal: u8, n: usize) -> usize
+    ensures { λ r. ⌜ r ≡ choose (ℕ-discrete refusal 0) n 0 ⌝ }
+{
+    if refusal == 0 {
+        return n;
+    }
+    0
+}
+
+// The lines of an answer, whose rows are the first n bits of words.
+pub fn put_answer(answer: Answer, words: &[u64], n: usize, out: &mut [u8]) -> Written
+    requires { ⌜ (n ≤ length (now words) * 64) × (n + 89 ≤ length (now out)) ⌝ }
+    ensures { λ w. ⌜ (w ≡ withText answer (linesOf answer (view 0 n (now (words .entry)))))
+        × (now (out .exit) ≡ splice 0 (now (out .entry)) (linesOf answer (view 0 n (now (words .entry)))))
+        × (w .len ≤ n + 89) ⌝ }
+{
+    let refusal = answer.refusal.number;
+    let len = put_lines(
+        refusal,
+        answer.summary.route,
+        answer.summary.count,
+        words,
+        shown(refusal, n),
+        out,
+    );
+    Written { answer, len }
 }

@@ -3,22 +3,23 @@ ghost use mathlib.Core.Path.{_≡_};
 ghost use Prim.Native.Nat.{_+_, _*_, _≤_};
 ghost use lib.ListN.{length, take, drop};
 ghost use denote.Ref.{now};
-ghost use native.Mathlib.Decide.{ℕ-discrete};
 ghost use Rattle.rows.specs.Rows.{count, splice};
 ghost use Rattle.rows.specs.Words.{view};
-ghost use Rattle.rows.specs.Table.{choose};
 ghost use Rattle.rows.specs.Laid.{wordsFor, written};
-ghost use Rattle.text.specs.Text.{rowsIn, told};
-ghost use Rattle.text.specs.Parts.{toldWords, foundIn};
+ghost use Rattle.text.specs.Text.{rowsIn, answers, told, withText};
+ghost use Rattle.text.specs.Parts.{answerWords, toldWords, foundIn};
+use super::Written;
 use super::find::Found;
 use super::find::find;
-use super::put::put_lines;
+use super::put::put_answer;
 use intersect_by_rank::intersect_by_rank;
 use lent::inner::clear_last;
 use lent::inner::count_view;
 use lent::inner::put;
 use lent::inner::words_for;
 use mask::Form;
+use mask::inner::refused;
+use rows::Refusal;
 
 // The n digits from index at on as words, row 0 in bit 0.
 fn pack(input: &[u8], at: usize, n: usize, words: &mut [u64])
@@ -33,16 +34,6 @@ fn pack(input: &[u8], at: usize, n: usize, words: &mut [u64])
         put(words, i as u64, 1, digit - 48);
         i += 1;
     }
-}
-
-// A refusal shows no rows.
-fn shown(refusal: u8, n: usize) -> usize
-    ensures { λ r. ⌜ r ≡ choose (ℕ-discrete refusal 0) n 0 ⌝ }
-{
-    if refusal == 0 {
-        return n;
-    }
-    0
 }
 
 // The first n bits of words as an operand, its count counted.
@@ -66,11 +57,11 @@ fn tell_words(
     r: usize,
     words: &mut [u64],
     out: &mut [u8],
-) -> usize
+) -> Written
     requires { ⌜ (s ≤ 8192) × (s ≤ length (now swords) * 64) × (r ≤ 8192) × (r ≤ length (now rwords) * 64) × (wordsFor s ≤ length (now words)) × (8281 ≤ length (now out)) ⌝ }
-    ensures { λ n. ⌜ (n ≡ length (toldWords (now (swords .entry)) s (now (rwords .entry)) r (now (words .entry))))
+    ensures { λ w. ⌜ (w ≡ withText (answerWords (now (swords .entry)) s (now (rwords .entry)) r (now (words .entry))) (toldWords (now (swords .entry)) s (now (rwords .entry)) r (now (words .entry))))
         × (now (out .exit) ≡ splice 0 (now (out .entry)) (toldWords (now (swords .entry)) s (now (rwords .entry)) r (now (words .entry))))
-        × (n ≤ 8281) ⌝ }
+        × (w .len ≤ 8281) ⌝ }
 {
     // words ignore the rows that are lent beside them
     let none = [0u32; 1];
@@ -83,21 +74,15 @@ fn tell_words(
         &none,
         words,
     );
-    let refusal = a.refusal.number;
-    put_lines(
-        refusal,
-        a.summary.route,
-        a.summary.count,
-        words,
-        shown(refusal, s),
-        out,
-    )
+    put_answer(a, words, s, out)
 }
 
 // The composition of the two masks that were found, told.
-fn tell_masks(input: &[u8], s: usize, r: usize, out: &mut [u8]) -> usize
+fn tell_masks(input: &[u8], s: usize, r: usize, out: &mut [u8]) -> Written
     requires { ⌜ (foundIn (now input) ≡ Found.Masks s r) × (8281 ≤ length (now out)) ⌝ }
-    ensures { λ n. ⌜ (n ≡ length (told (now (input .entry)))) × (now (out .exit) ≡ splice 0 (now (out .entry)) (told (now (input .entry)))) × (n ≤ 8281) ⌝ }
+    ensures { λ w. ⌜ (w ≡ withText (answers (now (input .entry))) (told (now (input .entry))))
+        × (now (out .exit) ≡ splice 0 (now (out .entry)) (told (now (input .entry))))
+        × (w .len ≤ 8281) ⌝ }
 {
     let mut swords = [0u64; 128];
     let mut rwords = [0u64; 128];
@@ -111,14 +96,18 @@ fn tell_masks(input: &[u8], s: usize, r: usize, out: &mut [u8]) -> usize
 }
 
 // The text, from the start of out on.
-pub fn tell(input: &[u8], out: &mut [u8]) -> usize
+pub fn tell(input: &[u8], out: &mut [u8]) -> Written
     requires { ⌜ 8281 ≤ length (now out) ⌝ }
-    ensures { λ n. ⌜ (n ≡ length (told (now (input .entry)))) × (take n (now (out .exit)) ≡ told (now (input .entry))) × (n ≤ 8281) ⌝ }
+    ensures { λ w. ⌜ (w ≡ withText (answers (now (input .entry))) (told (now (input .entry)))) × (take (w .len) (now (out .exit)) ≡ told (now (input .entry))) × (w .len ≤ 8281) ⌝ }
 {
     match find(input) {
         Found::Malformed => {
             let none = [0u64; 1];
-            put_lines(13, 0, 0, &none, 0, out)
+            let refusal = Refusal {
+                number: 13,
+                operand: 0,
+            };
+            put_answer(refused(refusal), &none, 0, out)
         }
         Found::Masks { s, r } => tell_masks(input, s, r, out),
     }

@@ -1,13 +1,16 @@
 -- `text::tell::tell` meets its contract: 13 where no masks are found, and else what the masks tell.
 -- By what was found. Assumes nothing.
-use mathlib.Core.Path.{sym, ap, _∙_}
+use mathlib.Core.Path.{_≡_, sym, ap, ap₂, _∙_}
+use mathlib.Core.List.{[]}
 use native.Mathlib.Omega.{arith}
 use lib.ListN.{length, take}
 use denote.Ref.{now}
 use borrow.Author.Needs.{needs}
 use Rattle.rows.specs.Rows.{splice}
-use Rattle.text.specs.Text.{told}
-use Rattle.text.proofs.ToldLaws.{told-malformed, text-front}
+use Rattle.mask.specs.declared.Answer.{Answer}
+use Rattle.text.specs.declared.Written.{Written}
+use Rattle.text.specs.Text.{linesOf, answers, told, withText}
+use Rattle.text.proofs.ToldLaws.{answers-ill, told-ill, found-ill, text-front}
 use Rattle.text.proofs.tell.tell.Statement.{statement}
 use Rattle.text.proofs.tell.tell.Tie as tie
 
@@ -17,11 +20,14 @@ find-requires c κs = search needs
 enum-told : tie.Need-enum-told
 enum-told c = search needs
 
-slice-aggregate-put-lines : tie.Need-slice-aggregate-put-lines
-slice-aggregate-put-lines c = search needs
+refused-requires : tie.Need-refused-requires
+refused-requires c κs = search needs
 
-put-lines-requires : tie.Need-put-lines-requires
-put-lines-requires c κs = search needs
+slice-aggregate-put-answer : tie.Need-slice-aggregate-put-answer
+slice-aggregate-put-answer c = search needs
+
+put-answer-requires : tie.Need-put-answer-requires
+put-answer-requires c κs = search needs
 
 enum-known-s : tie.Need-enum-known-s
 enum-known-s c = search needs
@@ -34,20 +40,31 @@ same-length c = search needs
 
 returns : tie.Need-returns
 returns c =
-    let a = c .before .before .before .before .before .before .before .before .before .before .args in
-    let p = c .before .before .put-lines in
-    let e = told-malformed (now (a .input)) (sym (c .before .before .before .before .before .before .before .find .ensures) ∙ c .before .before .before .before .before .enum-told .given .1) in
-    let n = p .ensures .0 ∙ ap length (sym e) in
-    (n, ap (take (p .result)) (p .ensures .1 ∙ ap (splice 0 (now (a .out))) (sym e)) ∙ text-front (told (now (a .input))) (now (a .out)) (p .result) n (omega (arith, p .ensures .2, c .before .before .before .before .before .before .before .before .before .before .pre)), omega (arith, p .ensures .2))
+    let z = c .before .before .before .before .before .before .before .before .before .before .before in
+    let input = now (z .args .input) in
+    let out = now (z .args .out) in
+    let p = c .before .before .put-answer in
+    let ill = found-ill input (sym (c .before .before .before .before .before .before .before .before .find .ensures) ∙ c .before .before .before .before .before .before .enum-told .given .1) in
+    let thirteen = c .before .before .before .before .before .refused .ensures in
+    let text = ap (λ (a : Answer). linesOf a []) thirteen ∙ sym (told-ill input ill) in
+    let whole : p .result ≡ withText (answers input) (told input) = p .ensures .0 ∙ ap₂ withText (thirteen ∙ sym (answers-ill input ill)) text in
+    let n : p .result .len ≡ length (told input) = ap (λ (w : Written). w .len) whole in (
+      whole,
+      ap (take (p .result .len)) (p .ensures .1 ∙ ap (splice 0 out) text) ∙ text-front (told input) out (p .result .len) n (omega (arith, p .ensures .2, z .pre)),
+      omega (arith, p .ensures .2),
+    )
 
 same-length-2 : tie.Need-same-length-2
 same-length-2 c = search needs
 
 returns-2 : tie.Need-returns-2
 returns-2 c =
-    let a = c .before .before .before .before .before .before .before .before .before .before .args in
+    let z = c .before .before .before .before .before .before .before .before .before .before in
+    let input = now (z .args .input) in
+    let out = now (z .args .out) in
     let t = c .before .before .tell-masks in
-    (t .ensures .0, ap (take (t .result)) (t .ensures .1) ∙ text-front (told (now (a .input))) (now (a .out)) (t .result) (t .ensures .0) (omega (arith, t .ensures .2, c .before .before .before .before .before .before .before .before .before .before .pre)), t .ensures .2)
+    let n : t .result .len ≡ length (told input) = ap (λ (w : Written). w .len) (t .ensures .0) in
+    (t .ensures .0, ap (take (t .result .len)) (t .ensures .1) ∙ text-front (told input) out (t .result .len) n (omega (arith, t .ensures .2, z .pre)), t .ensures .2)
 
 pub tell-spec : {M : Type 1} → statement M
 tell-spec =
@@ -55,8 +72,9 @@ tell-spec =
     (tie.spec
     find-requires
     enum-told
-    slice-aggregate-put-lines
-    put-lines-requires
+    refused-requires
+    slice-aggregate-put-answer
+    put-answer-requires
     enum-known-s
     tell-masks-requires
     same-length

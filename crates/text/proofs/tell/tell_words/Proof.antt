@@ -1,11 +1,9 @@
--- `text::tell::tell_words` meets its contract: the four lines of what composition answers, with the rows that are shown.
--- By the law of what words tell. Assumes nothing.
+-- `text::tell::tell_words` meets its contract: what composition answers, and its lines.
+-- By the laws of what words tell. Assumes nothing.
 use Prim.Native.Nat.{ℕ}
-use native.Mathlib.Decide.{ℕ-discrete}
 use mathlib.Core.Path.{ap, ap₂, _∙_}
 use mathlib.Core.List.{List, [], _∷_}
 use native.Mathlib.Omega.{arith}
-use lib.ListN.{length}
 use denote.Ref.{now}
 use borrow.Author.Needs.{needs}
 use Rattle.rows.specs.Rows.{count, splice}
@@ -13,7 +11,8 @@ use Rattle.rows.specs.Words.{view}
 use Rattle.mask.specs.declared.Form.{Form}
 use Rattle.intersect_by_rank.specs.Route.{published}
 use Rattle.intersect_by_rank.specs.Compose.{composed, composedOut}
-use Rattle.text.proofs.ToldLaws.{rows-ignored, rows-ignored-out, choose-le, words-told}
+use Rattle.text.specs.Text.{withText}
+use Rattle.text.proofs.ToldLaws.{rows-ignored, rows-ignored-out, words-answered, words-told}
 use Rattle.text.proofs.tell.tell_words.Statement.{statement}
 use Rattle.text.proofs.tell.tell_words.Tie as tie
 
@@ -32,15 +31,10 @@ slice-aggregate-intersect-by-rank-2 c = search needs
 intersect-by-rank-requires : tie.Need-intersect-by-rank-requires
 intersect-by-rank-requires c κs = search needs
 
-shown-requires : tie.Need-shown-requires
-shown-requires c κs = search needs
-
-put-lines-requires : tie.Need-put-lines-requires
-put-lines-requires c κs =
-    let s = c .before .before .before .before .before .before .before .before .before .before .before .before .before .before .before in
-    let i = c .before .before .before .before .before .intersect-by-rank in
-    let le = choose-le (ℕ-discrete (i .result .refusal .number) 0) (s .args .s) in
-    (omega (arith, c .before .shown .ensures, i .kept .1 .1 .1 .1 .1 .1 .0, s .pre .4), omega (arith, c .before .shown .ensures, s .pre .0, s .pre .5))
+put-answer-requires : tie.Need-put-answer-requires
+put-answer-requires c κs =
+    let s = c .before .before .before .before .before .before .before .before .before .before .before .before .before .before in
+    (omega (arith, c .before .before .before .before .intersect-by-rank .kept .1 .1 .1 .1 .1 .1 .0, s .pre .4), omega (arith, s .pre .0, s .pre .5))
 
 same-length : tie.Need-same-length
 same-length c = search needs
@@ -50,22 +44,22 @@ same-length-2 c = search needs
 
 returns : tie.Need-returns
 returns c =
-    let a = c .before .before .before .before .before .before .before .before .before .before .before .before .before .before .before .before .before .before .args in
-    let i = c .before .before .before .before .before .before .before .before .intersect-by-rank in
-    let p = c .before .before .put-lines in
+    let z = c .before .before .before .before .before .before .before .before .before .before .before .before .before .before .before .before .before in
+    let a = z .args in
+    let i = c .before .before .before .before .before .before .before .intersect-by-rank in
+    let p = c .before .before .put-answer in
     let sws = now (a .swords) in
     let rws = now (a .rwords) in
     let es : List ℕ = 0 ∷ [] in
     let out = now (a .words) in
-    let one = c .before .before .before .before .before .before .before .before .before .before .before .before .before .operand .ensures in
-    let two = c .before .before .before .before .before .before .before .before .before .before .before .operand2 .ensures in
+    let one = c .before .before .before .before .before .before .before .before .before .before .before .before .operand .ensures in
+    let two = c .before .before .before .before .before .before .before .before .before .before .operand2 .ensures in
     let answer = i .ensures .0 ∙ ap₂ (λ (f g : Form). composed published f sws es g rws es out) one two ∙ rows-ignored (a .s) (count (view 0 (a .s) sws)) (a .r) (count (view 0 (a .r) rws)) sws rws es es out in
     let left = i .ensures .1 ∙ ap₂ (λ (f g : Form). composedOut f sws es g rws es out) one two ∙ rows-ignored-out (a .s) (count (view 0 (a .s) sws)) (a .r) (count (view 0 (a .r) rws)) sws rws es es out in
-    let e = words-told sws (a .s) rws (a .r) out (i .result) (c .before .before .before .before .shown .result) (i .last .1 .1 .1 .1 .1 .1 .0) answer left (c .before .before .before .before .shown .ensures) in
-    let le = choose-le (ℕ-discrete (i .result .refusal .number) 0) (a .s) in (
-      p .ensures .0 ∙ ap length e,
+    let e = words-told sws (a .s) rws (a .r) out (i .result) (i .last .1 .1 .1 .1 .1 .1 .0) answer left in (
+      p .ensures .0 ∙ ap₂ withText (words-answered sws (a .s) rws (a .r) out (i .result) answer) e,
       p .ensures .1 ∙ ap (splice 0 (now (a .out))) e,
-      omega (arith, p .ensures .2, c .before .before .before .before .shown .ensures, c .before .before .before .before .before .before .before .before .before .before .before .before .before .before .before .before .before .before .pre .0),
+      omega (arith, p .ensures .2, z .pre .0),
     )
 
 pub tell-words-spec : {M : Type 1} → statement M
@@ -77,8 +71,7 @@ tell-words-spec =
     operand-requires-2
     slice-aggregate-intersect-by-rank-2
     intersect-by-rank-requires
-    shown-requires
-    put-lines-requires
+    put-answer-requires
     same-length
     same-length-2
     returns)

@@ -1,10 +1,10 @@
--- `text::tell::shown` meets its contract. By the test that returned.
+-- `text::put::shown` meets its contract. By the test that returned.
 -- Assumes nothing.
 use native.Mathlib.Decide.{ℕ-discrete}
 use mathlib.Core.Path.{sym}
 use Rattle.rows.proofs.TableLaws.{chosen, passed-over}
-use Rattle.text.proofs.tell.shown.Statement.{statement}
-use Rattle.text.proofs.tell.shown.Tie as tie
+use Rattle.text.proofs.put.shown.Statement.{statement}
+use Rattle.text.proofs.put.shown.Tie as tie
 
 returns : tie.Need-returns
 returns c = sym (chosen (ℕ-discrete (c .before .args .refusal) 0) (c .before .args .n) 0 (c .if1 .taken))
