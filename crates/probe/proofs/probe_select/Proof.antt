@@ -1,0 +1,46 @@
+-- `probe::probe_select` meets its contract: where there is room the call's answer is told, and else nothing is done.
+-- By what the call and `tell` ensure. Assumes nothing.
+use mathlib.Core.Path.{sym, _∙_}
+use denote.Ref.{now}
+use borrow.Author.Needs.{needs}
+use borrow.Author.Tests.{not-true, not-false}
+use Rattle.probe.specs.Probe.{answers}
+use Rattle.probe.proofs.TellLaws.{enough-room, tells-over}
+use Rattle.probe.proofs.probe_select.Statement.{statement}
+use Rattle.probe.proofs.probe_select.Tie as tie
+
+ready-requires : tie.Need-ready-requires
+ready-requires c κs = search needs
+
+returns : tie.Need-returns
+returns c = rw (sym (c .before .ready .ensures) ∙ not-true _ (c .if1 .taken))
+
+select-requires : tie.Need-select-requires
+select-requires c κs = search needs
+
+tell-requires : tie.Need-tell-requires
+tell-requires c κs = enough-room _ _ (sym (c .before .before .before .before .ready .ensures) ∙ not-false _ (c .before .before .before .if1 .left))
+
+same-length : tie.Need-same-length
+same-length c = search needs
+
+same-length-2 : tie.Need-same-length-2
+same-length-2 c = search needs
+
+returns-2 : tie.Need-returns-2
+returns-2 c =
+    let a = c .before .before .before .before .before .before .before .before .before .before .before .before .args in
+    let room = sym (c .before .before .before .before .before .before .before .before .before .ready .ensures) ∙ not-false _ (c .before .before .before .before .before .before .before .before .if1 .left) in
+    tells-over _ _ (answers (now (a .ans)) (now (a .den))) _ room (c .before .before .before .before .before .before .before .select .ensures) (c .before .before .before .before .tell .ensures)
+
+pub probe-select-spec : {M : Type 1} → statement M
+probe-select-spec =
+    tie.close
+    (tie.spec
+    ready-requires
+    returns
+    select-requires
+    tell-requires
+    same-length
+    same-length-2
+    returns-2)

@@ -1,0 +1,183 @@
+-- What is right of a call of the C boundary: what it tells, cell by cell, and what it leaves of the memory that is lent to it. Each call
+-- tells what the entry point's own definition says.
+-- Assumes nothing.
+use Prim.Native.Nat.{ℕ}
+use mathlib.Core.Bool.{Bool, cond, _&&_, _||_}
+use mathlib.Core.List.{List, [], _∷_, _++_}
+use lib.Dec.{leb, eqb}
+use lib.Ieee.{Float}
+use lib.ListN.{length, drop}
+use Rattle.rows.specs.declared.Refusal.{Refusal}
+use Rattle.rows.specs.Table.{refusal}
+use Rattle.word.specs.Answer.{deposited, selected}
+use Rattle.lent.specs.Read.{rankRead}
+use Rattle.mask.specs.declared.Answer.{Answer}
+use Rattle.mask.specs.declared.Form.{Form}
+use Rattle.mask.specs.declared.Form.the-variants.{All, None, Words, List as Listed}
+use Rattle.mask.specs.Answer.{noDensity}
+use Rattle.mask.specs.Convert.{toWords, toWordsOut, toList, toListOut}
+use Rattle.bitops.specs.SetOps.{andNot, combined, combinedOut, negated, negatedOut}
+use Rattle.intersect_by_rank.specs.Route.{published}
+use Rattle.intersect_by_rank.specs.Compose.{composed, composedOut}
+use Rattle.composer.specs.declared.State.{State}
+use Rattle.composer.specs.declared.Fed.{Fed}
+use Rattle.composer.specs.Stream.{lent, pairOf, fed, fedOut}
+use Rattle.probe.specs.declared.form.Given.{Given}
+use Rattle.probe.specs.declared.form.Given.the-variants.{Good, Bad}
+use Rattle.probe.specs.declared.tell.Told.{Told}
+
+-- ---- the answer, into `ans` and `den`
+
+pub record Answers : Type 0 where
+  pub ans : List ℕ
+  pub den : List Float
+
+abbrev pub answers : List ℕ → List Float → Answers
+answers ans den = record { ans = ans; den = den }
+
+-- 0 refusal, 1 operand, 2 count, 3 route, 4 word or position, 5 done, 6 ranks, 7 kept, 8 to 14 are 0, 15 bytes
+abbrev pub cells : Told → List ℕ
+cells t =
+    t .refusal
+    ∷ t .operand
+    ∷ t .count
+    ∷ t .route
+    ∷ t .word
+    ∷ t .done
+    ∷ t .ranks
+    ∷ t .kept
+    ∷ 0
+    ∷ 0
+    ∷ 0
+    ∷ 0
+    ∷ 0
+    ∷ 0
+    ∷ 0
+    ∷ t .bytes
+    ∷ []
+
+-- `ans` has 16 cells or more, and `den` 1 or more
+unfoldable pub enough : ℕ → ℕ → Bool
+enough nans nden = leb 16 nans && leb 1 nden
+
+abbrev pub ready : Answers → Bool
+ready l = enough (length (l .ans)) (length (l .den))
+
+-- all 16 cells are written, and the density; cells past the 16th, and `den` past its first, stay
+abbrev pub over : Told → Answers → Answers
+over t l = answers (cells t ++ drop 16 (l .ans)) (t .density ∷ drop 1 (l .den))
+
+-- a call with no output: where `ans` or `den` is too short it does nothing at all
+abbrev pub tells : Told → Answers → Answers
+tells t l = cond (ready l) (over t l) l
+
+-- ---- a call with an output
+
+pub record Memory : Type 0 where
+  pub out : List ℕ
+  pub answers : Answers
+
+abbrev pub memory : List ℕ → List ℕ → List Float → Memory
+memory out ans den = record { out = out; answers = answers ans den }
+
+-- what the call tells, and the output as it leaves it
+pub record Done : Type 0 where
+  pub told : Told
+  pub out : List ℕ
+
+abbrev pub ended : Told → List ℕ → Done
+ended t out = record { told = t; out = out }
+
+abbrev pub does : Done → Memory → Memory
+does d m = cond (ready (m .answers)) (record { out = d .out; answers = over (d .told) (m .answers) }) m
+
+-- ---- what is told: a cell that a call does not speak of is 0
+
+-- a word or a position
+abbrev pub wordTold : Refusal → ℕ → Told
+wordTold r word = record { refusal = r .number; operand = r .operand; count = 0; route = 0; word = word; done = 0; ranks = 0; kept = 0; bytes = 0; density = noDensity }
+
+-- an answer, and a state's three numbers
+abbrev pub stateTold : Answer → ℕ → ℕ → ℕ → Told
+stateTold a done ranks kept =
+    record {
+      refusal = a .refusal .number;
+      operand = a .refusal .operand;
+      count = a .summary .count;
+      route = a .summary .route;
+      word = 0;
+      done = done;
+      ranks = ranks;
+      kept = kept;
+      bytes = 0;
+      density = a .summary .density;
+    }
+
+abbrev pub answerTold : Answer → Told
+answerTold a = stateTold a 0 0 0
+
+abbrev pub fedTold : Fed → Told
+fedTold f = stateTold (f .answer) (f .state .done .0) (f .state .ranks .0) (f .state .kept)
+
+-- ---- an operand's form: 0 all, 1 none, 2 words, 3 list; any other number is bad
+
+-- start and claimed are of words alone
+unfoldable pub formOf : ℕ → ℕ → ℕ → ℕ → Given
+formOf kind length start claimed =
+    cond (eqb kind 0) (Good (All length))
+    (cond (eqb kind 1) (Good (None length))
+    (cond (eqb kind 2) (Good (Words start length claimed))
+    (cond (eqb kind 3) (Good (Listed length)) Bad)))
+
+-- a bad form: 99 in cell 0, 0 in all others, density 0.0
+abbrev pub badTold : Told
+badTold = wordTold (refusal 99 0) 0
+
+-- the call of the form, or a bad one told, and no other memory changes
+abbrev pub ifGood : Given → (Form → Done) → List ℕ → Done
+ifGood (Good f) call out = call f
+ifGood Bad call out = ended badTold out
+
+-- the same of two operands, also where the call ignores one
+abbrev pub ifBoth : Given → Given → (Form → Form → Done) → List ℕ → Done
+ifBoth a b call out = ifGood a (λ f. ifGood b (λ g. call f g) out) out
+
+-- ---- each call
+
+-- by any way
+abbrev pub depositTold : ℕ → ℕ → ℕ → Told
+depositTold source mask claimed = wordTold (deposited source mask claimed .refusal) (deposited source mask claimed .word)
+
+abbrev pub selectTold : ℕ → ℕ → Told
+selectTold word rank = wordTold (selected word rank .refusal) (selected word rank .position)
+
+abbrev pub readTold : List ℕ → ℕ → ℕ → Told
+readTold words start offset = wordTold (rankRead words start offset .refusal) (rankRead words start offset .word)
+
+abbrev pub toWordsDone : Given → List ℕ → List ℕ → List ℕ → Done
+toWordsDone a ws es out = ifGood a (λ f. ended (answerTold (toWords f ws es out)) (toWordsOut f ws es out)) out
+
+abbrev pub toListDone : Given → List ℕ → List ℕ → List ℕ → Done
+toListDone a ws es out = ifGood a (λ f. ended (answerTold (toList f ws es out)) (toListOut f ws es out)) out
+
+abbrev pub composeDone : Given → List ℕ → List ℕ → Given → List ℕ → List ℕ → List ℕ → Done
+composeDone a aws aes b bws bes out =
+    ifBoth a b (λ f g. ended (answerTold (composed published f aws aes g bws bes out)) (composedOut f aws aes g bws bes out)) out
+
+-- 0 and, 1 or, 2 and-not, else not, which ignores its second operand
+unfoldable pub setDone : ℕ → Form → List ℕ → List ℕ → Form → List ℕ → List ℕ → List ℕ → Done
+setDone which f aws aes g bws bes out =
+    cond (eqb which 0) (ended (answerTold (combined _&&_ f aws aes g bws bes out)) (combinedOut _&&_ f aws aes g bws bes out))
+    (cond (eqb which 1) (ended (answerTold (combined _||_ f aws aes g bws bes out)) (combinedOut _||_ f aws aes g bws bes out))
+    (cond (eqb which 2) (ended (answerTold (combined andNot f aws aes g bws bes out)) (combinedOut andNot f aws aes g bws bes out))
+    (ended (answerTold (negated f aws aes out)) (negatedOut f aws aes out))))
+
+abbrev pub setsDone : ℕ → Given → List ℕ → List ℕ → Given → List ℕ → List ℕ → List ℕ → Done
+setsDone which a aws aes b bws bes out = ifBoth a b (λ f g. setDone which f aws aes g bws bes out) out
+
+-- the state after it, as given where it is refused
+abbrev pub feedDone : State → Given → List ℕ → List ℕ → Given → List ℕ → List ℕ → List ℕ → Done
+feedDone st a aws aes b bws bes out =
+    ifBoth a b
+    (λ f g. ended (fedTold (fed st (pairOf (lent f aws aes) (lent g bws bes)) out)) (fedOut st (pairOf (lent f aws aes) (lent g bws bes)) out))
+    out

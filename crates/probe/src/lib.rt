@@ -1,0 +1,216 @@
+// A flat C boundary over every entry point: numbers and slices, and no struct. include/probe.h declares the functions and says what each
+// cell of an answer means. Each function answers into ans and den, and does nothing at all where one of the two is too short.
+ghost use mathlib.Core.Path.{_≡_};
+ghost use denote.Ref.{now};
+ghost use Rattle.composer.specs.Stream.{stateOf};
+ghost use Rattle.probe.specs.Probe.{answers, tells, memory, does, formOf, depositTold, selectTold, readTold, toWordsDone, toListDone, composeDone, setsDone, feedDone};
+use form::form_of;
+use tell::ready;
+use tell::tell;
+
+mod call;
+mod form;
+mod tell;
+
+// Word deposit: by way 0 the choice with the network, by any other the loop form.
+#[no_mangle]
+pub extern "C" fn probe_deposit(
+    way: u64,
+    source: u64,
+    mask: u64,
+    claimed: u64,
+    ans: &mut [u64],
+    den: &mut [f64],
+)
+    ensures { λ _. ⌜ answers (now (ans .exit)) (now (den .exit)) ≡ tells (depositTold source mask claimed) (answers (now (ans .entry)) (now (den .entry))) ⌝ }
+{
+    if !ready(ans.len(), den.len()) {
+        return;
+    }
+    tell(call::deposit(way, source, mask, claimed), ans, den);
+}
+
+// Word select.
+#[no_mangle]
+pub extern "C" fn probe_select(word: u64, rank: u64, ans: &mut [u64], den: &mut [f64])
+    ensures { λ _. ⌜ answers (now (ans .exit)) (now (den .exit)) ≡ tells (selectTold word rank) (answers (now (ans .entry)) (now (den .entry))) ⌝ }
+{
+    if !ready(ans.len(), den.len()) {
+        return;
+    }
+    tell(call::select(word, rank), ans, den);
+}
+
+// Rank read: 64 bits of lent words.
+#[no_mangle]
+pub extern "C" fn probe_rank_read(
+    words: &[u64],
+    start: u64,
+    offset: u64,
+    ans: &mut [u64],
+    den: &mut [f64],
+)
+    ensures { λ _. ⌜ answers (now (ans .exit)) (now (den .exit)) ≡ tells (readTold (now (words .entry)) start offset) (answers (now (ans .entry)) (now (den .entry))) ⌝ }
+{
+    if !ready(ans.len(), den.len()) {
+        return;
+    }
+    tell(call::rank_read(words, start, offset), ans, den);
+}
+
+// Any form to words.
+#[no_mangle]
+pub extern "C" fn probe_to_words(
+    aform: u64,
+    alength: u64,
+    astart: u64,
+    aclaimed: u64,
+    awords: &[u64],
+    arows: &[u32],
+    out: &mut [u64],
+    ans: &mut [u64],
+    den: &mut [f64],
+)
+    ensures { λ _. ⌜ memory (now (out .exit)) (now (ans .exit)) (now (den .exit))
+        ≡ does (toWordsDone (formOf aform alength astart aclaimed) (now (awords .entry)) (now (arows .entry)) (now (out .entry)))
+        (memory (now (out .entry)) (now (ans .entry)) (now (den .entry))) ⌝ }
+{
+    if !ready(ans.len(), den.len()) {
+        return;
+    }
+    let a = form_of(aform, alength, astart, aclaimed);
+    tell(call::to_words(a, awords, arows, out), ans, den);
+}
+
+// Any form to a list.
+#[no_mangle]
+pub extern "C" fn probe_to_list(
+    aform: u64,
+    alength: u64,
+    astart: u64,
+    aclaimed: u64,
+    awords: &[u64],
+    arows: &[u32],
+    out: &mut [u32],
+    ans: &mut [u64],
+    den: &mut [f64],
+)
+    ensures { λ _. ⌜ memory (now (out .exit)) (now (ans .exit)) (now (den .exit))
+        ≡ does (toListDone (formOf aform alength astart aclaimed) (now (awords .entry)) (now (arows .entry)) (now (out .entry)))
+        (memory (now (out .entry)) (now (ans .entry)) (now (den .entry))) ⌝ }
+{
+    if !ready(ans.len(), den.len()) {
+        return;
+    }
+    let a = form_of(aform, alength, astart, aclaimed);
+    tell(call::to_list(a, awords, arows, out), ans, den);
+}
+
+// Composition by rank: a is self, and b the rank mask.
+#[no_mangle]
+pub extern "C" fn probe_compose(
+    aform: u64,
+    alength: u64,
+    astart: u64,
+    aclaimed: u64,
+    awords: &[u64],
+    arows: &[u32],
+    bform: u64,
+    blength: u64,
+    bstart: u64,
+    bclaimed: u64,
+    bwords: &[u64],
+    brows: &[u32],
+    out: &mut [u64],
+    ans: &mut [u64],
+    den: &mut [f64],
+)
+    ensures { λ _. ⌜ memory (now (out .exit)) (now (ans .exit)) (now (den .exit))
+        ≡ does (composeDone (formOf aform alength astart aclaimed) (now (awords .entry)) (now (arows .entry)) (formOf bform blength bstart bclaimed) (now (bwords .entry)) (now (brows .entry)) (now (out .entry)))
+        (memory (now (out .entry)) (now (ans .entry)) (now (den .entry))) ⌝ }
+{
+    if !ready(ans.len(), den.len()) {
+        return;
+    }
+    let a = form_of(aform, alength, astart, aclaimed);
+    let b = form_of(bform, blength, bstart, bclaimed);
+    tell(
+        call::compose(a, awords, arows, b, bwords, brows, out),
+        ans,
+        den,
+    );
+}
+
+// A set operation: 0 and, 1 or, 2 and-not, any other number not, which ignores b.
+#[no_mangle]
+pub extern "C" fn probe_set(
+    which: u64,
+    aform: u64,
+    alength: u64,
+    astart: u64,
+    aclaimed: u64,
+    awords: &[u64],
+    arows: &[u32],
+    bform: u64,
+    blength: u64,
+    bstart: u64,
+    bclaimed: u64,
+    bwords: &[u64],
+    brows: &[u32],
+    out: &mut [u64],
+    ans: &mut [u64],
+    den: &mut [f64],
+)
+    ensures { λ _. ⌜ memory (now (out .exit)) (now (ans .exit)) (now (den .exit))
+        ≡ does (setsDone which (formOf aform alength astart aclaimed) (now (awords .entry)) (now (arows .entry)) (formOf bform blength bstart bclaimed) (now (bwords .entry)) (now (brows .entry)) (now (out .entry)))
+        (memory (now (out .entry)) (now (ans .entry)) (now (den .entry))) ⌝ }
+{
+    if !ready(ans.len(), den.len()) {
+        return;
+    }
+    let a = form_of(aform, alength, astart, aclaimed);
+    let b = form_of(bform, blength, bstart, bclaimed);
+    tell(
+        call::set(which, a, awords, arows, b, bwords, brows, out),
+        ans,
+        den,
+    );
+}
+
+// One feed of a stream: the state's three numbers go in, and come back in the answer.
+#[no_mangle]
+pub extern "C" fn probe_feed(
+    done: u64,
+    ranks: u64,
+    kept: u64,
+    aform: u64,
+    alength: u64,
+    astart: u64,
+    aclaimed: u64,
+    awords: &[u64],
+    arows: &[u32],
+    bform: u64,
+    blength: u64,
+    bstart: u64,
+    bclaimed: u64,
+    bwords: &[u64],
+    brows: &[u32],
+    out: &mut [u64],
+    ans: &mut [u64],
+    den: &mut [f64],
+)
+    ensures { λ _. ⌜ memory (now (out .exit)) (now (ans .exit)) (now (den .exit))
+        ≡ does (feedDone (stateOf done ranks kept) (formOf aform alength astart aclaimed) (now (awords .entry)) (now (arows .entry)) (formOf bform blength bstart bclaimed) (now (bwords .entry)) (now (brows .entry)) (now (out .entry)))
+        (memory (now (out .entry)) (now (ans .entry)) (now (den .entry))) ⌝ }
+{
+    if !ready(ans.len(), den.len()) {
+        return;
+    }
+    let a = form_of(aform, alength, astart, aclaimed);
+    let b = form_of(bform, blength, bstart, bclaimed);
+    tell(
+        call::feed(done, ranks, kept, a, awords, arows, b, bwords, brows, out),
+        ans,
+        den,
+    );
+}

@@ -1,0 +1,134 @@
+// What a call tells, and the one way to write it: every cell on every call.
+ghost use mathlib.Core.Path.{_≡_};
+ghost use mathlib.Core.List.{_++_};
+ghost use Prim.Native.Nat.{_≤_, _<_};
+ghost use lib.ListN.{length, drop};
+ghost use denote.Ref.{now};
+ghost use Rattle.probe.specs.Probe.{answers, enough, over, wordTold, badTold, stateTold, answerTold, fedTold};
+use composer::Fed;
+use mask::Answer;
+use rows::Refusal;
+
+// The numbers that the cells have, and the density.
+pub struct Told {
+    pub refusal: u64,
+    pub operand: u64,
+    pub count: u64,
+    pub route: u64,
+    pub word: u64,
+    pub done: u64,
+    pub ranks: u64,
+    pub kept: u64,
+    pub bytes: u64,
+    pub density: f64,
+}
+
+// A refusal, or its place empty, and a word or a position.
+pub fn of_word(refusal: Refusal, word: u64) -> Told
+    ensures { λ t. ⌜ t ≡ wordTold refusal word ⌝ }
+{
+    Told {
+        refusal: refusal.number as u64,
+        operand: refusal.operand as u64,
+        count: 0,
+        route: 0,
+        word,
+        done: 0,
+        ranks: 0,
+        kept: 0,
+        bytes: 0,
+        density: 0.0,
+    }
+}
+
+// An answer, and a state's three numbers.
+fn of_state(answer: Answer, done: u64, ranks: u64, kept: u64) -> Told
+    ensures { λ t. ⌜ t ≡ stateTold answer done ranks kept ⌝ }
+{
+    Told {
+        refusal: answer.refusal.number as u64,
+        operand: answer.refusal.operand as u64,
+        count: answer.summary.count,
+        route: answer.summary.route as u64,
+        word: 0,
+        done,
+        ranks,
+        kept,
+        bytes: 0,
+        density: answer.summary.density,
+    }
+}
+
+pub fn of_answer(answer: Answer) -> Told
+    ensures { λ t. ⌜ t ≡ answerTold answer ⌝ }
+{
+    of_state(answer, 0, 0, 0)
+}
+
+pub fn of_fed(fed: Fed) -> Told
+    ensures { λ t. ⌜ t ≡ fedTold fed ⌝ }
+{
+    let answer = fed.answer;
+    of_state(answer, fed.state.done.0, fed.state.ranks.0, fed.state.kept)
+}
+
+// A form that is none: 99, and nothing else is told.
+pub fn of_bad_form() -> Told
+    ensures { λ t. ⌜ t ≡ badTold ⌝ }
+{
+    of_word(
+        Refusal {
+            number: 99,
+            operand: 0,
+        },
+        0,
+    )
+}
+
+// There is room for an answer: 16 cells and a density.
+pub fn ready(nans: usize, nden: usize) -> bool
+    ensures { λ r. ⌜ r ≡ enough nans nden ⌝ }
+{
+    if nans < 16 {
+        return false;
+    }
+    1 <= nden
+}
+
+// All of cells over the front of ans.
+fn lay(cells: &[u64], ans: &mut [u64])
+    requires { ⌜ length (now cells) ≤ length (now ans) ⌝ }
+    ensures { λ _. ⌜ now (ans .exit) ≡ now (cells .entry) ++ drop (length (now (cells .entry))) (now (ans .entry)) ⌝ }
+{
+    let mut i: usize = 0;
+    while i < cells.len() {
+        ans[i] = cells[i];
+        i += 1;
+    }
+}
+
+pub fn tell(told: Told, ans: &mut [u64], den: &mut [f64])
+    requires { ⌜ (16 ≤ length (now ans)) × (0 < length (now den)) ⌝ }
+    ensures { λ _. ⌜ answers (now (ans .exit)) (now (den .exit)) ≡ over told (answers (now (ans .entry)) (now (den .entry))) ⌝ }
+{
+    let cells = [
+        told.refusal,
+        told.operand,
+        told.count,
+        told.route,
+        told.word,
+        told.done,
+        told.ranks,
+        told.kept,
+        0,
+        0,
+        0,
+        0,
+        0,
+        0,
+        0,
+        told.bytes,
+    ];
+    lay(&cells, ans);
+    den[0] = told.density;
+}
