@@ -17,7 +17,7 @@
  *    6  ranks    the state after a feed; where the feed is refused, the state as it was given
  *    7  kept    /
  *    8  to 14   0
- *   15  the bytes written by a program, 0 in every function below
+ *   15  the bytes that probe_program wrote
  *
  * and den's cell is the density. A cell of which a function does not speak is 0, and so are count, route, word, position
  * and density with a refusal. Cells of ans past the 16th, and of den past the first, stay as they were.
@@ -66,6 +66,10 @@ void probe_set(uint64_t which, PROBE_OPERAND(a), PROBE_OPERAND(b), uint64_t *out
  * self, and b a piece of the rank mask. */
 void probe_feed(uint64_t done, uint64_t ranks, uint64_t kept, PROBE_OPERAND(a), PROBE_OPERAND(b), uint64_t *out,
                 size_t nout, PROBE_ANSWER);
+
+/* The program's four lines into out, and the answer that they tell in the cells: 0, 7 or 13, with its count, route and
+ * density. Where out is too short for the lines: 8 in cell 0, 0 in every other cell, and out stays as it was. */
+void probe_program(const uint8_t *in, size_t nin, uint8_t *out, size_t nout, PROBE_ANSWER);
 
 #undef PROBE_OPERAND
 #undef PROBE_ANSWER

@@ -48,6 +48,8 @@ use Rattle.probe.proofs.probe_set.Kinds as probe-set-kinds
 use Rattle.probe.proofs.probe_set.Reads as probe-set
 use Rattle.probe.proofs.probe_feed.Kinds as probe-feed-kinds
 use Rattle.probe.proofs.probe_feed.Reads as probe-feed
+use Rattle.probe.proofs.probe_program.Kinds as probe-program-kinds
+use Rattle.probe.proofs.probe_program.Reads as probe-program
 
 pub word-deposit-one : OneAnswer 0 deposit-kinds.ps deposit-kinds.r deposit.Pre deposit.Post
 word-deposit-one κs a p x y v w hv hw = (hv ∙ sym hw, refl)
@@ -111,3 +113,6 @@ probe-probe-set-one κs a p x y v w hv hw = (refl, ap (λ (m : Memory). (tt, (tt
 
 pub probe-probe-feed-one : OneAnswer 7 probe-feed-kinds.ps probe-feed-kinds.r probe-feed.Pre probe-feed.Post
 probe-probe-feed-one κs a p x y v w hv hw = (refl, ap (λ (m : Memory). (tt, (tt, (tt, (tt, (tt, (tt, (tt, (tt, (tt, (tt, (tt, (tt, (tt, (tt, (tt, (m .out, (m .answers .ans, (m .answers .den, tt))))))))))))))))))) (hv ∙ sym hw))
+
+pub probe-probe-program-one : OneAnswer 4 probe-program-kinds.ps probe-program-kinds.r probe-program.Pre probe-program.Post
+probe-probe-program-one κs a p x y v w hv hw = (refl, ap (λ (m : Memory). (tt, (m .out, (m .answers .ans, (m .answers .den, tt))))) (hv ∙ sym hw))

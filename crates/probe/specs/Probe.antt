@@ -22,6 +22,8 @@ use Rattle.intersect_by_rank.specs.Compose.{composed, composedOut}
 use Rattle.composer.specs.declared.State.{State}
 use Rattle.composer.specs.declared.Fed.{Fed}
 use Rattle.composer.specs.Stream.{lent, pairOf, fed, fedOut}
+use Rattle.text.specs.declared.Written.{Written}
+use Rattle.text.specs.Text.{tells as textTells, toldOut}
 use Rattle.probe.specs.declared.form.Given.{Given}
 use Rattle.probe.specs.declared.form.Given.the-variants.{Good, Bad}
 use Rattle.probe.specs.declared.tell.Told.{Told}
@@ -98,8 +100,8 @@ abbrev pub wordTold : Refusal → ℕ → Told
 wordTold r word = record { refusal = r .number; operand = r .operand; count = 0; route = 0; word = word; done = 0; ranks = 0; kept = 0; bytes = 0; density = noDensity }
 
 -- an answer, and a state's three numbers
-abbrev pub stateTold : Answer → ℕ → ℕ → ℕ → Told
-stateTold a done ranks kept =
+abbrev pub stateTold : Answer → ℕ → ℕ → ℕ → ℕ → Told
+stateTold a done ranks kept bytes =
     record {
       refusal = a .refusal .number;
       operand = a .refusal .operand;
@@ -109,15 +111,19 @@ stateTold a done ranks kept =
       done = done;
       ranks = ranks;
       kept = kept;
-      bytes = 0;
+      bytes = bytes;
       density = a .summary .density;
     }
 
 abbrev pub answerTold : Answer → Told
-answerTold a = stateTold a 0 0 0
+answerTold a = stateTold a 0 0 0 0
 
 abbrev pub fedTold : Fed → Told
-fedTold f = stateTold (f .answer) (f .state .done .0) (f .state .ranks .0) (f .state .kept)
+fedTold f = stateTold (f .answer) (f .state .done .0) (f .state .ranks .0) (f .state .kept) 0
+
+-- the answer that the lines tell, and how many bytes they are
+abbrev pub writtenTold : Written → Told
+writtenTold w = stateTold (w .answer) 0 0 0 (w .len)
 
 -- ---- an operand's form: 0 all, 1 none, 2 words, 3 list; any other number is bad
 
@@ -181,3 +187,7 @@ feedDone st a aws aes b bws bes out =
     ifBoth a b
     (λ f g. ended (fedTold (fed st (pairOf (lent f aws aes) (lent g bws bes)) out)) (fedOut st (pairOf (lent f aws aes) (lent g bws bes)) out))
     out
+
+-- the program: its lines into the output; where that is too short for them 8, and nothing is written
+abbrev pub programDone : List ℕ → List ℕ → Done
+programDone input out = ended (writtenTold (textTells input (length out))) (toldOut input out)

@@ -3,13 +3,14 @@ ghost use mathlib.Core.Path.{_≡_};
 ghost use denote.Ref.{now};
 ghost use Rattle.word.specs.Answer.{deposited};
 ghost use Rattle.composer.specs.Stream.{stateOf};
-ghost use Rattle.probe.specs.Probe.{ended, depositTold, selectTold, readTold, toWordsDone, toListDone, composeDone, setDone, setsDone, feedDone, answerTold};
+ghost use Rattle.probe.specs.Probe.{ended, depositTold, selectTold, readTold, toWordsDone, toListDone, composeDone, setDone, setsDone, feedDone, programDone, answerTold};
 use super::form::Given;
 use super::tell::Told;
 use super::tell::of_answer;
 use super::tell::of_bad_form;
 use super::tell::of_fed;
 use super::tell::of_word;
+use super::tell::of_written;
 use composer::State;
 use mask::Answer;
 use mask::Form;
@@ -181,4 +182,10 @@ pub fn feed(
         kept,
     };
     of_fed(composer::feed(state, s, awords, arows, r, bwords, brows, out))
+}
+
+pub fn program(input: &[u8], out: &mut [u8]) -> Told
+    ensures { λ t. ⌜ ended t (now (out .exit)) ≡ programDone (now (input .entry)) (now (out .entry)) ⌝ }
+{
+    of_written(text::answer(input, out))
 }

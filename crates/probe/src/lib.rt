@@ -3,7 +3,7 @@
 ghost use mathlib.Core.Path.{_≡_};
 ghost use denote.Ref.{now};
 ghost use Rattle.composer.specs.Stream.{stateOf};
-ghost use Rattle.probe.specs.Probe.{answers, tells, memory, does, formOf, depositTold, selectTold, readTold, toWordsDone, toListDone, composeDone, setsDone, feedDone};
+ghost use Rattle.probe.specs.Probe.{answers, tells, memory, does, formOf, depositTold, selectTold, readTold, toWordsDone, toListDone, composeDone, setsDone, feedDone, programDone};
 use form::form_of;
 use tell::ready;
 use tell::tell;
@@ -213,4 +213,16 @@ pub extern "C" fn probe_feed(
         ans,
         den,
     );
+}
+
+// The program: its four lines into out, and the answer that they tell.
+#[no_mangle]
+pub extern "C" fn probe_program(input: &[u8], out: &mut [u8], ans: &mut [u64], den: &mut [f64])
+    ensures { λ _. ⌜ memory (now (out .exit)) (now (ans .exit)) (now (den .exit))
+        ≡ does (programDone (now (input .entry)) (now (out .entry))) (memory (now (out .entry)) (now (ans .entry)) (now (den .entry))) ⌝ }
+{
+    if !ready(ans.len(), den.len()) {
+        return;
+    }
+    tell(call::program(input, out), ans, den);
 }

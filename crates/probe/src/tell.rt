@@ -4,10 +4,11 @@ ghost use mathlib.Core.List.{_++_};
 ghost use Prim.Native.Nat.{_≤_, _<_};
 ghost use lib.ListN.{length, drop};
 ghost use denote.Ref.{now};
-ghost use Rattle.probe.specs.Probe.{answers, enough, over, wordTold, badTold, stateTold, answerTold, fedTold};
+ghost use Rattle.probe.specs.Probe.{answers, enough, over, wordTold, badTold, stateTold, answerTold, fedTold, writtenTold};
 use composer::Fed;
 use mask::Answer;
 use rows::Refusal;
+use text::Written;
 
 // The numbers that the cells have, and the density.
 pub struct Told {
@@ -41,9 +42,9 @@ pub fn of_word(refusal: Refusal, word: u64) -> Told
     }
 }
 
-// An answer, and a state's three numbers.
-fn of_state(answer: Answer, done: u64, ranks: u64, kept: u64) -> Told
-    ensures { λ t. ⌜ t ≡ stateTold answer done ranks kept ⌝ }
+// An answer, a state's three numbers, and how many bytes were written.
+fn of_state(answer: Answer, done: u64, ranks: u64, kept: u64, bytes: u64) -> Told
+    ensures { λ t. ⌜ t ≡ stateTold answer done ranks kept bytes ⌝ }
 {
     Told {
         refusal: answer.refusal.number as u64,
@@ -54,7 +55,7 @@ fn of_state(answer: Answer, done: u64, ranks: u64, kept: u64) -> Told
         done,
         ranks,
         kept,
-        bytes: 0,
+        bytes,
         density: answer.summary.density,
     }
 }
@@ -62,14 +63,28 @@ fn of_state(answer: Answer, done: u64, ranks: u64, kept: u64) -> Told
 pub fn of_answer(answer: Answer) -> Told
     ensures { λ t. ⌜ t ≡ answerTold answer ⌝ }
 {
-    of_state(answer, 0, 0, 0)
+    of_state(answer, 0, 0, 0, 0)
 }
 
 pub fn of_fed(fed: Fed) -> Told
     ensures { λ t. ⌜ t ≡ fedTold fed ⌝ }
 {
     let answer = fed.answer;
-    of_state(answer, fed.state.done.0, fed.state.ranks.0, fed.state.kept)
+    of_state(
+        answer,
+        fed.state.done.0,
+        fed.state.ranks.0,
+        fed.state.kept,
+        0,
+    )
+}
+
+// The answer that the program's lines tell, and their length.
+pub fn of_written(written: Written) -> Told
+    ensures { λ t. ⌜ t ≡ writtenTold written ⌝ }
+{
+    let answer = written.answer;
+    of_state(answer, 0, 0, 0, written.len as u64)
 }
 
 // A form that is none: 99, and nothing else is told.
