@@ -1,0 +1,47 @@
+//! Build script of the two packages that compile the Rust crate's files: finds the files, and writes one line of Rust
+//! that names them where they lie.
+use std::path::{Path, PathBuf};
+use std::{env, fs, process};
+
+const VARIABLE: &str = "VORTEX_MASK_SRC";
+const BESIDE_THE_CLONE: &str = "../../../shared/docs/src/src"; // from this package: compare/, the clone, beside it
+
+fn main() {
+    println!("cargo::rerun-if-env-changed={VARIABLE}");
+    if env::var("CARGO_CFG_TARGET_ARCH").unwrap() != "x86_64" {
+        stop("compare is built for x86-64 only: run compare/run, or give --target x86_64-unknown-linux-gnu");
+    }
+    let folder = source_folder();
+    let package = env::var("CARGO_PKG_NAME").unwrap();
+    let line = match package.as_str() {
+        "vortex-mask" => format!("#[path = {:?}]\nmod whole;\n", file(&folder, "lib.rs")),
+        _ => format!("include!({:?});\n", file(&folder, "intersect_by_rank/mod.rs")),
+    };
+    let out = PathBuf::from(env::var_os("OUT_DIR").unwrap()).join("source.rs");
+    fs::write(out, line).unwrap();
+}
+
+fn source_folder() -> PathBuf {
+    match env::var_os(VARIABLE) {
+        Some(folder) => PathBuf::from(folder),
+        None => PathBuf::from(env::var_os("CARGO_MANIFEST_DIR").unwrap()).join(BESIDE_THE_CLONE),
+    }
+}
+
+fn file(folder: &Path, name: &str) -> PathBuf {
+    let path = folder.join(name);
+    println!("cargo::rerun-if-changed={}", path.display());
+    match path.canonicalize() {
+        Ok(path) => path,
+        Err(_) => stop(&format!(
+            "the Rust crate's file {} is not there: set {VARIABLE} to the src folder of vortex-mask 0.90.0",
+            path.display()
+        )),
+    }
+}
+
+fn stop(why: &str) -> ! {
+    println!("cargo::error={why}");
+    eprintln!("{why}");
+    process::exit(1);
+}

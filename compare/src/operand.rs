@@ -1,0 +1,147 @@
+//! An operand as it is lent, and masks as rows.
+use std::fmt;
+
+use crate::random::Random;
+
+pub const ALL: u64 = 0;
+pub const NONE: u64 = 1;
+pub const WORDS: u64 = 2;
+pub const LIST: u64 = 3;
+
+/// The numbers and slices of one operand. What its form doesn't use is filled too: it must be ignored.
+#[derive(Clone)]
+pub struct Operand {
+    pub form: u64,
+    pub length: u64,
+    pub start: u64,
+    pub claimed: u64,
+    pub words: Vec<u64>,
+    pub rows: Vec<u32>,
+}
+
+impl fmt::Debug for Operand {
+    fn fmt(&self, f: &mut fmt::Formatter<'_>) -> fmt::Result {
+        let form = match self.form {
+            ALL => "all".to_string(),
+            NONE => "none".to_string(),
+            WORDS => "words".to_string(),
+            LIST => "list".to_string(),
+            other => format!("form {other}"),
+        };
+        write!(f, "{form} length {} start {} claimed {}", self.length, self.start, self.claimed)?;
+        write!(f, " words {} rows {:?}", shown_words(&self.words), self.rows)
+    }
+}
+
+pub fn shown_words(words: &[u64]) -> String {
+    let words: Vec<String> = words.iter().map(|word| format!("{word:#x}")).collect();
+    format!("[{}]", words.join(", "))
+}
+
+/// The rows as lent in `form`. All and none need rows that are all set, or all clear.
+pub fn lend(rows: &[bool], form: u64, random: &mut Random) -> Operand {
+    let start = random.below(64);
+    let (garbage_words, garbage_rows) = (random.below(3), random.below(3));
+    let mut operand = Operand {
+        form,
+        length: rows.len() as u64,
+        start: random.next(),
+        claimed: random.next(),
+        words: random.words(garbage_words),
+        rows: (0..garbage_rows).map(|_| random.next() as u32).collect(),
+    };
+    if form == WORDS {
+        let extra = random.below(3);
+        operand.start = start;
+        operand.claimed = count(rows);
+        operand.words = random.words((start + rows.len() as u64).div_ceil(64) + extra);
+        lay(&mut operand.words, start as usize, rows);
+    }
+    if form == LIST {
+        operand.rows = set_rows(rows);
+    }
+    operand
+}
+
+/// Row i of `rows` at bit `at` + i; no other bit changes.
+pub fn lay(words: &mut [u64], at: usize, rows: &[bool]) {
+    for (i, &row) in rows.iter().enumerate() {
+        let (word, bit) = ((at + i) / 64, (at + i) % 64);
+        words[word] = words[word] & !(1 << bit) | u64::from(row) << bit;
+    }
+}
+
+pub fn count(rows: &[bool]) -> u64 {
+    rows.iter().filter(|&&row| row).count() as u64
+}
+
+pub fn set_rows(rows: &[bool]) -> Vec<u32> {
+    (0..rows.len()).filter(|&i| rows[i]).map(|i| i as u32).collect()
+}
+
+/// A form that can carry these rows; words and lists more often than all and none.
+pub fn fitting_form(rows: &[bool], lists: bool, random: &mut Random) -> u64 {
+    let set = count(rows);
+    if set == 0 && random.one_in(2) {
+        return NONE;
+    }
+    if set == rows.len() as u64 && random.one_in(2) {
+        return ALL;
+    }
+    if lists { random.pick(&[WORDS, LIST]) } else { WORDS }
+}
+
+const DENSITIES: [f64; 18] = [
+    0.0, 0.001, 0.005, 0.01, 0.015, 0.02, 0.03, 0.035, 0.05, 0.06, 0.065, 0.1, 0.25, 0.5, 0.75, 0.9, 0.99, 1.0,
+];
+
+/// Rows of one of several makes: scattered at a density, an exact count at the tables' bounds, runs.
+pub fn random_rows(length: u64, random: &mut Random) -> Vec<bool> {
+    match random.below(8) {
+        0..=3 => scattered(length, random.pick(&DENSITIES), random),
+        4 => {
+            let density = random.fraction();
+            scattered(length, density, random)
+        }
+        5 | 6 => {
+            let bound = length / random.pick(&[16, 32, 64, 4, 2, 1]);
+            let wanted = (bound + random.below(3)).saturating_sub(1).min(length);
+            exactly(length, wanted, random)
+        }
+        _ => runs(length, random),
+    }
+}
+
+pub fn scattered(length: u64, density: f64, random: &mut Random) -> Vec<bool> {
+    (0..length).map(|_| random.fraction() < density).collect()
+}
+
+pub fn exactly(length: u64, wanted: u64, random: &mut Random) -> Vec<bool> {
+    let mut left = wanted;
+    let mut rows = Vec::with_capacity(length as usize);
+    for row in 0..length {
+        let set = random.below(length - row) < left;
+        left -= u64::from(set);
+        rows.push(set);
+    }
+    rows
+}
+
+fn runs(length: u64, random: &mut Random) -> Vec<bool> {
+    let longest = random.between(1, 200);
+    let mut rows = Vec::with_capacity(length as usize);
+    let mut set = random.one_in(2);
+    while (rows.len() as u64) < length {
+        let run = random.between(1, longest).min(length - rows.len() as u64);
+        rows.extend((0..run).map(|_| set));
+        set = !set;
+    }
+    rows
+}
+
+/// A length at, or up to two beside, a multiple of 64.
+pub fn length_around_words(random: &mut Random) -> u64 {
+    let most = random.pick(&[2, 8, 16, 64]);
+    let near = 64 * random.below(most + 1) + random.below(5);
+    near.saturating_sub(2)
+}

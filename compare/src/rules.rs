@@ -1,0 +1,308 @@
+//! Document 01 written out plainly, row by row: the refusal table with its order, the route table, and what is written.
+//! It shares nothing with the Rust crate or the proved code.
+use crate::answer::Answer;
+use crate::operand::{ALL, LIST, NONE, Operand, WORDS, count, lay, set_rows};
+
+pub const LIMIT: u64 = 1_048_576;
+pub const UNKNOWN_FORM: u64 = 99;
+
+/// The answer, and the whole of the lent output after the call.
+pub struct Expected<T> {
+    pub answer: Answer,
+    pub out: Vec<T>,
+}
+
+fn refused<T: Clone>(number: u64, operand: u64, out: &[T]) -> Expected<T> {
+    Expected { answer: Answer::refused(number, operand), out: out.to_vec() }
+}
+
+// ---- words
+
+pub fn deposit(source: u64, mask: u64, claimed: u64) -> Answer {
+    if claimed != u64::from(mask.count_ones()) {
+        return Answer::refused(4, 0);
+    }
+    Answer::word(published_pdep(source, mask))
+}
+
+/// The PDEP entry of the Intel 64 and IA-32 manuals, line by line.
+pub fn published_pdep(source: u64, mask: u64) -> u64 {
+    let (temp, mut dest) = (source, 0);
+    let (mut m, mut k) = (0, 0);
+    while m < 64 {
+        if mask >> m & 1 == 1 {
+            dest |= (temp >> k & 1) << m;
+            k += 1;
+        }
+        m += 1;
+    }
+    dest
+}
+
+pub fn select(word: u64, rank: u64) -> Answer {
+    let mut below = 0;
+    for position in 0..64 {
+        if word >> position & 1 == 1 {
+            if below == rank {
+                return Answer::word(position);
+            }
+            below += 1;
+        }
+    }
+    Answer::refused(9, 0)
+}
+
+pub fn rank_read(words: &[u64], start: u64, offset: u64) -> Answer {
+    if start > 63 {
+        return Answer::refused(2, 0);
+    }
+    let mut read = 0;
+    for k in 0..64u128 {
+        let position = u128::from(start) + u128::from(offset) + k;
+        if position < 64 * words.len() as u128 {
+            let word = words[(position / 64) as usize];
+            read |= (word >> (position % 64) & 1) << k;
+        }
+    }
+    Answer::word(read)
+}
+
+// ---- operands
+
+/// 0 where the operand passes.
+fn operand_refusal(operand: &Operand, in_set_operation: bool) -> u64 {
+    if in_set_operation && operand.form == LIST {
+        return 12;
+    }
+    if operand.length > LIMIT {
+        return 1;
+    }
+    match operand.form {
+        WORDS => words_refusal(operand),
+        LIST => list_refusal(operand),
+        _ => 0,
+    }
+}
+
+fn words_refusal(operand: &Operand) -> u64 {
+    if operand.start > 63 {
+        return 2;
+    }
+    if (operand.words.len() as u64) < (operand.start + operand.length).div_ceil(64) {
+        return 3;
+    }
+    if operand.claimed != count(&rows(operand)) {
+        return 4;
+    }
+    0
+}
+
+fn list_refusal(operand: &Operand) -> u64 {
+    let ascending = operand.rows.windows(2).all(|pair| pair[0] < pair[1]);
+    if !ascending {
+        return 5;
+    }
+    match operand.rows.last() {
+        Some(&last) if u64::from(last) >= operand.length => 6,
+        _ => 0,
+    }
+}
+
+/// The rows of an operand that passes, but for its claimed count.
+pub fn rows(operand: &Operand) -> Vec<bool> {
+    let length = operand.length as usize;
+    match operand.form {
+        ALL => vec![true; length],
+        NONE => vec![false; length],
+        WORDS => {
+            let bit = |position: usize| operand.words[position / 64] >> (position % 64) & 1 == 1;
+            (0..length).map(|row| bit(operand.start as usize + row)).collect()
+        }
+        _ => {
+            let mut rows = vec![false; length];
+            for &row in &operand.rows {
+                rows[row as usize] = true;
+            }
+            rows
+        }
+    }
+}
+
+fn unknown_form(operand: &Operand) -> bool {
+    ![ALL, NONE, WORDS, LIST].contains(&operand.form)
+}
+
+/// The refusal and the operand that it names, 0 and 0 where both pass.
+fn operands_refusal(a: &Operand, b: &Operand, in_set_operation: bool) -> (u64, u64) {
+    let first = operand_refusal(a, in_set_operation);
+    if first != 0 {
+        return (first, 1);
+    }
+    let second = operand_refusal(b, in_set_operation);
+    if second != 0 {
+        return (second, 2);
+    }
+    (0, 0)
+}
+
+// ---- operations
+
+pub fn to_words(a: &Operand, out: &[u64]) -> Expected<u64> {
+    if unknown_form(a) {
+        return refused(UNKNOWN_FORM, 0, out);
+    }
+    match operand_refusal(a, false) {
+        0 => write_words(&rows(a), 0, out),
+        number => refused(number, 1, out),
+    }
+}
+
+pub fn to_list(a: &Operand, out: &[u32]) -> Expected<u32> {
+    if unknown_form(a) {
+        return refused(UNKNOWN_FORM, 0, out);
+    }
+    let number = operand_refusal(a, false);
+    if number != 0 {
+        return refused(number, 1, out);
+    }
+    let list = set_rows(&rows(a));
+    if out.len() < list.len() {
+        return refused(8, 0, out);
+    }
+    let mut after = out.to_vec();
+    after[..list.len()].copy_from_slice(&list);
+    Expected { answer: Answer::summary(list.len() as u64, a.length, 0), out: after }
+}
+
+pub fn set(which: u64, a: &Operand, b: &Operand, out: &[u64]) -> Expected<u64> {
+    if unknown_form(a) || unknown_form(b) {
+        return refused(UNKNOWN_FORM, 0, out);
+    }
+    if which > 2 {
+        return not(a, out);
+    }
+    let (number, operand) = operands_refusal(a, b, true);
+    if number != 0 {
+        return refused(number, operand, out);
+    }
+    if a.length != b.length {
+        return refused(7, 0, out);
+    }
+    let pairs = rows(a).into_iter().zip(rows(b));
+    let result: Vec<bool> = match which {
+        0 => pairs.map(|(a, b)| a && b).collect(),
+        1 => pairs.map(|(a, b)| a || b).collect(),
+        _ => pairs.map(|(a, b)| a && !b).collect(),
+    };
+    write_words(&result, 0, out)
+}
+
+fn not(a: &Operand, out: &[u64]) -> Expected<u64> {
+    match operand_refusal(a, true) {
+        0 => {
+            let result: Vec<bool> = rows(a).into_iter().map(|row| !row).collect();
+            write_words(&result, 0, out)
+        }
+        number => refused(number, 1, out),
+    }
+}
+
+pub fn compose(a: &Operand, b: &Operand, out: &[u64]) -> Expected<u64> {
+    if unknown_form(a) || unknown_form(b) {
+        return refused(UNKNOWN_FORM, 0, out);
+    }
+    let (number, operand) = operands_refusal(a, b, false);
+    if number != 0 {
+        return refused(number, operand, out);
+    }
+    let own = rows(a);
+    if b.length != count(&own) {
+        return refused(7, 0, out);
+    }
+    let ranks = rows(b);
+    write_words(&laid_back(&own, &ranks), route(a, &own, b, &ranks), out)
+}
+
+/// Row i is kept exactly if self has i and the rank mask has i's rank.
+pub fn laid_back(own: &[bool], ranks: &[bool]) -> Vec<bool> {
+    let mut rank = 0;
+    let mut result = Vec::with_capacity(own.len());
+    for &row in own {
+        result.push(row && ranks[rank]);
+        rank += usize::from(row);
+    }
+    result
+}
+
+/// Words output: start 0, clear bits at or past the length in the last word, later words as they were.
+fn write_words(result: &[bool], route: u64, out: &[u64]) -> Expected<u64> {
+    let need = result.len().div_ceil(64);
+    if out.len() < need {
+        return refused(8, 0, out);
+    }
+    let mut after = out.to_vec();
+    after[..need].fill(0);
+    lay(&mut after, 0, result);
+    Expected { answer: Answer::summary(count(result), result.len() as u64, route), out: after }
+}
+
+/// The route table: the first line that fits.
+pub fn route(a: &Operand, own: &[bool], b: &Operand, ranks: &[bool]) -> u64 {
+    let (own_count, rank_count) = (count(own), count(ranks));
+    let (own_length, rank_length) = (own.len() as u64, ranks.len() as u64);
+    let full = |count: u64, length: u64| length > 0 && count == length;
+    if full(own_count, own_length) {
+        return 1;
+    }
+    if full(rank_count, rank_length) {
+        return 2;
+    }
+    if own_count == 0 || rank_count == 0 {
+        return 3;
+    }
+    let loop_form = 16 * own_count < own_length;
+    match (a.form, b.form) {
+        (LIST, LIST) => 4,
+        (LIST, _) => 5,
+        (_, _) if 32 * rank_count < rank_length => 6,
+        (_, LIST) => if loop_form { 8 } else { 7 },
+        (_, _) => if loop_form { 10 } else { 9 },
+    }
+}
+
+/// A feed: bits done to done + length - 1 of the output, and no other.
+pub fn feed(state: [u64; 3], a: &Operand, b: &Operand, out: &[u64]) -> Expected<u64> {
+    if unknown_form(a) || unknown_form(b) {
+        return refused(UNKNOWN_FORM, 0, out);
+    }
+    let [done, ranks_before, kept] = state;
+    let refused_as_given = |number, operand| Expected {
+        answer: Answer::refused(number, operand).with_state(state),
+        out: out.to_vec(),
+    };
+    if !(kept <= ranks_before && ranks_before <= done && done <= LIMIT) {
+        return refused_as_given(10, 0);
+    }
+    let (number, operand) = operands_refusal(a, b, false);
+    if number != 0 {
+        return refused_as_given(number, operand);
+    }
+    let own = rows(a);
+    let own_count = count(&own);
+    if b.length != own_count {
+        return refused_as_given(7, 0);
+    }
+    if done + a.length > LIMIT {
+        return refused_as_given(11, 0);
+    }
+    if (out.len() as u64) < (done + a.length).div_ceil(64) {
+        return refused_as_given(8, 0);
+    }
+    let ranks = rows(b);
+    let result = laid_back(&own, &ranks);
+    let mut after = out.to_vec();
+    lay(&mut after, done as usize, &result);
+    let answer = Answer::summary(count(&result), a.length, route(a, &own, b, &ranks));
+    let state = [done + a.length, ranks_before + own_count, kept + count(&result)];
+    Expected { answer: answer.with_state(state), out: after }
+}
