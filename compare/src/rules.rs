@@ -128,6 +128,11 @@ pub fn rows(operand: &Operand) -> Vec<bool> {
     }
 }
 
+/// The set rows of an operand that passes.
+pub fn set_count(operand: &Operand) -> u64 {
+    count(&rows(operand))
+}
+
 fn unknown_form(operand: &Operand) -> bool {
     ![ALL, NONE, WORDS, LIST].contains(&operand.form)
 }

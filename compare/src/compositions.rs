@@ -1,0 +1,99 @@
+//! Compositions, and whole blocks: against the crate on its portable and its BMI2 paths, and against document 01.
+use switched_std::cpu;
+
+use crate::answer::ROUTE;
+use crate::checks::{Outcome, asked, by_the_crate, by_the_rules, with_input};
+use crate::operand::{Operand, count, fitting_form, lend, length_around_words, random_rows};
+use crate::random::Random;
+use crate::rules::LIMIT;
+use crate::tally::{Progress, Tally};
+use crate::{ours, rules, theirs};
+
+const ROUTES: usize = 11; // 0 to 10
+
+pub fn run(cases: u64, seed: u64, tally: &mut Tally) -> Outcome {
+    let mut random = Random::new(seed, "compositions");
+    let mut progress = Progress::new("compositions", cases);
+    let mut routes = [0; ROUTES];
+    let mut of_length_0 = 0;
+    for _ in 0..cases {
+        let length = length_around_words(&mut random);
+        let (a, b) = random_pair(length, &mut random);
+        routes[compose_both(&a, &b, &mut random)?] += 1;
+        of_length_0 += u64::from(length == 0);
+        progress.step();
+    }
+    progress.end();
+    tally.add("compositions against the crate's portable paths", cases);
+    tally.add("compositions against the crate's BMI2 paths", if cpu::has_bmi2() { cases } else { 0 });
+    tally.add("  of length 0: their density left out against the crate", of_length_0);
+    tally.add_each("  of route", &routes, false);
+    every_route_occurred(&routes)
+}
+
+pub fn blocks(cases: u64, seed: u64, tally: &mut Tally) -> Outcome {
+    let mut random = Random::new(seed, "blocks");
+    let mut progress = Progress::new("whole blocks", cases);
+    let mut routes = [0; ROUTES];
+    for case in 0..cases {
+        let length = match case % 3 {
+            0 => LIMIT,
+            1 => LIMIT - random.below(130),
+            _ => random.between(100_000, LIMIT),
+        };
+        let (a, b) = random_pair(length, &mut random);
+        routes[compose_both(&a, &b, &mut random)?] += 1;
+        progress.step();
+    }
+    progress.end();
+    tally.add("whole blocks of up to 1,048,576 rows, against both paths of the crate", cases);
+    tally.add_each("  of route", &routes, false);
+    Ok(())
+}
+
+fn every_route_occurred(routes: &[u64; ROUTES]) -> Outcome {
+    match routes[1..].iter().position(|&cases| cases == 0) {
+        None => Ok(()),
+        Some(missing) => Err(format!("no composition took route {}", missing + 1)),
+    }
+}
+
+/// Self, and a rank mask as long as self's count, in forms that can carry their rows.
+pub fn random_pair(length: u64, random: &mut Random) -> (Operand, Operand) {
+    let own = random_rows(length, random);
+    let ranks = random_rows(count(&own), random);
+    let (own_form, rank_form) = (fitting_form(&own, true, random), fitting_form(&ranks, true, random));
+    (lend(&own, own_form, random), lend(&ranks, rank_form, random))
+}
+
+/// The route that was told.
+fn compose_both(a: &Operand, b: &Operand, random: &mut Random) -> Outcome<usize> {
+    let extra = random.below(4);
+    let out = random.words(a.length.div_ceil(64) + extra);
+    let cached = (random.one_in(4), random.one_in(4));
+    one_composition(a, b, &out, cached).map_err(|why| with_input(why, "compose", &[a, b], &out))
+}
+
+fn one_composition(a: &Operand, b: &Operand, out: &[u64], cached: (bool, bool)) -> Outcome<usize> {
+    let told = ours::compose(a, b, out)?;
+    by_the_rules(&told, &rules::compose(a, b, out))?;
+    let given = asked(|| crate_composes(a, b, cached, false))?;
+    by_the_crate("the crate's portable paths", &told, &given, a.length)?;
+    if cpu::has_bmi2() {
+        let given = asked(|| crate_composes(a, b, cached, true))?;
+        by_the_crate("the crate's BMI2 paths", &told, &given, a.length)?;
+    }
+    Ok(told.answer.cells[ROUTE] as usize)
+}
+
+/// Masks made anew, since the crate keeps index lists that it built; `cached` says for which it has one beforehand.
+fn crate_composes(a: &Operand, b: &Operand, cached: (bool, bool), bmi2: bool) -> theirs::Given {
+    let (a, b) = (theirs::mask(a), theirs::mask(b));
+    if cached.0 {
+        theirs::cache_indices(&a);
+    }
+    if cached.1 {
+        theirs::cache_indices(&b);
+    }
+    theirs::composed(&a, &b, bmi2)
+}

@@ -1,0 +1,122 @@
+//! Feeds: a composition cut into pieces, with refused feeds between, against the composition whole.
+use crate::answer::{COUNT, REFUSAL};
+use crate::checks::{Outcome, asked, by_the_rules, same, with_input};
+use crate::operand::{Operand, WORDS, count, fitting_form, lay, lend, length_around_words, random_rows};
+use crate::random::Random;
+use crate::tally::{Progress, Tally};
+use crate::{ours, rules, theirs};
+
+#[derive(Default)]
+struct Fed {
+    pieces: u64,
+    refused: u64,
+}
+
+pub fn run(cases: u64, seed: u64, tally: &mut Tally) -> Outcome {
+    let mut random = Random::new(seed, "feeds");
+    let mut progress = Progress::new("streams", cases);
+    let mut fed = Fed::default();
+    for _ in 0..cases {
+        one_stream(&mut fed, &mut random)?;
+        progress.step();
+    }
+    progress.end();
+    tally.add("streams cut at random, against the whole and against the crate", cases);
+    tally.add("  feeds accepted", fed.pieces);
+    tally.add("  refused feeds between them, which must change nothing", fed.refused);
+    Ok(())
+}
+
+/// A whole self and rank mask, and what the stream has so far.
+struct Stream {
+    own: Vec<bool>,
+    ranks: Vec<bool>,
+    state: [u64; 3],
+    out: Vec<u64>,
+}
+
+fn one_stream(fed: &mut Fed, random: &mut Random) -> Outcome {
+    let own = random_rows(length_around_words(random), random);
+    let ranks = random_rows(count(&own), random);
+    let extra = random.below(3);
+    let before = random.words((own.len() as u64).div_ceil(64) + extra);
+    let mut stream = Stream { own, ranks, state: [0; 3], out: before.clone() };
+    let longest = random.pick(&[3, 20, 64, 65, 200, 5000]);
+    let mut sum_of_counts = 0;
+    while stream.state[0] < stream.own.len() as u64 {
+        if random.one_in(5) {
+            feed_refused(&mut stream, fed, random)?;
+        }
+        sum_of_counts += feed_piece(&mut stream, longest, fed, random)?;
+    }
+    let told = whole_told(&stream, &before, sum_of_counts);
+    told.map_err(|why| format!("{why}\n  self {:?}\n  ranks {:?}", shown(&stream.own), shown(&stream.ranks)))
+}
+
+/// The piece's own count.
+fn feed_piece(stream: &mut Stream, longest: u64, fed: &mut Fed, random: &mut Random) -> Outcome<u64> {
+    let (a, b) = next_piece(stream, longest, random);
+    let answer = feed(stream, &a, &b)?;
+    same("refusal of a piece that fits", answer.cells[REFUSAL], 0)
+        .map_err(|why| with_input(why, &format!("feed at {:?}", stream.state), &[&a, &b], &stream.out))?;
+    stream.state = answer.state();
+    fed.pieces += 1;
+    Ok(answer.cells[COUNT])
+}
+
+/// The next piece with a rank mask that is one row too long.
+fn feed_refused(stream: &mut Stream, fed: &mut Fed, random: &mut Random) -> Outcome {
+    let (a, mut b) = next_piece(stream, 70, random);
+    b.length += 1;
+    let answer = feed(stream, &a, &b)?;
+    fed.refused += u64::from(answer.cells[REFUSAL] != 0);
+    same("state after a refused feed", answer.state(), stream.state)
+}
+
+fn feed(stream: &mut Stream, a: &Operand, b: &Operand) -> Outcome<crate::answer::Answer> {
+    let compared = || {
+        let told = ours::feed(stream.state, a, b, &stream.out)?;
+        by_the_rules(&told, &rules::feed(stream.state, a, b, &stream.out))?;
+        Ok(told)
+    };
+    let told = compared()
+        .map_err(|why| with_input(why, &format!("feed at {:?}", stream.state), &[a, b], &stream.out))?;
+    stream.out = told.out;
+    Ok(told.answer)
+}
+
+/// From where the stream stands: at most `longest` rows, once in ten times none.
+fn next_piece(stream: &Stream, longest: u64, random: &mut Random) -> (Operand, Operand) {
+    let [done, ranks_before, _] = stream.state.map(|number| number as usize);
+    let left = (stream.own.len() - done) as u64;
+    let length = if random.one_in(10) { 0 } else { random.between(1, longest).min(left) };
+    let own = &stream.own[done..done + length as usize];
+    let ranks = &stream.ranks[ranks_before..ranks_before + count(own) as usize];
+    (piece(own, random), piece(ranks, random))
+}
+
+fn piece(rows: &[bool], random: &mut Random) -> Operand {
+    let form = fitting_form(rows, true, random);
+    lend(rows, form, random)
+}
+
+/// What was fed is the whole composition, by the crate, by `compose`, and by document 01; later bits are as they were.
+fn whole_told(stream: &Stream, before: &[u64], sum_of_counts: u64) -> Outcome {
+    let mut random = Random::new(0, "whole");
+    let (a, b) = (lend(&stream.own, WORDS, &mut random), lend(&stream.ranks, WORDS, &mut random));
+    let whole = ours::compose(&a, &b, before)?;
+    let given = asked(|| theirs::composed(&theirs::mask(&a), &theirs::mask(&b), true))?;
+    let rows: Vec<bool> = (0..stream.own.len()).map(|row| given.words[row / 64] >> (row % 64) & 1 == 1).collect();
+    let mut expected = before.to_vec();
+    lay(&mut expected, 0, &rows);
+    same("the stream's output against the crate's composition", &stream.out, &expected)?;
+    let need = stream.own.len() / 64;
+    same("the stream's whole words against compose", &stream.out[..need], &whole.out[..need])?;
+    same("the stream's state", stream.state, [stream.own.len() as u64, count(&stream.own), given.count])?;
+    same("kept against compose", stream.state[2], whole.answer.cells[COUNT])?;
+    same("the pieces' counts", sum_of_counts, given.count)
+}
+
+fn shown(rows: &[bool]) -> String {
+    rows.iter().map(|&row| if row { '1' } else { '0' }).collect()
+}

@@ -1,0 +1,213 @@
+//! A plain mirror of probe over `rules`, to test the harness while the proved library is not there, and with faults, to
+//! see that the harness finds them. `COMPARE_FAULT` names the fault; without it the mirror has none.
+#![allow(clippy::missing_safety_doc, clippy::too_many_arguments)]
+use std::slice;
+use std::sync::LazyLock;
+
+use crate::answer::{Answer, COUNT, ROUTE};
+use crate::operand::{LIST, Operand, WORDS};
+use crate::rules::{self, Expected};
+
+static FAULT: LazyLock<String> = LazyLock::new(|| std::env::var("COMPARE_FAULT").unwrap_or_default());
+
+fn fault(name: &str) -> bool {
+    *FAULT == name
+}
+
+/// # Safety
+/// The pointers must be of lent memory of the lengths given.
+unsafe fn answer(mut given: Answer, ans: *mut u64, den: *mut f64) {
+    if fault("density rounded twice") {
+        given.density = f64::from(f64::from_bits(given.density) as f32).to_bits();
+    }
+    if fault("cells past the sixteenth") {
+        unsafe { *ans.add(16) = 0 };
+    }
+    unsafe {
+        slice::from_raw_parts_mut(ans, 16).copy_from_slice(&given.cells);
+        *den = f64::from_bits(given.density);
+    }
+}
+
+unsafe fn written<T: Copy>(expected: Expected<T>, out: *mut T, nout: usize, ans: *mut u64, den: *mut f64) {
+    unsafe {
+        slice::from_raw_parts_mut(out, nout).copy_from_slice(&expected.out);
+        if fault("one element past the output") {
+            *out.add(nout) = *out;
+        }
+        answer(expected.answer, ans, den);
+    }
+}
+
+unsafe fn operand(
+    form: u64, length: u64, start: u64, claimed: u64,
+    words: *const u64, nwords: usize, rows: *const u32, nrows: usize,
+) -> Operand {
+    let (words, rows) = unsafe { (slice::from_raw_parts(words, nwords), slice::from_raw_parts(rows, nrows)) };
+    let mut operand = Operand { form, length, start, claimed, words: words.to_vec(), rows: rows.to_vec() };
+    if fault("equal list entries pass") && form == LIST {
+        operand.rows.dedup();
+    }
+    if fault("claimed count is not looked at") && form == WORDS && start < 64 && length < rules::LIMIT {
+        if (nwords as u64) * 64 >= start + length {
+            operand.claimed = rules::set_count(&operand);
+        }
+    }
+    operand
+}
+
+pub unsafe fn probe_deposit(
+    way: u64, source: u64, mask: u64, claimed: u64, ans: *mut u64, nans: usize, den: *mut f64, nden: usize,
+) {
+    if nans < 16 || nden < 1 {
+        return;
+    }
+    let mut given = rules::deposit(source, mask, claimed);
+    if fault("loop form drops bit 63") && way != 0 {
+        given.cells[4] &= !(1 << 63);
+    }
+    unsafe { answer(given, ans, den) };
+}
+
+pub unsafe fn probe_select(word: u64, rank: u64, ans: *mut u64, nans: usize, den: *mut f64, nden: usize) {
+    if nans < 16 || nden < 1 {
+        return;
+    }
+    let rank = if fault("select takes the rank modulo 64") { rank % 64 } else { rank };
+    unsafe { answer(rules::select(word, rank), ans, den) };
+}
+
+pub unsafe fn probe_rank_read(
+    words: *const u64, nwords: usize, start: u64, offset: u64,
+    ans: *mut u64, nans: usize, den: *mut f64, nden: usize,
+) {
+    if nans < 16 || nden < 1 {
+        return;
+    }
+    let words = unsafe { slice::from_raw_parts(words, nwords) };
+    let given = match fault("rank read wraps") && start < 64 {
+        true => rules::rank_read(words, 0, start.wrapping_add(offset)),
+        false => rules::rank_read(words, start, offset),
+    };
+    unsafe { answer(given, ans, den) };
+}
+
+pub unsafe fn probe_to_words(
+    a_form: u64, a_length: u64, a_start: u64, a_claimed: u64,
+    a_words: *const u64, a_nwords: usize, a_rows: *const u32, a_nrows: usize,
+    out: *mut u64, nout: usize, ans: *mut u64, nans: usize, den: *mut f64, nden: usize,
+) {
+    if nans < 16 || nden < 1 {
+        return;
+    }
+    unsafe {
+        let a = operand(a_form, a_length, a_start, a_claimed, a_words, a_nwords, a_rows, a_nrows);
+        let before = slice::from_raw_parts(out, nout);
+        written(rules::to_words(&a, before), out, nout, ans, den);
+    }
+}
+
+pub unsafe fn probe_to_list(
+    a_form: u64, a_length: u64, a_start: u64, a_claimed: u64,
+    a_words: *const u64, a_nwords: usize, a_rows: *const u32, a_nrows: usize,
+    out: *mut u32, nout: usize, ans: *mut u64, nans: usize, den: *mut f64, nden: usize,
+) {
+    if nans < 16 || nden < 1 {
+        return;
+    }
+    unsafe {
+        let a = operand(a_form, a_length, a_start, a_claimed, a_words, a_nwords, a_rows, a_nrows);
+        let before = slice::from_raw_parts(out, nout);
+        written(rules::to_list(&a, before), out, nout, ans, den);
+    }
+}
+
+pub unsafe fn probe_compose(
+    a_form: u64, a_length: u64, a_start: u64, a_claimed: u64,
+    a_words: *const u64, a_nwords: usize, a_rows: *const u32, a_nrows: usize,
+    b_form: u64, b_length: u64, b_start: u64, b_claimed: u64,
+    b_words: *const u64, b_nwords: usize, b_rows: *const u32, b_nrows: usize,
+    out: *mut u64, nout: usize, ans: *mut u64, nans: usize, den: *mut f64, nden: usize,
+) {
+    if !fault("answers without room") && (nans < 16 || nden < 1) {
+        return;
+    }
+    unsafe {
+        let a = operand(a_form, a_length, a_start, a_claimed, a_words, a_nwords, a_rows, a_nrows);
+        let b = operand(b_form, b_length, b_start, b_claimed, b_words, b_nwords, b_rows, b_nrows);
+        let before = slice::from_raw_parts(out, nout);
+        let mut expected = rules::compose(&a, &b, before);
+        let accepted = expected.answer.cells[0] == 0;
+        if fault("later words cleared") && accepted {
+            let need = a_length.div_ceil(64) as usize;
+            expected.out[need..].fill(0);
+        }
+        if fault("bits past the length left") && accepted && a_length % 64 != 0 {
+            let last = (a_length / 64) as usize;
+            expected.out[last] |= before[last] >> (a_length % 64) << (a_length % 64);
+        }
+        if fault("route 10 told as 9") && expected.answer.cells[ROUTE] == 10 {
+            expected.answer.cells[ROUTE] = 9;
+        }
+        if fault("count of self") && accepted {
+            expected.answer.cells[COUNT] = b_length;
+        }
+        if fault("operand 2 first") && rules::to_words(&b, &[]).answer.cells[0] % 8 != 0 {
+            expected.answer = Answer::refused(rules::to_words(&b, &[]).answer.cells[0], 2);
+        }
+        written(expected, out, nout, ans, den);
+    }
+}
+
+pub unsafe fn probe_set(
+    which: u64,
+    a_form: u64, a_length: u64, a_start: u64, a_claimed: u64,
+    a_words: *const u64, a_nwords: usize, a_rows: *const u32, a_nrows: usize,
+    b_form: u64, b_length: u64, b_start: u64, b_claimed: u64,
+    b_words: *const u64, b_nwords: usize, b_rows: *const u32, b_nrows: usize,
+    out: *mut u64, nout: usize, ans: *mut u64, nans: usize, den: *mut f64, nden: usize,
+) {
+    if nans < 16 || nden < 1 {
+        return;
+    }
+    unsafe {
+        let a = operand(a_form, a_length, a_start, a_claimed, a_words, a_nwords, a_rows, a_nrows);
+        let b = operand(b_form, b_length, b_start, b_claimed, b_words, b_nwords, b_rows, b_nrows);
+        let before = slice::from_raw_parts(out, nout);
+        let expected = match fault("and-not exchanged") && which == 2 {
+            true => rules::set(2, &b, &a, before),
+            false => rules::set(which, &a, &b, before),
+        };
+        written(expected, out, nout, ans, den);
+    }
+}
+
+pub unsafe fn probe_feed(
+    done: u64, ranks: u64, kept: u64,
+    a_form: u64, a_length: u64, a_start: u64, a_claimed: u64,
+    a_words: *const u64, a_nwords: usize, a_rows: *const u32, a_nrows: usize,
+    b_form: u64, b_length: u64, b_start: u64, b_claimed: u64,
+    b_words: *const u64, b_nwords: usize, b_rows: *const u32, b_nrows: usize,
+    out: *mut u64, nout: usize, ans: *mut u64, nans: usize, den: *mut f64, nden: usize,
+) {
+    if nans < 16 || nden < 1 {
+        return;
+    }
+    unsafe {
+        let a = operand(a_form, a_length, a_start, a_claimed, a_words, a_nwords, a_rows, a_nrows);
+        let b = operand(b_form, b_length, b_start, b_claimed, b_words, b_nwords, b_rows, b_nrows);
+        let before = slice::from_raw_parts(out, nout);
+        let mut expected = rules::feed([done, ranks, kept], &a, &b, before);
+        let accepted = expected.answer.cells[0] == 0;
+        if fault("a feed clears its word") && accepted && done % 64 != 0 && a_length > 0 {
+            expected.out[(done / 64) as usize] &= u64::MAX << (done % 64);
+        }
+        if fault("ranks advance by kept") && accepted {
+            expected.answer.cells[6] = ranks + expected.answer.cells[COUNT];
+        }
+        if fault("a refused feed gives a fresh state") && !accepted {
+            expected.answer = expected.answer.with_state([0; 3]);
+        }
+        written(expected, out, nout, ans, den);
+    }
+}

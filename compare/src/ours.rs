@@ -1,0 +1,158 @@
+//! The proved functions called with lent memory that has guards; each call checks that the operands, the guards and
+//! what lies beside the answer stayed as they were.
+use crate::answer::Answer;
+use crate::lent::{AnswerMemory, Element, Lent, LentOperand};
+use crate::operand::Operand;
+use crate::probe;
+
+const NANS: usize = AnswerMemory::CELLS_LENT;
+const NDEN: usize = AnswerMemory::DENSITIES_LENT;
+
+/// The answer, and the whole of the lent output after the call.
+pub struct Told<T> {
+    pub answer: Answer,
+    pub out: Vec<T>,
+}
+
+pub fn deposit(way: u64, source: u64, mask: u64, claimed: u64) -> Result<Answer, String> {
+    let mut answer = AnswerMemory::new();
+    let (ans, den) = (answer.cells(), answer.density());
+    // SAFETY: what is lent has the lengths given.
+    unsafe { probe::probe_deposit(way, source, mask, claimed, ans, NANS, den, NDEN) };
+    answer.answer()
+}
+
+pub fn select(word: u64, rank: u64) -> Result<Answer, String> {
+    let mut answer = AnswerMemory::new();
+    let (ans, den) = (answer.cells(), answer.density());
+    // SAFETY: as above.
+    unsafe { probe::probe_select(word, rank, ans, NANS, den, NDEN) };
+    answer.answer()
+}
+
+/// The words stay lent over many reads; `Lent::unchanged` tells afterwards that they stayed.
+pub fn rank_read(words: &mut Lent<u64>, start: u64, offset: u64) -> Result<Answer, String> {
+    let mut answer = AnswerMemory::new();
+    let (ans, den) = (answer.cells(), answer.density());
+    // SAFETY: as above.
+    unsafe { probe::probe_rank_read(words.pointer(), words.len(), start, offset, ans, NANS, den, NDEN) };
+    answer.answer()
+}
+
+pub fn to_words(a: &Operand, out: &[u64]) -> Result<Told<u64>, String> {
+    let (mut lent, mut out) = (LentOperand::new(a), Lent::new(out));
+    let mut answer = AnswerMemory::new();
+    let (ans, den) = (answer.cells(), answer.density());
+    // SAFETY: as above.
+    unsafe {
+        probe::probe_to_words(
+            a.form, a.length, a.start, a.claimed,
+            lent.words.pointer(), lent.words.len(), lent.rows.pointer(), lent.rows.len(),
+            out.pointer(), out.len(), ans, NANS, den, NDEN,
+        );
+    }
+    ended(&[&lent], &out, &answer)
+}
+
+pub fn to_list(a: &Operand, out: &[u32]) -> Result<Told<u32>, String> {
+    let (mut lent, mut out) = (LentOperand::new(a), Lent::new(out));
+    let mut answer = AnswerMemory::new();
+    let (ans, den) = (answer.cells(), answer.density());
+    // SAFETY: as above.
+    unsafe {
+        probe::probe_to_list(
+            a.form, a.length, a.start, a.claimed,
+            lent.words.pointer(), lent.words.len(), lent.rows.pointer(), lent.rows.len(),
+            out.pointer(), out.len(), ans, NANS, den, NDEN,
+        );
+    }
+    ended(&[&lent], &out, &answer)
+}
+
+pub fn compose(a: &Operand, b: &Operand, out: &[u64]) -> Result<Told<u64>, String> {
+    let (mut lent_a, mut lent_b, mut out) = (LentOperand::new(a), LentOperand::new(b), Lent::new(out));
+    let mut answer = AnswerMemory::new();
+    let (ans, den) = (answer.cells(), answer.density());
+    // SAFETY: as above.
+    unsafe {
+        probe::probe_compose(
+            a.form, a.length, a.start, a.claimed,
+            lent_a.words.pointer(), lent_a.words.len(), lent_a.rows.pointer(), lent_a.rows.len(),
+            b.form, b.length, b.start, b.claimed,
+            lent_b.words.pointer(), lent_b.words.len(), lent_b.rows.pointer(), lent_b.rows.len(),
+            out.pointer(), out.len(), ans, NANS, den, NDEN,
+        );
+    }
+    ended(&[&lent_a, &lent_b], &out, &answer)
+}
+
+pub fn set(which: u64, a: &Operand, b: &Operand, out: &[u64]) -> Result<Told<u64>, String> {
+    let (mut lent_a, mut lent_b, mut out) = (LentOperand::new(a), LentOperand::new(b), Lent::new(out));
+    let mut answer = AnswerMemory::new();
+    let (ans, den) = (answer.cells(), answer.density());
+    // SAFETY: as above.
+    unsafe {
+        probe::probe_set(
+            which,
+            a.form, a.length, a.start, a.claimed,
+            lent_a.words.pointer(), lent_a.words.len(), lent_a.rows.pointer(), lent_a.rows.len(),
+            b.form, b.length, b.start, b.claimed,
+            lent_b.words.pointer(), lent_b.words.len(), lent_b.rows.pointer(), lent_b.rows.len(),
+            out.pointer(), out.len(), ans, NANS, den, NDEN,
+        );
+    }
+    ended(&[&lent_a, &lent_b], &out, &answer)
+}
+
+pub fn feed(state: [u64; 3], a: &Operand, b: &Operand, out: &[u64]) -> Result<Told<u64>, String> {
+    let (mut lent_a, mut lent_b, mut out) = (LentOperand::new(a), LentOperand::new(b), Lent::new(out));
+    let mut answer = AnswerMemory::new();
+    let (ans, den) = (answer.cells(), answer.density());
+    let [done, ranks, kept] = state;
+    // SAFETY: as above.
+    unsafe {
+        probe::probe_feed(
+            done, ranks, kept,
+            a.form, a.length, a.start, a.claimed,
+            lent_a.words.pointer(), lent_a.words.len(), lent_a.rows.pointer(), lent_a.rows.len(),
+            b.form, b.length, b.start, b.claimed,
+            lent_b.words.pointer(), lent_b.words.len(), lent_b.rows.pointer(), lent_b.rows.len(),
+            out.pointer(), out.len(), ans, NANS, den, NDEN,
+        );
+    }
+    ended(&[&lent_a, &lent_b], &out, &answer)
+}
+
+/// A composition whose answer has too few cells: it must do nothing at all.
+pub fn compose_without_room(a: &Operand, b: &Operand, out: &[u64], nans: usize, nden: usize) -> Result<(), String> {
+    assert!(nans < 16 || nden < 1);
+    let (mut lent_a, mut lent_b, mut out) = (LentOperand::new(a), LentOperand::new(b), Lent::new(out));
+    let mut answer = AnswerMemory::new();
+    let (ans, den) = (answer.cells(), answer.density());
+    // SAFETY: as above; less of the answer is lent than there is.
+    unsafe {
+        probe::probe_compose(
+            a.form, a.length, a.start, a.claimed,
+            lent_a.words.pointer(), lent_a.words.len(), lent_a.rows.pointer(), lent_a.rows.len(),
+            b.form, b.length, b.start, b.claimed,
+            lent_b.words.pointer(), lent_b.words.len(), lent_b.rows.pointer(), lent_b.rows.len(),
+            out.pointer(), out.len(), ans, nans.min(NANS), den, nden.min(NDEN),
+        );
+    }
+    lent_a.check(1)?;
+    lent_b.check(2)?;
+    match out.unchanged() && answer.unchanged() {
+        true => Ok(()),
+        false => Err(format!("with {nans} cells and {nden} densities lent, something was written")),
+    }
+}
+
+fn ended<T: Element>(operands: &[&LentOperand], out: &Lent<T>, answer: &AnswerMemory) -> Result<Told<T>, String> {
+    for (operand, which) in operands.iter().zip(1..) {
+        operand.check(which)?;
+    }
+    if !out.guards_stand() {
+        return Err("memory beside the output was changed".to_string());
+    }
+    Ok(Told { answer: answer.answer()?, out: out.content().to_vec() })
+}

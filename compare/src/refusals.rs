@@ -1,0 +1,282 @@
+//! Refused inputs: calls that are spoilt in up to three ways, against document 01's table. The crate has no such answers,
+//! so it is not asked here.
+use crate::answer::{Answer, OPERAND, REFUSAL};
+use crate::checks::{Outcome, by_the_rules, with_input};
+use crate::compositions::random_pair;
+use crate::operand::{LIST, Operand, WORDS, fitting_form, lend, random_rows};
+use crate::ours::Told;
+use crate::random::Random;
+use crate::rules::{Expected, LIMIT, UNKNOWN_FORM};
+use crate::tally::{Progress, Tally};
+use crate::{ours, rules};
+
+const CALLS: [&str; 5] = ["composition", "set operation", "conversion to words", "conversion to a list", "feed"];
+
+/// How often each refusal was told, by call and by the operand named; the last of the refusals stands for 99.
+#[derive(Default)]
+struct Seen {
+    times: [[[u64; 3]; 14]; CALLS.len()],
+}
+
+impl Seen {
+    fn note(&mut self, call: usize, answer: &Answer) {
+        let number = match answer.cells[REFUSAL] {
+            UNKNOWN_FORM => 13,
+            number => number as usize,
+        };
+        self.times[call][number][answer.cells[OPERAND] as usize] += 1;
+    }
+}
+
+pub fn run(cases: u64, seed: u64, tally: &mut Tally) -> Outcome {
+    let mut random = Random::new(seed, "refusals");
+    let mut progress = Progress::new("refusals", cases);
+    let mut seen = Seen::default();
+    for case in 0..cases {
+        let call = (case % CALLS.len() as u64) as usize;
+        let answer = match call {
+            0 => spoilt_composition(&mut random)?,
+            1 => spoilt_set(&mut random)?,
+            2 => spoilt_to_words(&mut random)?,
+            3 => spoilt_to_list(&mut random)?,
+            _ => spoilt_feed(&mut random)?,
+        };
+        seen.note(call, &answer);
+        progress.step();
+    }
+    progress.end();
+    tell(&seen, cases, tally);
+    every_refusal_occurred(&seen)
+}
+
+fn tell(seen: &Seen, cases: u64, tally: &mut Tally) {
+    tally.add("spoilt calls against document 01's table, all lent memory looked at", cases);
+    for (name, by_number) in CALLS.iter().zip(&seen.times) {
+        for (number, by_operand) in by_number.iter().enumerate() {
+            for (operand, &times) in by_operand.iter().enumerate() {
+                if times > 0 {
+                    tally.add(&told_refusal(name, number, operand), times);
+                }
+            }
+        }
+    }
+}
+
+fn told_refusal(call: &str, number: usize, operand: usize) -> String {
+    let refusal = match number {
+        0 => "accepted".to_string(),
+        13 => "unknown form, 99".to_string(),
+        number => format!("refusal {number}"),
+    };
+    match operand {
+        0 => format!("  {call}: {refusal}"),
+        operand => format!("  {call}: {refusal}, operand {operand}"),
+    }
+}
+
+/// Numbers and operands that the calls must have told, from document 01's table.
+fn every_refusal_occurred(seen: &Seen) -> Outcome {
+    let by_operand = |call: usize, numbers: &[usize], operands: &[usize]| {
+        let missing = |&number: &usize| operands.iter().any(|&operand| seen.times[call][number][operand] == 0);
+        match numbers.iter().find(|number| missing(number)) {
+            None => Ok(()),
+            Some(number) => Err(format!("no {} told refusal {number} for each of operands {operands:?}", CALLS[call])),
+        }
+    };
+    by_operand(0, &[1, 2, 3, 4, 5, 6], &[1, 2])?;
+    by_operand(0, &[0, 7, 8, 13], &[0])?;
+    by_operand(1, &[1, 2, 3, 4, 12], &[1, 2])?;
+    by_operand(1, &[0, 7, 8, 13], &[0])?;
+    by_operand(2, &[1, 2, 3, 4, 5, 6], &[1])?;
+    by_operand(2, &[0, 8, 13], &[0])?;
+    by_operand(3, &[1, 2, 3, 4, 5, 6], &[1])?;
+    by_operand(3, &[0, 8, 13], &[0])?;
+    by_operand(4, &[1, 2, 3, 4, 5, 6], &[1, 2])?;
+    by_operand(4, &[0, 7, 8, 10, 11, 13], &[0])
+}
+
+// ---- the calls
+
+fn spoilt_composition(random: &mut Random) -> Outcome<Answer> {
+    let (mut a, mut b) = small_pair(random);
+    spoil_pair(&mut a, &mut b, random);
+    let out = output(a.length, random);
+    let compared = || {
+        let told = ours::compose(&a, &b, &out)?;
+        check(&told, &rules::compose(&a, &b, &out))
+    };
+    let answer = compared().map_err(|why| with_input(why, "compose", &[&a, &b], &out))?;
+    if random.one_in(16) {
+        let (nans, nden) = random.pick(&[(0, 0), (0, 1), (15, 1), (15, 2), (16, 0), (17, 0)]);
+        ours::compose_without_room(&a, &b, &out, nans, nden)
+            .map_err(|why| with_input(why, "compose", &[&a, &b], &out))?;
+    }
+    Ok(answer)
+}
+
+fn spoilt_set(random: &mut Random) -> Outcome<Answer> {
+    let length = small_length(random);
+    let (mut a, mut b) = (any_operand(length, 8, random), any_operand(length, 8, random));
+    spoil_pair(&mut a, &mut b, random);
+    let which = if random.one_in(20) { random.next() } else { random.below(4) };
+    let out = output(a.length, random);
+    let compared = || {
+        let told = ours::set(which, &a, &b, &out)?;
+        check(&told, &rules::set(which, &a, &b, &out))
+    };
+    compared().map_err(|why| with_input(why, &format!("set {which}"), &[&a, &b], &out))
+}
+
+fn spoilt_to_words(random: &mut Random) -> Outcome<Answer> {
+    let length = small_length(random);
+    let mut a = any_operand(length, 2, random);
+    spoil_up_to(2, &mut a, random);
+    let out = output(a.length, random);
+    let compared = || {
+        let told = ours::to_words(&a, &out)?;
+        check(&told, &rules::to_words(&a, &out))
+    };
+    compared().map_err(|why| with_input(why, "to words", &[&a], &out))
+}
+
+fn spoilt_to_list(random: &mut Random) -> Outcome<Answer> {
+    let length = small_length(random);
+    let mut a = any_operand(length, 2, random);
+    spoil_up_to(2, &mut a, random);
+    let room = if random.one_in(3) { random.below(40) } else { length + random.below(3) };
+    let filling = random.words(room);
+    let out: Vec<u32> = filling.iter().map(|&filling| filling as u32).collect();
+    let compared = || {
+        let told = ours::to_list(&a, &out)?;
+        check(&told, &rules::to_list(&a, &out))
+    };
+    compared().map_err(|why| with_input(why, "to list", &[&a], &filling))
+}
+
+fn spoilt_feed(random: &mut Random) -> Outcome<Answer> {
+    let (mut a, mut b) = small_pair(random);
+    spoil_pair(&mut a, &mut b, random);
+    let state = random_state(random);
+    let end = state[0].saturating_add(a.length);
+    let near_limit = end > 100_000 && !random.one_in(50);
+    let out = if near_limit { output(random.below(500), random) } else { output(end, random) };
+    let compared = || {
+        let told = ours::feed(state, &a, &b, &out)?;
+        check(&told, &rules::feed(state, &a, &b, &out))
+    };
+    compared().map_err(|why| with_input(why, &format!("feed at state {state:?}"), &[&a, &b], &out))
+}
+
+fn check<T: PartialEq + std::fmt::Debug>(told: &Told<T>, expected: &Expected<T>) -> Outcome<Answer> {
+    by_the_rules(told, expected)?;
+    Ok(told.answer)
+}
+
+// ---- inputs
+
+fn small_length(random: &mut Random) -> u64 {
+    match random.below(40) {
+        0 => LIMIT,
+        1..=5 => 64 * random.below(4),
+        _ => random.below(200),
+    }
+}
+
+fn small_pair(random: &mut Random) -> (Operand, Operand) {
+    let length = random.below(200);
+    random_pair(length, random)
+}
+
+/// A list once in `lists` times, where the rows don't call for all or none.
+fn any_operand(length: u64, lists: u64, random: &mut Random) -> Operand {
+    let rows = random_rows(length.min(200), random);
+    let with_list = random.one_in(lists);
+    let form = fitting_form(&rows, with_list, random);
+    let mut operand = lend(&rows, form, random);
+    if form != WORDS && form != LIST {
+        operand.length = length;
+    }
+    operand
+}
+
+/// Long enough three times in four; never longer than the limit asks.
+fn output(length: u64, random: &mut Random) -> Vec<u64> {
+    let need = length.min(LIMIT).div_ceil(64);
+    let given = match random.below(4) {
+        0 => random.below(need + 1),
+        _ => need + random.below(3),
+    };
+    random.words(given)
+}
+
+fn random_state(random: &mut Random) -> [u64; 3] {
+    let done = match random.below(6) {
+        0 => LIMIT - random.below(250),
+        1 => random.pick(&[LIMIT, LIMIT + 1, u64::MAX, 0]),
+        _ => random.below(300),
+    };
+    let ranks = random.below(done.min(LIMIT) + 1);
+    let kept = random.below(ranks + 1);
+    match random.below(12) {
+        0 => [done, done.saturating_add(random.between(1, 3)), kept],
+        1 => [done, ranks, ranks + random.between(1, 3)],
+        2 => [random.next(), random.next(), random.next()],
+        _ => [done, ranks, kept],
+    }
+}
+
+/// Up to three faults over both operands, or another length of the second.
+fn spoil_pair(a: &mut Operand, b: &mut Operand, random: &mut Random) {
+    for _ in 0..random.below(4) {
+        match random.below(5) {
+            0 | 1 => spoil(a, random),
+            2 | 3 => spoil(b, random),
+            _ => *b = any_operand(random.below(200), 2, random),
+        }
+    }
+}
+
+fn spoil_up_to(most: u64, operand: &mut Operand, random: &mut Random) {
+    for _ in 0..random.below(most + 1) {
+        spoil(operand, random);
+    }
+}
+
+fn spoil(operand: &mut Operand, random: &mut Random) {
+    match random.below(12) {
+        0 => operand.length = random.pick(&[LIMIT + 1, LIMIT + 64, u64::MAX, 1 << 63, 1 << 32]),
+        1 => operand.length = operand.length.wrapping_add(random.pick(&[1, 2, 64, u64::MAX, u64::MAX - 1])),
+        2 | 3 => operand.start = random.pick(&[64, 65, 128, 1 << 32, u64::MAX, u64::MAX - 63]),
+        4 => operand.start = random.below(64),
+        5 => operand.words.truncate(operand.words.len().saturating_sub(1 + random.below(3) as usize)),
+        6 => operand.claimed = operand.claimed.wrapping_add(random.pick(&[1, 2, u64::MAX])),
+        7 => operand.claimed = random.pick(&[0, operand.length, u64::MAX, 1 << 32]),
+        8..=10 => spoil_list(operand, random),
+        _ => spoil_form(operand, random),
+    }
+}
+
+fn spoil_list(operand: &mut Operand, random: &mut Random) {
+    let rows = &mut operand.rows;
+    if rows.is_empty() {
+        rows.push(random.next() as u32);
+        return;
+    }
+    let place = random.below(rows.len() as u64) as usize;
+    let last = rows[rows.len() - 1];
+    match random.below(6) {
+        0 => rows.insert(place, rows[place]),
+        1 => rows.swap(place, 0),
+        2 => rows.push(operand.length as u32),
+        3 => rows.push(u32::MAX),
+        4 => rows.push(last.saturating_sub(1)),
+        _ => rows[place] = random.next() as u32,
+    }
+}
+
+fn spoil_form(operand: &mut Operand, random: &mut Random) {
+    operand.form = match random.below(3) {
+        0 => random.pick(&[4, 5, 99, 256, 1 << 32, u64::MAX]),
+        _ => random.below(4),
+    };
+}

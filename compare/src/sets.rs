@@ -1,0 +1,90 @@
+//! Set operations and conversions: against the crate's bitops and masks, and against document 01.
+use crate::answer::COUNT;
+use crate::checks::{Outcome, asked, by_the_crate, by_the_rules, same, with_input};
+use crate::operand::{Operand, fitting_form, lend, length_around_words, random_rows};
+use crate::random::Random;
+use crate::tally::{Progress, Tally};
+use crate::{ours, rules, theirs};
+
+const NAMES: [&str; 4] = ["and", "or", "and-not", "not"];
+
+pub fn set_operations(cases: u64, seed: u64, tally: &mut Tally) -> Outcome {
+    let mut random = Random::new(seed, "sets");
+    let mut progress = Progress::new("set operations", cases);
+    let mut of_length_0 = 0;
+    for case in 0..cases {
+        let length = length_around_words(&mut random);
+        let (a, b) = (operand_without_list(length, &mut random), operand_without_list(length, &mut random));
+        let which = if case % 4 == 3 && random.one_in(4) { random.between(3, u64::MAX - 1) } else { case % 4 };
+        let extra = random.below(4);
+        let out = random.words(length.div_ceil(64) + extra);
+        let call = format!("set {which}");
+        one_set(which, &a, &b, &out).map_err(|why| with_input(why, &call, &[&a, &b], &out))?;
+        of_length_0 += u64::from(length == 0);
+        progress.step();
+    }
+    progress.end();
+    tally.add("set operations against the crate's bitops, by reference and with an owned left mask", cases);
+    tally.add("  of length 0: their density left out against the crate", of_length_0);
+    for (name, which) in NAMES.iter().zip(0..) {
+        tally.add(&format!("  {name}"), (cases + 3 - which) / 4);
+    }
+    Ok(())
+}
+
+fn operand_without_list(length: u64, random: &mut Random) -> Operand {
+    let rows = random_rows(length, random);
+    let form = fitting_form(&rows, false, random);
+    lend(&rows, form, random)
+}
+
+fn one_set(which: u64, a: &Operand, b: &Operand, out: &[u64]) -> Outcome {
+    let told = ours::set(which, a, b, out)?;
+    by_the_rules(&told, &rules::set(which, a, b, out))?;
+    for given in asked(|| theirs::set(which, &theirs::mask(a), &theirs::mask(b)))? {
+        by_the_crate("the crate's set operation", &told, &given, a.length)?;
+    }
+    Ok(())
+}
+
+pub fn conversions(cases: u64, seed: u64, tally: &mut Tally) -> Outcome {
+    let mut random = Random::new(seed, "conversions");
+    let mut progress = Progress::new("conversions", cases);
+    for case in 0..cases {
+        let length = length_around_words(&mut random);
+        let rows = random_rows(length, &mut random);
+        let form = fitting_form(&rows, true, &mut random);
+        let a = lend(&rows, form, &mut random);
+        let extra = random.below(4);
+        match case % 2 {
+            0 => one_to_words(&a, &random.words(length.div_ceil(64) + extra))?,
+            _ => one_to_list(&a, &random.words(rules::set_count(&a) + extra))?,
+        }
+        progress.step();
+    }
+    progress.end();
+    tally.add("conversions to words against the crate's masks", cases.div_ceil(2));
+    tally.add("conversions to a list against the crate's masks", cases / 2);
+    Ok(())
+}
+
+fn one_to_words(a: &Operand, out: &[u64]) -> Outcome {
+    let compared = || {
+        let told = ours::to_words(a, out)?;
+        by_the_rules(&told, &rules::to_words(a, out))?;
+        let given = asked(|| theirs::given(&theirs::mask(a)))?;
+        by_the_crate("the crate's mask", &told, &given, a.length)
+    };
+    compared().map_err(|why| with_input(why, "to words", &[a], out))
+}
+
+fn one_to_list(a: &Operand, filling: &[u64]) -> Outcome {
+    let out: Vec<u32> = filling.iter().map(|&filling| filling as u32).collect();
+    let compared = || {
+        let told = ours::to_list(a, &out)?;
+        by_the_rules(&told, &rules::to_list(a, &out))?;
+        let listed = asked(|| theirs::listed(&theirs::mask(a)))?;
+        same("the crate's list", &told.out[..told.answer.cells[COUNT] as usize], &listed[..])
+    };
+    compared().map_err(|why| with_input(why, "to list", &[a], filling))
+}

@@ -1,0 +1,70 @@
+//! The Rust crate: masks made of operands that document 01 accepts, and what the crate gives.
+use switched_std::cpu;
+use vortex_buffer::BitBuffer;
+use vortex_mask::{AllOr, Mask};
+
+use crate::operand::{ALL, NONE, Operand, WORDS};
+
+/// Of a mask: its rows as words from bit 0 on, its count, its density's bits.
+#[derive(PartialEq)]
+pub struct Given {
+    pub words: Vec<u64>,
+    pub count: u64,
+    pub density: u64,
+}
+
+pub fn mask(operand: &Operand) -> Mask {
+    let length = operand.length as usize;
+    match operand.form {
+        ALL => Mask::new_true(length),
+        NONE => Mask::new_false(length),
+        WORDS => Mask::from_buffer(BitBuffer::from_words(&operand.words, operand.start as usize, length)),
+        _ => Mask::from_indices(length, operand.rows.iter().map(|&row| row as usize)),
+    }
+}
+
+/// The mask's index list is built now, so that it counts as cached in what follows.
+pub fn cache_indices(mask: &Mask) {
+    if let Some(values) = mask.values() {
+        values.indices();
+    }
+}
+
+pub fn given(mask: &Mask) -> Given {
+    Given {
+        words: mask.to_bit_buffer().chunks().iter_padded().collect(),
+        count: mask.true_count() as u64,
+        density: mask.density().to_bits(),
+    }
+}
+
+pub fn composed(a: &Mask, b: &Mask, bmi2: bool) -> Given {
+    cpu::allow_bmi2(bmi2);
+    given(&a.intersect_by_rank(b))
+}
+
+/// Every way the crate has to the set operation: by reference, and with an owned left mask.
+pub fn set(which: u64, a: &Mask, b: &Mask) -> Vec<Given> {
+    match which {
+        0 => vec![given(&(a & b)), given(&(a.clone() & b)), given(&(owned(a) & b))],
+        1 => vec![given(&(a | b)), given(&(a.clone() | b)), given(&(owned(a) | b))],
+        2 => vec![given(&a.clone().bitand_not(b)), given(&owned(a).bitand_not(b))],
+        _ => vec![given(&!a), given(&!a.clone())],
+    }
+}
+
+/// A copy that shares nothing, so that its buffer may be taken.
+fn owned(mask: &Mask) -> Mask {
+    match mask.values() {
+        Some(values) => Mask::from_buffer(values.bit_buffer().clone()),
+        None => mask.clone(),
+    }
+}
+
+pub fn listed(mask: &Mask) -> Vec<u32> {
+    match mask.indices() {
+        AllOr::All => (0..mask.len() as u32).collect(),
+        AllOr::None => Vec::new(),
+        AllOr::Some(indices) => indices.iter().map(|&index| index as u32).collect(),
+    }
+}
