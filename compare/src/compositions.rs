@@ -27,7 +27,7 @@ pub fn run(cases: u64, seed: u64, tally: &mut Tally) -> Outcome {
     tally.add("compositions against the crate's portable paths", cases);
     tally.add("compositions against the crate's BMI2 paths", if cpu::has_bmi2() { cases } else { 0 });
     tally.add("  of length 0: their density left out against the crate", of_length_0);
-    tally.add_each("  of route", &routes, false);
+    tally.add_each("  of route", &routes);
     every_route_occurred(&routes)
 }
 
@@ -47,7 +47,7 @@ pub fn blocks(cases: u64, seed: u64, tally: &mut Tally) -> Outcome {
     }
     progress.end();
     tally.add("whole blocks of up to 1,048,576 rows, against both paths of the crate", cases);
-    tally.add_each("  of route", &routes, false);
+    tally.add_each("  of route", &routes);
     Ok(())
 }
 

@@ -79,8 +79,8 @@ fn feed(stream: &mut Stream, a: &Operand, b: &Operand) -> Outcome<crate::answer:
         by_the_rules(&told, &rules::feed(stream.state, a, b, &stream.out))?;
         Ok(told)
     };
-    let told = compared()
-        .map_err(|why| with_input(why, &format!("feed at {:?}", stream.state), &[a, b], &stream.out))?;
+    let told =
+        compared().map_err(|why| with_input(why, &format!("feed at {:?}", stream.state), &[a, b], &stream.out))?;
     stream.out = told.out;
     Ok(told.answer)
 }

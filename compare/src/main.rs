@@ -1,29 +1,12 @@
 //! The Rust crate vortex-mask 0.90.0, compiled unchanged, beside the proved functions, on the same inputs.
 
-mod answer;
-mod checks;
-mod compositions;
-mod feeds;
-mod lent;
-#[cfg(feature = "mirror")]
-mod mirror;
-mod operand;
-mod ours;
-mod probe;
-mod random;
-mod refusals;
-mod rules;
-mod sets;
-mod tally;
-mod theirs;
-mod words;
-
 use std::process::ExitCode;
 use std::time::{Instant, SystemTime, UNIX_EPOCH};
 use std::{env, process};
 
-use checks::Outcome;
-use tally::Tally;
+use compare::checks::Outcome;
+use compare::tally::Tally;
+use compare::{compositions, feeds, refusals, sets, words};
 
 /// How many cases each part has.
 struct Plan {
@@ -37,13 +20,13 @@ struct Plan {
 }
 
 const SHORT: Plan = Plan {
-    words: 300_000,
-    compositions: 15_000,
-    blocks: 6,
-    sets: 10_000,
-    conversions: 10_000,
-    refusals: 30_000,
-    streams: 1_500,
+    words: 1_000_000,
+    compositions: 40_000,
+    blocks: 9,
+    sets: 30_000,
+    conversions: 30_000,
+    refusals: 80_000,
+    streams: 4_000,
 };
 
 const LONG: Plan = Plan {

@@ -91,9 +91,8 @@ pub fn fitting_form(rows: &[bool], lists: bool, random: &mut Random) -> u64 {
     if lists { random.pick(&[WORDS, LIST]) } else { WORDS }
 }
 
-const DENSITIES: [f64; 18] = [
-    0.0, 0.001, 0.005, 0.01, 0.015, 0.02, 0.03, 0.035, 0.05, 0.06, 0.065, 0.1, 0.25, 0.5, 0.75, 0.9, 0.99, 1.0,
-];
+const DENSITIES: [f64; 18] =
+    [0.0, 0.001, 0.005, 0.01, 0.015, 0.02, 0.03, 0.035, 0.05, 0.06, 0.065, 0.1, 0.25, 0.5, 0.75, 0.9, 0.99, 1.0];
 
 /// Rows of one of several makes: scattered at a density, an exact count at the tables' bounds, runs.
 pub fn random_rows(length: u64, random: &mut Random) -> Vec<bool> {
@@ -139,9 +138,11 @@ fn runs(length: u64, random: &mut Random) -> Vec<bool> {
     rows
 }
 
-/// A length at, or up to two beside, a multiple of 64.
+/// A length at, or up to two beside, a multiple of 64; seldom below 62.
 pub fn length_around_words(random: &mut Random) -> u64 {
-    let most = random.pick(&[2, 8, 16, 64]);
-    let near = 64 * random.below(most + 1) + random.below(5);
-    near.saturating_sub(2)
+    if random.one_in(25) {
+        return random.below(3);
+    }
+    let most = random.pick(&[3, 8, 16, 64]);
+    64 * random.between(1, most) + random.below(5) - 2
 }

@@ -69,21 +69,67 @@ pub fn to_list(a: &Operand, out: &[u32]) -> Result<Told<u32>, String> {
     ended(&[&lent], &out, &answer)
 }
 
-pub fn compose(a: &Operand, b: &Operand, out: &[u64]) -> Result<Told<u64>, String> {
-    let (mut lent_a, mut lent_b, mut out) = (LentOperand::new(a), LentOperand::new(b), Lent::new(out));
-    let mut answer = AnswerMemory::new();
-    let (ans, den) = (answer.cells(), answer.density());
-    // SAFETY: as above.
-    unsafe {
-        probe::probe_compose(
-            a.form, a.length, a.start, a.claimed,
-            lent_a.words.pointer(), lent_a.words.len(), lent_a.rows.pointer(), lent_a.rows.len(),
-            b.form, b.length, b.start, b.claimed,
-            lent_b.words.pointer(), lent_b.words.len(), lent_b.rows.pointer(), lent_b.rows.len(),
-            out.pointer(), out.len(), ans, NANS, den, NDEN,
-        );
+/// A composition's memory, lent once, so that the call alone can be timed.
+pub struct LentComposition<'a> {
+    operands: [&'a Operand; 2],
+    lent_a: LentOperand,
+    lent_b: LentOperand,
+    out: Lent<u64>,
+    answer: AnswerMemory,
+}
+
+impl<'a> LentComposition<'a> {
+    pub fn new(a: &'a Operand, b: &'a Operand, out: &[u64]) -> Self {
+        LentComposition {
+            operands: [a, b],
+            lent_a: LentOperand::new(a),
+            lent_b: LentOperand::new(b),
+            out: Lent::new(out),
+            answer: AnswerMemory::new(),
+        }
     }
-    ended(&[&lent_a, &lent_b], &out, &answer)
+
+    pub fn call(&mut self) {
+        self.call_with_room(NANS, NDEN);
+    }
+
+    fn call_with_room(&mut self, nans: usize, nden: usize) {
+        let LentComposition { operands: [a, b], lent_a, lent_b, out, answer } = self;
+        let (ans, den) = (answer.cells(), answer.density());
+        // SAFETY: as above.
+        unsafe {
+            probe::probe_compose(
+                a.form, a.length, a.start, a.claimed,
+                lent_a.words.pointer(), lent_a.words.len(), lent_a.rows.pointer(), lent_a.rows.len(),
+                b.form, b.length, b.start, b.claimed,
+                lent_b.words.pointer(), lent_b.words.len(), lent_b.rows.pointer(), lent_b.rows.len(),
+                out.pointer(), out.len(), ans, nans, den, nden,
+            );
+        }
+    }
+
+    fn ended(&self) -> Result<Told<u64>, String> {
+        ended(&[&self.lent_a, &self.lent_b], &self.out, &self.answer)
+    }
+}
+
+pub fn compose(a: &Operand, b: &Operand, out: &[u64]) -> Result<Told<u64>, String> {
+    let mut lent = LentComposition::new(a, b, out);
+    lent.call();
+    lent.ended()
+}
+
+/// A composition whose answer has too few cells: it must do nothing at all.
+pub fn compose_without_room(a: &Operand, b: &Operand, out: &[u64], nans: usize, nden: usize) -> Result<(), String> {
+    assert!(nans <= NANS && nden <= NDEN && (nans < 16 || nden < 1));
+    let mut lent = LentComposition::new(a, b, out);
+    lent.call_with_room(nans, nden);
+    lent.lent_a.check(1)?;
+    lent.lent_b.check(2)?;
+    match lent.out.unchanged() && lent.answer.unchanged() {
+        true => Ok(()),
+        false => Err(format!("with {nans} cells and {nden} densities lent, something was written")),
+    }
 }
 
 pub fn set(which: u64, a: &Operand, b: &Operand, out: &[u64]) -> Result<Told<u64>, String> {
@@ -121,30 +167,6 @@ pub fn feed(state: [u64; 3], a: &Operand, b: &Operand, out: &[u64]) -> Result<To
         );
     }
     ended(&[&lent_a, &lent_b], &out, &answer)
-}
-
-/// A composition whose answer has too few cells: it must do nothing at all.
-pub fn compose_without_room(a: &Operand, b: &Operand, out: &[u64], nans: usize, nden: usize) -> Result<(), String> {
-    assert!(nans < 16 || nden < 1);
-    let (mut lent_a, mut lent_b, mut out) = (LentOperand::new(a), LentOperand::new(b), Lent::new(out));
-    let mut answer = AnswerMemory::new();
-    let (ans, den) = (answer.cells(), answer.density());
-    // SAFETY: as above; less of the answer is lent than there is.
-    unsafe {
-        probe::probe_compose(
-            a.form, a.length, a.start, a.claimed,
-            lent_a.words.pointer(), lent_a.words.len(), lent_a.rows.pointer(), lent_a.rows.len(),
-            b.form, b.length, b.start, b.claimed,
-            lent_b.words.pointer(), lent_b.words.len(), lent_b.rows.pointer(), lent_b.rows.len(),
-            out.pointer(), out.len(), ans, nans.min(NANS), den, nden.min(NDEN),
-        );
-    }
-    lent_a.check(1)?;
-    lent_b.check(2)?;
-    match out.unchanged() && answer.unchanged() {
-        true => Ok(()),
-        false => Err(format!("with {nans} cells and {nden} densities lent, something was written")),
-    }
 }
 
 fn ended<T: Element>(operands: &[&LentOperand], out: &Lent<T>, answer: &AnswerMemory) -> Result<Told<T>, String> {

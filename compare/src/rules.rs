@@ -270,8 +270,20 @@ pub fn route(a: &Operand, own: &[bool], b: &Operand, ranks: &[bool]) -> u64 {
         (LIST, LIST) => 4,
         (LIST, _) => 5,
         (_, _) if 32 * rank_count < rank_length => 6,
-        (_, LIST) => if loop_form { 8 } else { 7 },
-        (_, _) => if loop_form { 10 } else { 9 },
+        (_, LIST) => {
+            if loop_form {
+                8
+            } else {
+                7
+            }
+        }
+        (_, _) => {
+            if loop_form {
+                10
+            } else {
+                9
+            }
+        }
     }
 }
 
@@ -281,10 +293,8 @@ pub fn feed(state: [u64; 3], a: &Operand, b: &Operand, out: &[u64]) -> Expected<
         return refused(UNKNOWN_FORM, 0, out);
     }
     let [done, ranks_before, kept] = state;
-    let refused_as_given = |number, operand| Expected {
-        answer: Answer::refused(number, operand).with_state(state),
-        out: out.to_vec(),
-    };
+    let refused_as_given =
+        |number, operand| Expected { answer: Answer::refused(number, operand).with_state(state), out: out.to_vec() };
     if !(kept <= ranks_before && ranks_before <= done && done <= LIMIT) {
         return refused_as_given(10, 0);
     }

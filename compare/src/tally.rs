@@ -7,17 +7,15 @@ pub struct Tally {
 }
 
 impl Tally {
+    /// A line of the table.
     pub fn add(&mut self, name: &str, cases: u64) {
-        match self.lines.iter_mut().find(|line| line.0 == name) {
-            Some(line) => line.1 += cases,
-            None => self.lines.push((name.to_string(), cases)),
-        }
+        self.lines.push((name.to_string(), cases));
     }
 
-    /// The counts of one kind, told as `name 0`, `name 1` and so on; those that are 0 are told too where `all` says.
-    pub fn add_each(&mut self, name: &str, cases: &[u64], all: bool) {
+    /// A line for each number that occurred: `name 1`, `name 2` and so on.
+    pub fn add_each(&mut self, name: &str, cases: &[u64]) {
         for (number, &cases) in cases.iter().enumerate() {
-            if all || cases > 0 {
+            if cases > 0 {
                 self.add(&format!("{name} {number}"), cases);
             }
         }

@@ -29,7 +29,10 @@ pub fn deposits(cases: u64, seed: u64, tally: &mut Tally) -> Outcome {
         progress.step();
     }
     progress.end();
-    tally.add("deposits, three ways of ours, against the crate's network choice and loop, and the published PDEP", cases);
+    tally.add(
+        "deposits, three ways of ours, against the crate's network choice and loop, and the published PDEP",
+        cases,
+    );
     tally.add("  of these against the CPU's PDEP", by_cpu);
     tally.add("deposits with a wrong claimed count: refused, left out against the crate", refused);
     Ok(())
@@ -132,7 +135,11 @@ fn one_select(word: u64, rank: u64) -> Outcome<u64> {
     }
     let position = expected.cells[WORD];
     same("boltamber_select", boltamber_select(word, rank), position)?;
-    same("against the crate's portable select", position, asked(|| theirs::portable_select(word, rank as usize))? as u64)?;
+    same(
+        "against the crate's portable select",
+        position,
+        asked(|| theirs::portable_select(word, rank as usize))? as u64,
+    )?;
     if let Some(by_cpu) = asked(|| theirs::bmi2_select(word, rank as usize))? {
         same("against the crate's BMI2 select", position, by_cpu as u64)?;
     }
@@ -167,7 +174,13 @@ pub fn rank_reads(cases: u64, seed: u64, tally: &mut Tally) -> Outcome {
     Ok(())
 }
 
-fn reads_of_one_slice(words: &[u64], start: u64, reads: &mut Reads, random: &mut Random, progress: &mut Progress) -> Outcome {
+fn reads_of_one_slice(
+    words: &[u64],
+    start: u64,
+    reads: &mut Reads,
+    random: &mut Random,
+    progress: &mut Progress,
+) -> Outcome {
     let mut lent = Lent::new(words);
     let view = (start <= 63).then(|| {
         let length = (64 * words.len()).saturating_sub(start as usize);
@@ -195,7 +208,14 @@ fn random_offset(nwords: u64, random: &mut Random) -> u64 {
     }
 }
 
-fn one_read(lent: &mut Lent<u64>, words: &[u64], start: u64, offset: u64, view: Option<&BitBuffer>, reads: &mut Reads) -> Outcome {
+fn one_read(
+    lent: &mut Lent<u64>,
+    words: &[u64],
+    start: u64,
+    offset: u64,
+    view: Option<&BitBuffer>,
+    reads: &mut Reads,
+) -> Outcome {
     let expected = rules::rank_read(words, start, offset);
     same_answer("probe_rank_read", ours::rank_read(lent, start, offset)?, expected)?;
     let Some(view) = view else {

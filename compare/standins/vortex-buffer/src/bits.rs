@@ -24,8 +24,7 @@ impl BitBuffer {
 
     /// The view of lent words that document 01 calls words.
     pub fn from_words(words: &[u64], start: usize, len: usize) -> Self {
-        let bytes: Vec<u8> = words.iter().flat_map(|word| word.to_le_bytes()).collect();
-        Self::new_with_offset(bytes.into(), len, start)
+        Self::new_with_offset(words.to_vec().into(), len, start)
     }
 
     pub fn new_set(len: usize) -> Self {

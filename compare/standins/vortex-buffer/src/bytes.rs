@@ -1,19 +1,40 @@
+use std::slice;
 use std::sync::Arc;
 
-/// Shared bytes.
+/// Shared bytes, or shared words taken as their bytes, lowest first.
 #[derive(Clone)]
-pub struct ByteBuffer(Arc<Vec<u8>>);
+pub struct ByteBuffer(Arc<Store>);
+
+enum Store {
+    Bytes(Vec<u8>),
+    Words(Vec<u64>),
+}
 
 impl ByteBuffer {
     #[inline]
     pub fn as_slice(&self) -> &[u8] {
-        &self.0
+        match &*self.0 {
+            Store::Bytes(bytes) => bytes,
+            Store::Words(words) => bytes_of(words),
+        }
     }
+}
+
+#[cfg(target_endian = "little")]
+fn bytes_of(words: &[u64]) -> &[u8] {
+    // SAFETY: the words are 8 bytes each, and any byte is a u8.
+    unsafe { slice::from_raw_parts(words.as_ptr().cast(), size_of_val(words)) }
 }
 
 impl From<Vec<u8>> for ByteBuffer {
     fn from(bytes: Vec<u8>) -> Self {
-        Self(Arc::new(bytes))
+        Self(Arc::new(Store::Bytes(bytes)))
+    }
+}
+
+impl From<Vec<u64>> for ByteBuffer {
+    fn from(words: Vec<u64>) -> Self {
+        Self(Arc::new(Store::Words(words)))
     }
 }
 
@@ -51,12 +72,7 @@ pub struct Buffer<T> {
 }
 
 impl Buffer<u64> {
-    /// The words' bytes, lowest first.
     pub fn into_byte_buffer(self) -> ByteBuffer {
-        let mut bytes = Vec::with_capacity(self.items.len() * 8);
-        for word in self.items {
-            bytes.extend_from_slice(&word.to_le_bytes());
-        }
-        bytes.into()
+        self.items.into()
     }
 }

@@ -1,0 +1,21 @@
+//! The parts of the comparison, for the program `compare` and the program `times`.
+
+pub mod answer;
+pub mod checks;
+pub mod compositions;
+pub mod feeds;
+pub mod lent;
+#[cfg(feature = "mirror")]
+#[rustfmt::skip] // an operand's eight parts stay together
+pub mod mirror;
+pub mod operand;
+#[rustfmt::skip] // as mirror
+pub mod ours;
+pub mod probe;
+pub mod random;
+pub mod refusals;
+pub mod rules;
+pub mod sets;
+pub mod tally;
+pub mod theirs;
+pub mod words;
