@@ -9,17 +9,41 @@ use crate::rules::LIMIT;
 use crate::tally::{Progress, Tally};
 use crate::{ours, rules, theirs};
 
-const ROUTES: usize = 11; // 0 to 10
+/// How often each route was told, from 0 to 10, and how often the crate went each of its own ways.
+#[derive(Default)]
+struct Seen {
+    routes: [u64; 11],
+    paths: [u64; theirs::PATHS.len()],
+}
+
+impl Seen {
+    fn tell(&self, tally: &mut Tally) {
+        tally.add_each("  of route", &self.routes);
+        for (name, &cases) in theirs::PATHS.iter().zip(&self.paths) {
+            tally.add(&format!("  the crate's own way: {name}"), cases);
+        }
+    }
+
+    fn everything_occurred(&self) -> Outcome {
+        if let Some(missing) = self.routes[1..].iter().position(|&cases| cases == 0) {
+            return Err(format!("no composition took route {}", missing + 1));
+        }
+        if let Some(missing) = self.paths.iter().position(|&cases| cases == 0) {
+            return Err(format!("the crate never went by {}", theirs::PATHS[missing]));
+        }
+        Ok(())
+    }
+}
 
 pub fn run(cases: u64, seed: u64, tally: &mut Tally) -> Outcome {
     let mut random = Random::new(seed, "compositions");
     let mut progress = Progress::new("compositions", cases);
-    let mut routes = [0; ROUTES];
+    let mut seen = Seen::default();
     let mut of_length_0 = 0;
     for _ in 0..cases {
         let length = length_around_words(&mut random);
         let (a, b) = random_pair(length, &mut random);
-        routes[compose_both(&a, &b, &mut random)?] += 1;
+        compose_both(&a, &b, &mut seen, &mut random)?;
         of_length_0 += u64::from(length == 0);
         progress.step();
     }
@@ -27,14 +51,14 @@ pub fn run(cases: u64, seed: u64, tally: &mut Tally) -> Outcome {
     tally.add("compositions against the crate's portable paths", cases);
     tally.add("compositions against the crate's BMI2 paths", if cpu::has_bmi2() { cases } else { 0 });
     tally.add("  of length 0: their density left out against the crate", of_length_0);
-    tally.add_each("  of route", &routes);
-    every_route_occurred(&routes)
+    seen.tell(tally);
+    seen.everything_occurred()
 }
 
 pub fn blocks(cases: u64, seed: u64, tally: &mut Tally) -> Outcome {
     let mut random = Random::new(seed, "blocks");
     let mut progress = Progress::new("whole blocks", cases);
-    let mut routes = [0; ROUTES];
+    let mut seen = Seen::default();
     for case in 0..cases {
         let length = match case % 3 {
             0 => LIMIT,
@@ -42,20 +66,13 @@ pub fn blocks(cases: u64, seed: u64, tally: &mut Tally) -> Outcome {
             _ => random.between(100_000, LIMIT),
         };
         let (a, b) = random_pair(length, &mut random);
-        routes[compose_both(&a, &b, &mut random)?] += 1;
+        compose_both(&a, &b, &mut seen, &mut random)?;
         progress.step();
     }
     progress.end();
     tally.add("whole blocks of up to 1,048,576 rows, against both paths of the crate", cases);
-    tally.add_each("  of route", &routes);
+    seen.tell(tally);
     Ok(())
-}
-
-fn every_route_occurred(routes: &[u64; ROUTES]) -> Outcome {
-    match routes[1..].iter().position(|&cases| cases == 0) {
-        None => Ok(()),
-        Some(missing) => Err(format!("no composition took route {}", missing + 1)),
-    }
 }
 
 /// Self, and a rank mask as long as self's count, in forms that can carry their rows.
@@ -66,28 +83,29 @@ pub fn random_pair(length: u64, random: &mut Random) -> (Operand, Operand) {
     (lend(&own, own_form, random), lend(&ranks, rank_form, random))
 }
 
-/// The route that was told.
-fn compose_both(a: &Operand, b: &Operand, random: &mut Random) -> Outcome<usize> {
+fn compose_both(a: &Operand, b: &Operand, seen: &mut Seen, random: &mut Random) -> Outcome {
     let extra = random.below(4);
     let out = random.words(a.length.div_ceil(64) + extra);
     let cached = (random.one_in(4), random.one_in(4));
-    one_composition(a, b, &out, cached).map_err(|why| with_input(why, "compose", &[a, b], &out))
+    one_composition(a, b, &out, cached, seen).map_err(|why| with_input(why, "compose", &[a, b], &out))
 }
 
-fn one_composition(a: &Operand, b: &Operand, out: &[u64], cached: (bool, bool)) -> Outcome<usize> {
+fn one_composition(a: &Operand, b: &Operand, out: &[u64], cached: (bool, bool), seen: &mut Seen) -> Outcome {
     let told = ours::compose(a, b, out)?;
     by_the_rules(&told, &rules::compose(a, b, out))?;
-    let given = asked(|| crate_composes(a, b, cached, false))?;
+    let (path, given) = asked(|| crate_composes(a, b, cached, false))?;
+    seen.paths[path] += 1;
     by_the_crate("the crate's portable paths", &told, &given, a.length)?;
     if cpu::has_bmi2() {
-        let given = asked(|| crate_composes(a, b, cached, true))?;
+        let (_, given) = asked(|| crate_composes(a, b, cached, true))?;
         by_the_crate("the crate's BMI2 paths", &told, &given, a.length)?;
     }
-    Ok(told.answer.cells[ROUTE] as usize)
+    seen.routes[told.answer.cells[ROUTE] as usize] += 1;
+    Ok(())
 }
 
 /// Masks made anew, since the crate keeps index lists that it built; `cached` says for which it has one beforehand.
-fn crate_composes(a: &Operand, b: &Operand, cached: (bool, bool), bmi2: bool) -> theirs::Given {
+fn crate_composes(a: &Operand, b: &Operand, cached: (bool, bool), bmi2: bool) -> (usize, theirs::Given) {
     let (a, b) = (theirs::mask(a), theirs::mask(b));
     if cached.0 {
         theirs::cache_indices(&a);
@@ -95,5 +113,5 @@ fn crate_composes(a: &Operand, b: &Operand, cached: (bool, bool), bmi2: bool) ->
     if cached.1 {
         theirs::cache_indices(&b);
     }
-    theirs::composed(&a, &b, bmi2)
+    (theirs::path(&a, &b), theirs::composed(&a, &b, bmi2))
 }

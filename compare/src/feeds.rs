@@ -3,6 +3,7 @@ use crate::answer::{COUNT, REFUSAL};
 use crate::checks::{Outcome, asked, by_the_rules, same, with_input};
 use crate::operand::{Operand, WORDS, count, fitting_form, lay, lend, length_around_words, random_rows};
 use crate::random::Random;
+use crate::rules::LIMIT;
 use crate::tally::{Progress, Tally};
 use crate::{ours, rules, theirs};
 
@@ -17,14 +18,36 @@ pub fn run(cases: u64, seed: u64, tally: &mut Tally) -> Outcome {
     let mut progress = Progress::new("streams", cases);
     let mut fed = Fed::default();
     for _ in 0..cases {
-        one_stream(&mut fed, &mut random)?;
+        let length = length_around_words(&mut random);
+        let longest = random.pick(&[3, 20, 64, 65, 200, 5000]);
+        one_stream(length, longest, &mut fed, &mut random)?;
         progress.step();
     }
     progress.end();
     tally.add("streams cut at random, against the whole and against the crate", cases);
+    tell(&fed, tally);
+    Ok(())
+}
+
+/// Streams up to the row limit, in long pieces.
+pub fn blocks(cases: u64, seed: u64, tally: &mut Tally) -> Outcome {
+    let mut random = Random::new(seed, "long feeds");
+    let mut progress = Progress::new("streams of whole blocks", cases);
+    let mut fed = Fed::default();
+    for case in 0..cases {
+        let length = if case % 2 == 0 { LIMIT } else { random.between(100_000, LIMIT) };
+        one_stream(length, 200_000, &mut fed, &mut random)?;
+        progress.step();
+    }
+    progress.end();
+    tally.add("streams of up to 1,048,576 rows", cases);
+    tell(&fed, tally);
+    Ok(())
+}
+
+fn tell(fed: &Fed, tally: &mut Tally) {
     tally.add("  feeds accepted", fed.pieces);
     tally.add("  refused feeds between them, which must change nothing", fed.refused);
-    Ok(())
 }
 
 /// A whole self and rank mask, and what the stream has so far.
@@ -35,13 +58,12 @@ struct Stream {
     out: Vec<u64>,
 }
 
-fn one_stream(fed: &mut Fed, random: &mut Random) -> Outcome {
-    let own = random_rows(length_around_words(random), random);
+fn one_stream(length: u64, longest: u64, fed: &mut Fed, random: &mut Random) -> Outcome {
+    let own = random_rows(length, random);
     let ranks = random_rows(count(&own), random);
     let extra = random.below(3);
     let before = random.words((own.len() as u64).div_ceil(64) + extra);
     let mut stream = Stream { own, ranks, state: [0; 3], out: before.clone() };
-    let longest = random.pick(&[3, 20, 64, 65, 200, 5000]);
     let mut sum_of_counts = 0;
     while stream.state[0] < stream.own.len() as u64 {
         if random.one_in(5) {
@@ -117,6 +139,8 @@ fn whole_told(stream: &Stream, before: &[u64], sum_of_counts: u64) -> Outcome {
     same("the pieces' counts", sum_of_counts, given.count)
 }
 
+const MOST_SHOWN: usize = 20_000; // a longer stream is told by the seed
+
 fn shown(rows: &[bool]) -> String {
-    rows.iter().map(|&row| if row { '1' } else { '0' }).collect()
+    rows.iter().take(MOST_SHOWN).map(|&row| if row { '1' } else { '0' }).collect()
 }

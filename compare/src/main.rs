@@ -5,6 +5,7 @@ use std::time::{Instant, SystemTime, UNIX_EPOCH};
 use std::{env, process};
 
 use compare::checks::Outcome;
+use compare::probe::OURS;
 use compare::tally::Tally;
 use compare::{compositions, feeds, refusals, sets, words};
 
@@ -18,6 +19,17 @@ struct Plan {
     refusals: u64,
     streams: u64,
 }
+
+/// A few seconds: for `faults`.
+const BRIEF: Plan = Plan {
+    words: 60_000,
+    compositions: 6_000,
+    blocks: 0,
+    sets: 2_000,
+    conversions: 2_000,
+    refusals: 20_000,
+    streams: 300,
+};
 
 const SHORT: Plan = Plan {
     words: 1_000_000,
@@ -41,7 +53,7 @@ const LONG: Plan = Plan {
 
 fn main() -> ExitCode {
     let (plan, seed) = arguments();
-    println!("seed {seed}");
+    println!("seed {seed}; ours: {OURS}");
     let begun = Instant::now();
     let mut tally = Tally::default();
     let outcome = run(&plan, seed, &mut tally);
@@ -68,7 +80,8 @@ fn run(plan: &Plan, seed: u64, tally: &mut Tally) -> Outcome {
     sets::conversions(plan.conversions, seed, tally)?;
     refusals::run(plan.refusals, seed, tally)?;
     feeds::run(plan.streams, seed, tally)?;
-    compositions::blocks(plan.blocks, seed, tally)
+    compositions::blocks(plan.blocks, seed, tally)?;
+    feeds::blocks(plan.blocks / 3, seed, tally)
 }
 
 fn arguments() -> (Plan, u64) {
@@ -78,6 +91,7 @@ fn arguments() -> (Plan, u64) {
     while let Some(word) = words.next() {
         match word.as_str() {
             "--long" => plan = LONG,
+            "--brief" => plan = BRIEF,
             "--seed" => seed = words.next().and_then(|number| number.parse().ok()).unwrap_or_else(|| usage()),
             _ => usage(),
         }
@@ -86,6 +100,6 @@ fn arguments() -> (Plan, u64) {
 }
 
 fn usage() -> ! {
-    eprintln!("compare [--long] [--seed NUMBER]");
+    eprintln!("compare [--long | --brief] [--seed NUMBER]");
     process::exit(2)
 }

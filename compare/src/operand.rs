@@ -29,13 +29,23 @@ impl fmt::Debug for Operand {
             other => format!("form {other}"),
         };
         write!(f, "{form} length {} start {} claimed {}", self.length, self.start, self.claimed)?;
-        write!(f, " words {} rows {:?}", shown_words(&self.words), self.rows)
+        write!(f, " words {} rows {}", shown_words(&self.words), shown(&self.rows, |row| row.to_string()))
     }
 }
 
 pub fn shown_words(words: &[u64]) -> String {
-    let words: Vec<String> = words.iter().map(|word| format!("{word:#x}")).collect();
-    format!("[{}]", words.join(", "))
+    shown(words, |word| format!("{word:#x}"))
+}
+
+const MOST_SHOWN: usize = 400; // a longer input is told by the seed
+
+fn shown<T>(items: &[T], show: impl Fn(&T) -> String) -> String {
+    let first: Vec<String> = items.iter().take(MOST_SHOWN).map(show).collect();
+    let rest = match items.len().checked_sub(MOST_SHOWN) {
+        None | Some(0) => String::new(),
+        Some(more) => format!(" and {more} more"),
+    };
+    format!("[{}{rest}]", first.join(", "))
 }
 
 /// The rows as lent in `form`. All and none need rows that are all set, or all clear.

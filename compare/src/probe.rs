@@ -7,6 +7,13 @@ unsafe extern "C" {
     pub safe fn boltamber_select(word: u64, rank: u64) -> u64;
 }
 
+/// What stands on our side of every comparison but host's two functions.
+pub const OURS: &str = if cfg!(feature = "mirror") {
+    "a mirror, which shows nothing of the proved functions"
+} else {
+    "the proved functions"
+};
+
 #[cfg(feature = "mirror")]
 pub use crate::mirror::*;
 

@@ -16,10 +16,19 @@ const CALLS: [&str; 5] = ["composition", "set operation", "conversion to words",
 #[derive(Default)]
 struct Seen {
     times: [[[u64; 3]; 14]; CALLS.len()],
+    several_held: u64,
+}
+
+/// What a call told, and how many of the table's lines held of its operands.
+struct Refused {
+    answer: Answer,
+    held: u64,
 }
 
 impl Seen {
-    fn note(&mut self, call: usize, answer: &Answer) {
+    fn note(&mut self, call: usize, refused: &Refused) {
+        let answer = &refused.answer;
+        self.several_held += u64::from(refused.held > 1);
         let number = match answer.cells[REFUSAL] {
             UNKNOWN_FORM => 13,
             number => number as usize,
@@ -34,14 +43,14 @@ pub fn run(cases: u64, seed: u64, tally: &mut Tally) -> Outcome {
     let mut seen = Seen::default();
     for case in 0..cases {
         let call = (case % CALLS.len() as u64) as usize;
-        let answer = match call {
+        let refused = match call {
             0 => spoilt_composition(&mut random)?,
             1 => spoilt_set(&mut random)?,
             2 => spoilt_to_words(&mut random)?,
             3 => spoilt_to_list(&mut random)?,
             _ => spoilt_feed(&mut random)?,
         };
-        seen.note(call, &answer);
+        seen.note(call, &refused);
         progress.step();
     }
     progress.end();
@@ -51,6 +60,7 @@ pub fn run(cases: u64, seed: u64, tally: &mut Tally) -> Outcome {
 
 fn tell(seen: &Seen, cases: u64, tally: &mut Tally) {
     tally.add("spoilt calls against document 01's table, all lent memory looked at", cases);
+    tally.add("  of these, more than one of 1 to 6 and 12 held, and the first had to be told", seen.several_held);
     for (name, by_number) in CALLS.iter().zip(&seen.times) {
         for (number, by_operand) in by_number.iter().enumerate() {
             for (operand, &times) in by_operand.iter().enumerate() {
@@ -97,7 +107,7 @@ fn every_refusal_occurred(seen: &Seen) -> Outcome {
 
 // ---- the calls
 
-fn spoilt_composition(random: &mut Random) -> Outcome<Answer> {
+fn spoilt_composition(random: &mut Random) -> Outcome<Refused> {
     let (mut a, mut b) = small_pair(random);
     spoil_pair(&mut a, &mut b, random);
     let out = output(a.length, random);
@@ -111,10 +121,10 @@ fn spoilt_composition(random: &mut Random) -> Outcome<Answer> {
         ours::compose_without_room(&a, &b, &out, nans, nden)
             .map_err(|why| with_input(why, "compose", &[&a, &b], &out))?;
     }
-    Ok(answer)
+    Ok(Refused { answer, held: held(&[&a, &b], false) })
 }
 
-fn spoilt_set(random: &mut Random) -> Outcome<Answer> {
+fn spoilt_set(random: &mut Random) -> Outcome<Refused> {
     let length = small_length(random);
     let (mut a, mut b) = (any_operand(length, 8, random), any_operand(length, 8, random));
     spoil_pair(&mut a, &mut b, random);
@@ -124,10 +134,12 @@ fn spoilt_set(random: &mut Random) -> Outcome<Answer> {
         let told = ours::set(which, &a, &b, &out)?;
         check(&told, &rules::set(which, &a, &b, &out))
     };
-    compared().map_err(|why| with_input(why, &format!("set {which}"), &[&a, &b], &out))
+    let answer = compared().map_err(|why| with_input(why, &format!("set {which}"), &[&a, &b], &out))?;
+    let operands = if which > 2 { vec![&a] } else { vec![&a, &b] };
+    Ok(Refused { answer, held: held(&operands, true) })
 }
 
-fn spoilt_to_words(random: &mut Random) -> Outcome<Answer> {
+fn spoilt_to_words(random: &mut Random) -> Outcome<Refused> {
     let length = small_length(random);
     let mut a = any_operand(length, 2, random);
     spoil_up_to(2, &mut a, random);
@@ -136,10 +148,11 @@ fn spoilt_to_words(random: &mut Random) -> Outcome<Answer> {
         let told = ours::to_words(&a, &out)?;
         check(&told, &rules::to_words(&a, &out))
     };
-    compared().map_err(|why| with_input(why, "to words", &[&a], &out))
+    let answer = compared().map_err(|why| with_input(why, "to words", &[&a], &out))?;
+    Ok(Refused { answer, held: held(&[&a], false) })
 }
 
-fn spoilt_to_list(random: &mut Random) -> Outcome<Answer> {
+fn spoilt_to_list(random: &mut Random) -> Outcome<Refused> {
     let length = small_length(random);
     let mut a = any_operand(length, 2, random);
     spoil_up_to(2, &mut a, random);
@@ -150,10 +163,11 @@ fn spoilt_to_list(random: &mut Random) -> Outcome<Answer> {
         let told = ours::to_list(&a, &out)?;
         check(&told, &rules::to_list(&a, &out))
     };
-    compared().map_err(|why| with_input(why, "to list", &[&a], &filling))
+    let answer = compared().map_err(|why| with_input(why, "to list", &[&a], &filling))?;
+    Ok(Refused { answer, held: held(&[&a], false) })
 }
 
-fn spoilt_feed(random: &mut Random) -> Outcome<Answer> {
+fn spoilt_feed(random: &mut Random) -> Outcome<Refused> {
     let (mut a, mut b) = small_pair(random);
     spoil_pair(&mut a, &mut b, random);
     let state = random_state(random);
@@ -164,12 +178,17 @@ fn spoilt_feed(random: &mut Random) -> Outcome<Answer> {
         let told = ours::feed(state, &a, &b, &out)?;
         check(&told, &rules::feed(state, &a, &b, &out))
     };
-    compared().map_err(|why| with_input(why, &format!("feed at state {state:?}"), &[&a, &b], &out))
+    let answer = compared().map_err(|why| with_input(why, &format!("feed at state {state:?}"), &[&a, &b], &out))?;
+    Ok(Refused { answer, held: held(&[&a, &b], false) })
 }
 
 fn check<T: PartialEq + std::fmt::Debug>(told: &Told<T>, expected: &Expected<T>) -> Outcome<Answer> {
     by_the_rules(told, expected)?;
     Ok(told.answer)
+}
+
+fn held(operands: &[&Operand], in_set_operation: bool) -> u64 {
+    operands.iter().map(|operand| rules::refusals_that_hold(operand, in_set_operation)).sum()
 }
 
 // ---- inputs

@@ -108,6 +108,25 @@ fn list_refusal(operand: &Operand) -> u64 {
     }
 }
 
+/// How many lines of the refusal table hold of an operand taken alone, whatever the order.
+pub fn refusals_that_hold(operand: &Operand, in_set_operation: bool) -> u64 {
+    let is_words = operand.form == WORDS;
+    let is_list = operand.form == LIST;
+    let needed = (u128::from(operand.start) + u128::from(operand.length)).div_ceil(64);
+    let ascending = operand.rows.windows(2).all(|pair| pair[0] < pair[1]);
+    let last_too_far = operand.rows.last().is_some_and(|&last| u64::from(last) >= operand.length);
+    let lines = [
+        is_list && in_set_operation,
+        operand.length > LIMIT,
+        is_words && operand.start > 63,
+        is_words && (operand.words.len() as u128) < needed,
+        is_words && operand.claimed > operand.length,
+        is_list && !ascending,
+        is_list && ascending && last_too_far,
+    ];
+    lines.iter().filter(|&&holds| holds).count() as u64
+}
+
 /// The rows of an operand that passes, but for its claimed count.
 pub fn rows(operand: &Operand) -> Vec<bool> {
     let length = operand.length as usize;

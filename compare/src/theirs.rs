@@ -43,6 +43,36 @@ pub fn composed(a: &Mask, b: &Mask, bmi2: bool) -> Given {
     given(&a.intersect_by_rank(b))
 }
 
+/// The crate's own ways through a composition, as its `intersect_by_rank` chooses among them.
+pub const PATHS: [&str; 7] = [
+    "a mask as it is, or none",
+    "index lists",
+    "mask-driven",
+    "bit buffers, network",
+    "bit buffers, loop",
+    "rank indices, network",
+    "rank indices, loop",
+];
+
+/// Which of `PATHS` the crate takes on its portable paths, by its tests on lists that it has and on counts.
+pub fn path(a: &Mask, b: &Mask) -> usize {
+    let (Some(own), Some(ranks)) = (a.values(), b.values()) else {
+        return 0;
+    };
+    let loop_form = usize::from(own.density() < 1.0 / 16.0);
+    let both_listed = own.cached_indices().is_some() && ranks.cached_indices().is_some();
+    if both_listed && ranks.true_count() < own.len().div_ceil(64) || own.true_count() * 64 < own.len() {
+        return 1;
+    }
+    if ranks.true_count() * 32 < ranks.len() {
+        return 2;
+    }
+    match ranks.cached_indices() {
+        Some(listed) if listed.len() * 4 <= ranks.len() => 5 + loop_form,
+        _ => 3 + loop_form,
+    }
+}
+
 /// Every way the crate has to the set operation: by reference, and with an owned left mask.
 pub fn set(which: u64, a: &Mask, b: &Mask) -> Vec<Given> {
     match which {
