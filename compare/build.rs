@@ -19,9 +19,8 @@ fn link(folder: &Path, name: &str) {
     let library = folder.join(format!("lib{name}.a"));
     if !library.exists() {
         let why = format!("{} is not there: run `rt staticlib {name}`, or set BOLTAMBER_LIB_DIR", library.display());
-        println!("cargo::error={why}");
-        eprintln!("{why}");
-        process::exit(1);
+        println!("cargo::error={why}"); // cargo tells it, and fails
+        process::exit(0);
     }
     println!("cargo::rerun-if-changed={}", library.display());
     println!("cargo::rustc-link-lib=static={name}");

@@ -8,9 +8,6 @@ const BESIDE_THE_CLONE: &str = "../../../shared/docs/src/src"; // from this pack
 
 fn main() {
     println!("cargo::rerun-if-env-changed={VARIABLE}");
-    if env::var("CARGO_CFG_TARGET_ARCH").unwrap() != "x86_64" {
-        stop("compare is built for x86-64 only: run compare/run, or give --target x86_64-unknown-linux-gnu");
-    }
     let folder = source_folder();
     let package = env::var("CARGO_PKG_NAME").unwrap();
     let line = match package.as_str() {
@@ -41,7 +38,6 @@ fn file(folder: &Path, name: &str) -> PathBuf {
 }
 
 fn stop(why: &str) -> ! {
-    println!("cargo::error={why}");
-    eprintln!("{why}");
-    process::exit(1);
+    println!("cargo::error={why}"); // cargo tells it, and fails
+    process::exit(0);
 }

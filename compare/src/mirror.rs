@@ -7,11 +7,26 @@ use std::sync::LazyLock;
 use crate::answer::{Answer, COUNT, ROUTE};
 use crate::operand::{LIST, Operand, WORDS};
 use crate::rules::{self, Expected};
+use crate::theirs::Given;
 
 static FAULT: LazyLock<String> = LazyLock::new(|| std::env::var("COMPARE_FAULT").unwrap_or_default());
 
 fn fault(name: &str) -> bool {
     *FAULT == name
+}
+
+/// Faults on the crate's side: its answers must be looked at too.
+pub fn crate_gives(mut given: Given) -> Given {
+    if fault("the crate turns a row") && !given.words.is_empty() {
+        given.words[0] ^= 1;
+    }
+    if fault("the crate counts one more") {
+        given.count += 1;
+    }
+    if fault("the crate's density is of the rows not set") {
+        given.density = (1.0 - f64::from_bits(given.density)).to_bits();
+    }
+    given
 }
 
 /// # Safety

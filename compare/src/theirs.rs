@@ -31,11 +31,14 @@ pub fn cache_indices(mask: &Mask) {
 }
 
 pub fn given(mask: &Mask) -> Given {
-    Given {
+    let given = Given {
         words: mask.to_bit_buffer().chunks().iter_padded().collect(),
         count: mask.true_count() as u64,
         density: mask.density().to_bits(),
-    }
+    };
+    #[cfg(feature = "mirror")]
+    let given = crate::mirror::crate_gives(given);
+    given
 }
 
 pub fn composed(a: &Mask, b: &Mask, bmi2: bool) -> Given {

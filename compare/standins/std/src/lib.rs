@@ -1,6 +1,9 @@
 //! The standard library, but for two things: whether the CPU has BMI2 is told by a switch too, so that one binary can
 //! take the crate's portable paths and its BMI2 paths; and `cold_path`, which older compilers lack.
 
+#[cfg(not(target_arch = "x86_64"))]
+compile_error!("compare is built for x86-64 only: run compare/run, or give --target x86_64-unknown-linux-gnu");
+
 pub use std::*;
 
 #[doc(hidden)]
