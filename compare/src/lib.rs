@@ -18,4 +18,5 @@ pub mod rules;
 pub mod sets;
 pub mod tally;
 pub mod theirs;
+pub mod without_room;
 pub mod words;

@@ -7,7 +7,7 @@ use std::{env, process};
 use compare::checks::Outcome;
 use compare::probe::OURS;
 use compare::tally::Tally;
-use compare::{compositions, feeds, refusals, sets, words};
+use compare::{compositions, feeds, refusals, sets, without_room, words};
 
 /// How many cases each part has.
 struct Plan {
@@ -79,6 +79,7 @@ fn run(plan: &Plan, seed: u64, tally: &mut Tally) -> Outcome {
     sets::set_operations(plan.sets, seed, tally)?;
     sets::conversions(plan.conversions, seed, tally)?;
     refusals::run(plan.refusals, seed, tally)?;
+    without_room::run(plan.refusals / 10, seed, tally)?;
     feeds::run(plan.streams, seed, tally)?;
     compositions::blocks(plan.blocks, seed, tally)?;
     feeds::blocks(plan.blocks / 3, seed, tally)

@@ -144,7 +144,7 @@ pub unsafe fn probe_compose(
     b_words: *const u64, b_nwords: usize, b_rows: *const u32, b_nrows: usize,
     out: *mut u64, nout: usize, ans: *mut u64, nans: usize, den: *mut f64, nden: usize,
 ) {
-    if !fault("answers without room") && (nans < 16 || nden < 1) {
+    if (nans < 16 || nden < 1) && !fault("answers without room") {
         return;
     }
     unsafe {

@@ -90,10 +90,6 @@ impl<'a> LentComposition<'a> {
     }
 
     pub fn call(&mut self) {
-        self.call_with_room(NANS, NDEN);
-    }
-
-    fn call_with_room(&mut self, nans: usize, nden: usize) {
         let LentComposition { operands: [a, b], lent_a, lent_b, out, answer } = self;
         let (ans, den) = (answer.cells(), answer.density());
         // SAFETY: as above.
@@ -103,7 +99,7 @@ impl<'a> LentComposition<'a> {
                 lent_a.words.pointer(), lent_a.words.len(), lent_a.rows.pointer(), lent_a.rows.len(),
                 b.form, b.length, b.start, b.claimed,
                 lent_b.words.pointer(), lent_b.words.len(), lent_b.rows.pointer(), lent_b.rows.len(),
-                out.pointer(), out.len(), ans, nans, den, nden,
+                out.pointer(), out.len(), ans, NANS, den, NDEN,
             );
         }
     }
@@ -117,19 +113,6 @@ pub fn compose(a: &Operand, b: &Operand, out: &[u64]) -> Result<Told<u64>, Strin
     let mut lent = LentComposition::new(a, b, out);
     lent.call();
     lent.ended()
-}
-
-/// A composition whose answer has too few cells: it must do nothing at all.
-pub fn compose_without_room(a: &Operand, b: &Operand, out: &[u64], nans: usize, nden: usize) -> Result<(), String> {
-    assert!(nans <= NANS && nden <= NDEN && (nans < 16 || nden < 1));
-    let mut lent = LentComposition::new(a, b, out);
-    lent.call_with_room(nans, nden);
-    lent.lent_a.check(1)?;
-    lent.lent_b.check(2)?;
-    match lent.out.unchanged() && lent.answer.unchanged() {
-        true => Ok(()),
-        false => Err(format!("with {nans} cells and {nden} densities lent, something was written")),
-    }
 }
 
 pub fn set(which: u64, a: &Operand, b: &Operand, out: &[u64]) -> Result<Told<u64>, String> {

@@ -116,11 +116,6 @@ fn spoilt_composition(random: &mut Random) -> Outcome<Refused> {
         check(&told, &rules::compose(&a, &b, &out))
     };
     let answer = compared().map_err(|why| with_input(why, "compose", &[&a, &b], &out))?;
-    if random.one_in(16) {
-        let (nans, nden) = random.pick(&[(0, 0), (0, 1), (15, 1), (15, 2), (16, 0), (17, 0)]);
-        ours::compose_without_room(&a, &b, &out, nans, nden)
-            .map_err(|why| with_input(why, "compose", &[&a, &b], &out))?;
-    }
     Ok(Refused { answer, held: held(&[&a, &b], false) })
 }
 

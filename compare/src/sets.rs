@@ -50,6 +50,7 @@ fn one_set(which: u64, a: &Operand, b: &Operand, out: &[u64]) -> Outcome {
 pub fn conversions(cases: u64, seed: u64, tally: &mut Tally) -> Outcome {
     let mut random = Random::new(seed, "conversions");
     let mut progress = Progress::new("conversions", cases);
+    let mut of_length_0 = 0;
     for case in 0..cases {
         let length = length_around_words(&mut random);
         let rows = random_rows(length, &mut random);
@@ -60,10 +61,12 @@ pub fn conversions(cases: u64, seed: u64, tally: &mut Tally) -> Outcome {
             0 => one_to_words(&a, &random.words(length.div_ceil(64) + extra))?,
             _ => one_to_list(&a, &random.words(rules::set_count(&a) + extra))?,
         }
+        of_length_0 += u64::from(case % 2 == 0 && length == 0);
         progress.step();
     }
     progress.end();
     tally.add("conversions to words against the crate's masks", cases.div_ceil(2));
+    tally.add("  of length 0: their density left out against the crate", of_length_0);
     tally.add("conversions to a list against the crate's masks", cases / 2);
     Ok(())
 }

@@ -10,10 +10,12 @@ use switched_std::cpu;
 
 const TURNS: usize = 9; // the middle one is told
 const WORDS_OF_SELF: u64 = LIMIT / 64;
-const SELF_DENSITIES: [f64; 11] = [0.005, 0.01, 0.02, 0.04, 0.06, 0.1, 0.25, 0.5, 0.75, 0.9, 0.99];
+const SELF_DENSITIES: [f64; 12] = [0.005, 0.01, 0.02, 0.04, 0.06, 0.1, 0.25, 0.5, 0.75, 0.9, 0.99, 1.0];
 
 /// Forms of self and of the rank mask, and the rank mask's density.
-const MIXES: [(u64, u64, f64); 6] = [
+const MIXES: [(u64, u64, f64); 8] = [
+    (WORDS, WORDS, 1.0),
+    (WORDS, WORDS, 0.0),
     (LIST, LIST, 0.5),
     (LIST, WORDS, 0.5),
     (WORDS, WORDS, 0.01),
@@ -23,6 +25,7 @@ const MIXES: [(u64, u64, f64); 6] = [
 ];
 
 fn main() {
+    println!("nanoseconds for each 64 rows of self, whose mask has {LIMIT} rows");
     println!("{:>5}  {:>7}  {:>7}  {:>10}  {:>10}  {:>10}", "route", "self", "rank", "ours", "portable", "BMI2");
     let mut random = Random::new(1, "times");
     for (own_form, rank_form, rank_density) in MIXES {
