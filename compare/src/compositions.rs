@@ -11,12 +11,16 @@ use crate::{ours, rules, theirs};
 
 /// How often each route was told, from 0 to 10, and how often the crate went each of its own ways.
 #[derive(Default)]
-struct Seen {
+pub struct Seen {
     routes: [u64; 11],
     paths: [u64; theirs::PATHS.len()],
 }
 
 impl Seen {
+    pub fn cases(&self) -> u64 {
+        self.routes.iter().sum()
+    }
+
     fn tell(&self, tally: &mut Tally) {
         tally.add_each("  of route", &self.routes);
         for (name, &cases) in theirs::PATHS.iter().zip(&self.paths) {
@@ -83,7 +87,7 @@ pub fn random_pair(length: u64, random: &mut Random) -> (Operand, Operand) {
     (lend(&own, own_form, random), lend(&ranks, rank_form, random))
 }
 
-fn compose_both(a: &Operand, b: &Operand, seen: &mut Seen, random: &mut Random) -> Outcome {
+pub fn compose_both(a: &Operand, b: &Operand, seen: &mut Seen, random: &mut Random) -> Outcome {
     let extra = random.below(4);
     let out = random.words(a.length.div_ceil(64) + extra);
     let cached = (random.one_in(4), random.one_in(4));

@@ -16,6 +16,7 @@ pub mod random;
 pub mod refusals;
 pub mod rules;
 pub mod sets;
+pub mod small;
 pub mod tally;
 pub mod theirs;
 pub mod without_room;

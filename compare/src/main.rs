@@ -7,11 +7,12 @@ use std::{env, process};
 use compare::checks::Outcome;
 use compare::probe::OURS;
 use compare::tally::Tally;
-use compare::{compositions, feeds, refusals, sets, without_room, words};
+use compare::{compositions, feeds, refusals, sets, small, without_room, words};
 
 /// How many cases each part has.
 struct Plan {
     words: u64,
+    small: u64, // the longest mask of those that are all tried
     compositions: u64,
     blocks: u64,
     sets: u64,
@@ -23,6 +24,7 @@ struct Plan {
 /// A few seconds: for `faults`.
 const BRIEF: Plan = Plan {
     words: 60_000,
+    small: 5,
     compositions: 6_000,
     blocks: 0,
     sets: 2_000,
@@ -33,6 +35,7 @@ const BRIEF: Plan = Plan {
 
 const SHORT: Plan = Plan {
     words: 1_000_000,
+    small: 8,
     compositions: 40_000,
     blocks: 9,
     sets: 30_000,
@@ -42,11 +45,12 @@ const SHORT: Plan = Plan {
 };
 
 const LONG: Plan = Plan {
-    words: 10_000_000,
+    words: 12_500_000,
+    small: 10,
     compositions: 250_000,
     blocks: 60,
     sets: 220_000,
-    conversions: 220_000,
+    conversions: 150_000,
     refusals: 1_000_000,
     streams: 30_000,
 };
@@ -75,6 +79,9 @@ fn run(plan: &Plan, seed: u64, tally: &mut Tally) -> Outcome {
     words::deposits(plan.words, seed, tally)?;
     words::selects(plan.words, seed, tally)?;
     words::rank_reads(plan.words, seed, tally)?;
+    small::compositions(plan.small, seed, tally)?;
+    small::set_operations(plan.small / 2, seed, tally)?;
+    small::conversions(plan.small, seed, tally)?;
     compositions::run(plan.compositions, seed, tally)?;
     sets::set_operations(plan.sets, seed, tally)?;
     sets::conversions(plan.conversions, seed, tally)?;

@@ -16,10 +16,7 @@ pub fn set_operations(cases: u64, seed: u64, tally: &mut Tally) -> Outcome {
         let length = length_around_words(&mut random);
         let (a, b) = (operand_without_list(length, &mut random), operand_without_list(length, &mut random));
         let which = if case % 4 == 3 && random.one_in(4) { random.between(3, u64::MAX - 1) } else { case % 4 };
-        let extra = random.below(4);
-        let out = random.words(length.div_ceil(64) + extra);
-        let call = format!("set {which}");
-        one_set(which, &a, &b, &out).map_err(|why| with_input(why, &call, &[&a, &b], &out))?;
+        set_both(which, &a, &b, &mut random)?;
         of_length_0 += u64::from(length == 0);
         progress.step();
     }
@@ -38,6 +35,17 @@ fn operand_without_list(length: u64, random: &mut Random) -> Operand {
     lend(&rows, form, random)
 }
 
+pub fn set_both(which: u64, a: &Operand, b: &Operand, random: &mut Random) -> Outcome {
+    let out = output(a.length.div_ceil(64), random);
+    one_set(which, a, b, &out).map_err(|why| with_input(why, &format!("set {which}"), &[a, b], &out))
+}
+
+/// Up to three elements longer than needed.
+fn output(needed: u64, random: &mut Random) -> Vec<u64> {
+    let extra = random.below(4);
+    random.words(needed + extra)
+}
+
 fn one_set(which: u64, a: &Operand, b: &Operand, out: &[u64]) -> Outcome {
     let told = ours::set(which, a, b, out)?;
     by_the_rules(&told, &rules::set(which, a, b, out))?;
@@ -51,24 +59,25 @@ pub fn conversions(cases: u64, seed: u64, tally: &mut Tally) -> Outcome {
     let mut random = Random::new(seed, "conversions");
     let mut progress = Progress::new("conversions", cases);
     let mut of_length_0 = 0;
-    for case in 0..cases {
+    for _ in 0..cases {
         let length = length_around_words(&mut random);
         let rows = random_rows(length, &mut random);
         let form = fitting_form(&rows, true, &mut random);
         let a = lend(&rows, form, &mut random);
-        let extra = random.below(4);
-        match case % 2 {
-            0 => one_to_words(&a, &random.words(length.div_ceil(64) + extra))?,
-            _ => one_to_list(&a, &random.words(rules::set_count(&a) + extra))?,
-        }
-        of_length_0 += u64::from(case % 2 == 0 && length == 0);
+        convert_both(&a, &mut random)?;
+        of_length_0 += u64::from(length == 0);
         progress.step();
     }
     progress.end();
-    tally.add("conversions to words against the crate's masks", cases.div_ceil(2));
+    tally.add("conversions to words against the crate's masks", cases);
     tally.add("  of length 0: their density left out against the crate", of_length_0);
-    tally.add("conversions to a list against the crate's masks", cases / 2);
+    tally.add("conversions to a list against the crate's masks", cases);
     Ok(())
+}
+
+pub fn convert_both(a: &Operand, random: &mut Random) -> Outcome {
+    one_to_words(a, &output(a.length.div_ceil(64), random))?;
+    one_to_list(a, &output(rules::set_count(a), random))
 }
 
 fn one_to_words(a: &Operand, out: &[u64]) -> Outcome {
