@@ -3,6 +3,7 @@
 pub mod answer;
 pub mod checks;
 pub mod compositions;
+pub mod examples;
 pub mod feeds;
 pub mod lent;
 #[cfg(feature = "mirror")]

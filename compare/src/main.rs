@@ -7,7 +7,7 @@ use std::{env, process};
 use compare::checks::Outcome;
 use compare::probe::OURS;
 use compare::tally::Tally;
-use compare::{compositions, feeds, refusals, sets, small, without_room, words};
+use compare::{compositions, examples, feeds, refusals, sets, small, without_room, words};
 
 /// How many cases each part has.
 struct Plan {
@@ -76,6 +76,7 @@ fn main() -> ExitCode {
 }
 
 fn run(plan: &Plan, seed: u64, tally: &mut Tally) -> Outcome {
+    examples::run(tally)?;
     words::deposits(plan.words, seed, tally)?;
     words::selects(plan.words, seed, tally)?;
     words::rank_reads(plan.words, seed, tally)?;

@@ -108,7 +108,7 @@ fn list_refusal(operand: &Operand) -> u64 {
     }
 }
 
-/// How many lines of the refusal table hold of an operand taken alone, whatever the order.
+/// How many lines of the refusal table hold of an operand taken alone, whatever the order; 4 where it is plain to see.
 pub fn refusals_that_hold(operand: &Operand, in_set_operation: bool) -> u64 {
     let is_words = operand.form == WORDS;
     let is_list = operand.form == LIST;

@@ -1,0 +1,285 @@
+//! Document 01's examples, and inputs at the edges of its rules, each with its answer written out here. `rules` is held to
+//! them too, so that it is not the judge of itself.
+use crate::answer::Answer;
+use crate::checks::{Outcome, same_answer};
+use crate::lent::Lent;
+use crate::operand::{ALL, LIST, NONE, Operand, WORDS};
+use crate::ours::Told;
+use crate::probe::{boltamber_deposit, boltamber_select};
+use crate::rules::{Expected, LIMIT};
+use crate::tally::Tally;
+use crate::{ours, rules};
+
+pub fn run(tally: &mut Tally) -> Outcome {
+    let mut examples = Examples::default();
+    deposits(&mut examples)?;
+    selects_and_reads(&mut examples)?;
+    conversions(&mut examples)?;
+    compositions(&mut examples)?;
+    set_operations(&mut examples)?;
+    feeds(&mut examples)?;
+    tally.add("document 01's examples and its edges, answers written out", examples.held);
+    Ok(())
+}
+
+#[derive(Default)]
+struct Examples {
+    held: u64,
+}
+
+impl Examples {
+    fn word(&mut self, name: &str, told: Answer, by_rules: Answer, expected: Answer) -> Outcome {
+        self.held += 1;
+        same_answer(&format!("{name}, ours"), told, expected)?;
+        same_answer(&format!("{name}, the harness's own rules"), by_rules, expected)
+    }
+
+    /// The first word of the output is told where it is looked at.
+    fn call(
+        &mut self,
+        name: &str,
+        told: &Told<u64>,
+        by_rules: &Expected<u64>,
+        expected: Answer,
+        first: u64,
+    ) -> Outcome {
+        self.word(name, told.answer, by_rules.answer, expected)?;
+        match told.out == by_rules.out && told.out.first().is_none_or(|&word| word == first) {
+            true => Ok(()),
+            false => Err(format!("{name}: the output is {:x?}, the first word should be {first:#x}", told.out)),
+        }
+    }
+
+    fn compose(&mut self, name: &str, a: &Operand, b: &Operand, out: &[u64], expected: Answer, first: u64) -> Outcome {
+        self.call(name, &ours::compose(a, b, out)?, &rules::compose(a, b, out), expected, first)
+    }
+
+    fn to_words(&mut self, name: &str, a: &Operand, out: &[u64], expected: Answer, first: u64) -> Outcome {
+        self.call(name, &ours::to_words(a, out)?, &rules::to_words(a, out), expected, first)
+    }
+
+    fn set(&mut self, name: &str, which: u64, a: &Operand, b: &Operand, expected: Answer, first: u64) -> Outcome {
+        let out = [JUNK];
+        self.call(name, &ours::set(which, a, b, &out)?, &rules::set(which, a, b, &out), expected, first)
+    }
+
+    fn feed(
+        &mut self,
+        name: &str,
+        state: [u64; 3],
+        a: &Operand,
+        b: &Operand,
+        out: &[u64],
+        expected: Answer,
+        first: u64,
+    ) -> Outcome {
+        self.call(name, &ours::feed(state, a, b, out)?, &rules::feed(state, a, b, out), expected, first)
+    }
+}
+
+const JUNK: u64 = 0xdead_beef_0bad_cafe;
+
+fn operand(form: u64, length: u64) -> Operand {
+    Operand { form, length, start: 0, claimed: 0, words: Vec::new(), rows: Vec::new() }
+}
+
+fn all(length: u64) -> Operand {
+    operand(ALL, length)
+}
+
+fn none(length: u64) -> Operand {
+    operand(NONE, length)
+}
+
+fn words(start: u64, length: u64, claimed: u64, words: &[u64]) -> Operand {
+    Operand { start, claimed, words: words.to_vec(), ..operand(WORDS, length) }
+}
+
+fn list(length: u64, rows: &[u32]) -> Operand {
+    Operand { rows: rows.to_vec(), ..operand(LIST, length) }
+}
+
+fn deposits(examples: &mut Examples) -> Outcome {
+    let cases = [
+        ("E1", 5, 26, 18),
+        ("E2", 77, 0, 0),
+        ("E3", 0x1234_5678_9abc_def0, u64::MAX, 0x1234_5678_9abc_def0),
+        ("E4", u64::MAX, 1 << 63, 1 << 63),
+        ("E5", 1, 0x7fff_ffff_ffff_fffe, 2),
+        ("E6", 8, !8, 16),
+    ];
+    for (name, source, mask, word) in cases {
+        let count = u64::from(mask.count_ones());
+        for way in [0, 1] {
+            let by_rules = rules::deposit(source, mask, count);
+            examples.word(name, ours::deposit(way, source, mask, count)?, by_rules, Answer::word(word))?;
+        }
+        let by_host = Answer::word(boltamber_deposit(source, mask));
+        examples.word(name, by_host, by_host, Answer::word(word))?;
+    }
+    let refused = Answer::refused(4, 0);
+    examples.word("mask 26 with count 2", ours::deposit(0, 4, 26, 2)?, rules::deposit(4, 26, 2), refused)
+}
+
+fn selects_and_reads(examples: &mut Examples) -> Outcome {
+    let selects = [
+        ("E7", 26, 0, Answer::word(1), 1),
+        ("E7", 26, 2, Answer::word(4), 4),
+        ("E7", 26, 3, Answer::refused(9, 0), 64),
+        ("E8", u64::MAX, 63, Answer::word(63), 63),
+    ];
+    for (name, word, rank, answer, by_host) in selects {
+        examples.word(name, ours::select(word, rank)?, rules::select(word, rank), answer)?;
+        let told = Answer::word(boltamber_select(word, rank));
+        examples.word(name, told, told, Answer::word(by_host))?;
+    }
+    let lent = [(1 << 60) + (1 << 63), 1];
+    let reads = [
+        ("E9", 60, 0, Answer::word(25)),
+        ("E10", 60, 64, Answer::word(0)),
+        ("a sum past 2^64", 60, u64::MAX, Answer::word(0)),
+        ("start 64", 64, 0, Answer::refused(2, 0)),
+    ];
+    for (name, start, offset, answer) in reads {
+        let told = ours::rank_read(&mut Lent::new(&lent), start, offset)?;
+        examples.word(name, told, rules::rank_read(&lent, start, offset), answer)?;
+    }
+    Ok(())
+}
+
+fn conversions(examples: &mut Examples) -> Outcome {
+    let out = [JUNK];
+    let no_rows = Answer::summary(0, 0, 0);
+    let refused = |number| Answer::refused(number, 1);
+    examples.to_words("a repeated entry", &list(10, &[3, 9, 9]), &out, refused(5), JUNK)?;
+    examples.to_words("an entry at the length", &list(10, &[3, 10]), &out, refused(6), JUNK)?;
+    examples.to_words("no entries", &list(10, &[]), &out, Answer::summary(0, 10, 0), 0)?;
+    examples.to_words("falls and passes the length", &list(10, &[10, 3]), &out, refused(5), JUNK)?;
+    examples.to_words("length 0 with an entry", &list(0, &[0]), &out, refused(6), JUNK)?;
+    examples.to_words("over the limit", &all(LIMIT + 1), &out, refused(1), JUNK)?;
+    examples.to_words("the largest length", &none(u64::MAX), &out, refused(1), JUNK)?;
+    let words_of_limit = vec![JUNK; 16_384];
+    examples.to_words("at the limit", &all(LIMIT), &words_of_limit, Answer::summary(LIMIT, LIMIT, 0), u64::MAX)?;
+    examples.to_words("one word less", &all(LIMIT), &words_of_limit[1..], Answer::refused(8, 0), JUNK)?;
+    examples.to_words("nothing lent", &words(0, 0, 0, &[]), &[], no_rows, 0)?;
+    examples.to_words("length 0 at start 1, no word", &words(1, 0, 0, &[]), &out, refused(3), JUNK)?;
+    examples.to_words("length 0 at start 63, a word", &words(63, 0, 0, &[7]), &out, no_rows, JUNK)?;
+    examples.to_words("length 0, claimed 1", &words(0, 0, 1, &[1]), &out, refused(4), JUNK)?;
+    examples.to_words("claimed above the length", &words(0, 3, 4, &[15]), &out, refused(4), JUNK)?;
+    examples.to_words("bits past the view", &words(1, 3, 3, &[0x1f]), &out, Answer::summary(3, 3, 0), 7)?;
+    examples.to_words("start 64", &words(64, 0, 0, &[0, 0]), &out, refused(2), JUNK)?;
+    examples.to_words("form 4", &operand(4, 0), &out, Answer::refused(99, 0), JUNK)
+}
+
+fn compositions(examples: &mut Examples) -> Outcome {
+    let out = [JUNK, JUNK];
+    let (own, ranks) = (words(0, 8, 5, &[0xd6]), words(0, 5, 2, &[9]));
+    examples.compose("E11", &own, &ranks, &out, Answer::summary(2, 8, 9), 0x42)?;
+    examples.compose("no word of output", &own, &ranks, &[], Answer::refused(8, 0), 0)?;
+    examples.compose("both of length 0", &all(0), &all(0), &out, Answer::summary(0, 0, 3), JUNK)?;
+    examples.compose("both of length 0", &list(0, &[]), &none(0), &[], Answer::summary(0, 0, 3), 0)?;
+    examples.compose("self full, rank mask empty", &all(2), &none(2), &out, Answer::summary(0, 2, 1), 0)?;
+    examples.compose("self empty", &none(2), &all(0), &out, Answer::summary(0, 2, 3), 0)?;
+    examples.compose("wrong length", &all(1), &none(2), &out, Answer::refused(7, 0), JUNK)?;
+    examples.compose("both bad", &words(0, 1, 2, &[0]), &list(9, &[1, 1]), &out, Answer::refused(4, 1), JUNK)?;
+    examples.compose("the second bad, 7 too", &all(1), &list(9, &[1, 1]), &out, Answer::refused(5, 2), JUNK)?;
+    examples.compose("7 before 8", &all(70), &none(2), &[JUNK], Answer::refused(7, 0), JUNK)?;
+    examples.compose(
+        "a list with 32 x 1 = 32",
+        &list(64, &(0..32).collect::<Vec<u32>>()),
+        &list(32, &[3]),
+        &out,
+        Answer::summary(1, 64, 4),
+        8,
+    )?;
+    examples.compose(
+        "self words, 32 x 1 = 32",
+        &words(0, 64, 32, &[0xffff_ffff]),
+        &list(32, &[3]),
+        &out,
+        Answer::summary(1, 64, 7),
+        8,
+    )?;
+    examples.compose(
+        "self words, 32 x 1 < 33",
+        &words(0, 64, 33, &[0x1_ffff_ffff]),
+        &list(33, &[3]),
+        &out,
+        Answer::summary(1, 64, 6),
+        8,
+    )?;
+    examples.compose(
+        "16 x 4 = 64",
+        &words(0, 64, 4, &[15]),
+        &words(0, 4, 1, &[4]),
+        &out,
+        Answer::summary(1, 64, 9),
+        4,
+    )?;
+    examples.compose("16 x 3 < 64", &words(0, 64, 3, &[7]), &words(0, 3, 1, &[4]), &out, Answer::summary(1, 64, 10), 4)
+}
+
+fn set_operations(examples: &mut Examples) -> Outcome {
+    let refused = Answer::refused;
+    examples.set("and of all and all", 0, &all(1), &all(1), Answer::summary(1, 1, 0), 1)?;
+    examples.set("lengths differ", 1, &all(1), &none(2), refused(7, 0), JUNK)?;
+    examples.set("12 before 1", 0, &list(LIMIT + 1, &[]), &all(1), refused(12, 1), JUNK)?;
+    examples.set(
+        "the first's 4 before the second's 12",
+        0,
+        &words(0, 1, 1, &[0]),
+        &list(1, &[]),
+        refused(4, 1),
+        JUNK,
+    )?;
+    examples.set("12 of the second", 2, &all(1), &list(1, &[]), refused(12, 2), JUNK)?;
+    examples.set("not ignores its second", 3, &none(3), &list(LIMIT + 1, &[5, 5]), Answer::summary(3, 3, 0), 7)?;
+    examples.set("not of a list", 3, &list(1, &[]), &all(1), refused(12, 1), JUNK)?;
+    examples.set("not, and a second of no form", 3, &none(3), &operand(9, 0), refused(99, 0), JUNK)
+}
+
+fn feeds(examples: &mut Examples) -> Outcome {
+    let piece = Answer::summary;
+    let refused = |number, operand, state| Answer::refused(number, operand).with_state(state);
+    let (first, first_ranks) = (words(0, 4, 2, &[6]), words(0, 2, 1, &[1]));
+    let (second, second_ranks) = (words(0, 4, 3, &[0xd]), words(0, 3, 1, &[2]));
+    let half_way = JUNK & !0xf | 2;
+    let whole = JUNK & !0xff | 0x42;
+    examples.feed("E12", [0; 3], &first, &first_ranks, &[JUNK], piece(1, 4, 9).with_state([4, 2, 1]), half_way)?;
+    examples.feed(
+        "E12",
+        [4, 2, 1],
+        &second,
+        &second_ranks,
+        &[half_way],
+        piece(1, 4, 9).with_state([8, 5, 2]),
+        whole,
+    )?;
+    let limit = [LIMIT, 0, 0];
+    examples.feed("kept over ranks", [5, 1, 2], &all(0), &all(0), &[JUNK], refused(10, 0, [5, 1, 2]), JUNK)?;
+    examples.feed("10 before 1", [1, 2, 0], &all(u64::MAX), &all(0), &[JUNK], refused(10, 0, [1, 2, 0]), JUNK)?;
+    examples.feed("7 before 11", limit, &all(1), &none(2), &[], refused(7, 0, limit), 0)?;
+    examples.feed("11 before 8", limit, &all(1), &none(1), &[], refused(11, 0, limit), 0)?;
+    let words_of_limit = vec![JUNK; 16_384];
+    examples.feed(
+        "nothing at the limit",
+        limit,
+        &all(0),
+        &all(0),
+        &words_of_limit,
+        piece(0, 0, 3).with_state(limit),
+        JUNK,
+    )?;
+    examples.feed("8 at length 0", limit, &all(0), &all(0), &words_of_limit[1..], refused(8, 0, limit), JUNK)?;
+    examples.feed("8 at length 0", [65, 0, 0], &all(0), &all(0), &[JUNK], refused(8, 0, [65, 0, 0]), JUNK)?;
+    examples.feed(
+        "none set",
+        [4, 2, 1],
+        &none(3),
+        &all(0),
+        &[u64::MAX],
+        piece(0, 3, 3).with_state([7, 2, 1]),
+        !0x70,
+    )?;
+    examples.feed("no such form", [4, 2, 1], &operand(4, 0), &all(0), &[JUNK], Answer::refused(99, 0), JUNK)
+}
