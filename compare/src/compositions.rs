@@ -1,9 +1,11 @@
 //! Compositions, and whole blocks: against the crate on its portable and its BMI2 paths, and against document 01.
 use switched_std::cpu;
+use vortex_mask_inside::private;
 
-use crate::answer::ROUTE;
-use crate::checks::{Outcome, asked, by_the_crate, by_the_rules, with_input};
+use crate::answer::{COUNT, ROUTE};
+use crate::checks::{Outcome, asked, by_the_crate, by_the_rules, same, with_input};
 use crate::operand::{Operand, count, fitting_form, lend, length_around_words, random_rows};
+use crate::ours::Told;
 use crate::random::Random;
 use crate::rules::LIMIT;
 use crate::tally::{Progress, Tally};
@@ -14,6 +16,7 @@ use crate::{ours, rules, theirs};
 pub struct Seen {
     routes: [u64; 11],
     paths: [u64; theirs::PATHS.len()],
+    by_kernel: u64,
 }
 
 impl Seen {
@@ -26,6 +29,13 @@ impl Seen {
         for (name, &cases) in theirs::PATHS.iter().zip(&self.paths) {
             tally.add(&format!("  the crate's own way: {name}"), cases);
         }
+    }
+
+    fn tell_kernels(&self, tally: &mut Tally) {
+        tally.add(
+            "  also against every kernel of the crate, portable and BMI2, whichever it would choose",
+            self.by_kernel,
+        );
     }
 
     fn everything_occurred(&self) -> Outcome {
@@ -55,6 +65,7 @@ pub fn run(cases: u64, seed: u64, tally: &mut Tally) -> Outcome {
     tally.add("compositions against the crate's portable paths", cases);
     tally.add("compositions against the crate's BMI2 paths", if cpu::has_bmi2() { cases } else { 0 });
     tally.add("  of length 0: their density left out against the crate", of_length_0);
+    seen.tell_kernels(tally);
     seen.tell(tally);
     seen.everything_occurred()
 }
@@ -91,10 +102,18 @@ pub fn compose_both(a: &Operand, b: &Operand, seen: &mut Seen, random: &mut Rand
     let extra = random.below(4);
     let out = random.words(a.length.div_ceil(64) + extra);
     let cached = (random.one_in(4), random.one_in(4));
-    one_composition(a, b, &out, cached, seen).map_err(|why| with_input(why, "compose", &[a, b], &out))
+    let kernels_too = random.one_in(4);
+    one_composition(a, b, &out, cached, kernels_too, seen).map_err(|why| with_input(why, "compose", &[a, b], &out))
 }
 
-fn one_composition(a: &Operand, b: &Operand, out: &[u64], cached: (bool, bool), seen: &mut Seen) -> Outcome {
+fn one_composition(
+    a: &Operand,
+    b: &Operand,
+    out: &[u64],
+    cached: (bool, bool),
+    kernels_too: bool,
+    seen: &mut Seen,
+) -> Outcome {
     let told = ours::compose(a, b, out)?;
     by_the_rules(&told, &rules::compose(a, b, out))?;
     let (path, given) = asked(|| crate_composes(a, b, cached, false))?;
@@ -104,7 +123,23 @@ fn one_composition(a: &Operand, b: &Operand, out: &[u64], cached: (bool, bool), 
         let (_, given) = asked(|| crate_composes(a, b, cached, true))?;
         by_the_crate("the crate's BMI2 paths", &told, &given, a.length)?;
     }
+    if kernels_too {
+        by_every_kernel(a, b, &told)?;
+        seen.by_kernel += 1;
+    }
     seen.routes[told.answer.cells[ROUTE] as usize] += 1;
+    Ok(())
+}
+
+fn by_every_kernel(a: &Operand, b: &Operand, told: &Told<u64>) -> Outcome {
+    let (own, ranks) = (theirs::mask(a).to_bit_buffer(), theirs::mask(b).to_bit_buffer());
+    let need = a.length.div_ceil(64) as usize;
+    let mut kernels = asked(|| private::portable_kernels(&own, &ranks))?;
+    kernels.extend(asked(|| private::bmi2_kernels(&own, &ranks))?);
+    for kernel in kernels {
+        same(&format!("the crate's kernel {}, words", kernel.name), &told.out[..need], &kernel.words[..])?;
+        same(&format!("the crate's kernel {}, count", kernel.name), told.answer.cells[COUNT], kernel.count as u64)?;
+    }
     Ok(())
 }
 

@@ -1,6 +1,6 @@
 //! Deposit both ways, select, rank read: against the crate's private functions, the CPU's PDEP and document 01.
 use vortex_buffer::BitBuffer;
-use vortex_mask_inside::words as theirs;
+use vortex_mask_inside::private as theirs;
 
 use crate::answer::{REFUSAL, WORD};
 use crate::checks::{Outcome, asked, same, same_answer};

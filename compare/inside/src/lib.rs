@@ -7,9 +7,9 @@ mod types;
 
 pub(crate) use types::{Mask, MaskValues, MaskValuesRef};
 
-/// What the crate does with one word, and with one read of rank bits.
+/// The file, and drivers.
 #[allow(dead_code)]
-pub mod words {
+pub mod private {
     include!(concat!(env!("OUT_DIR"), "/source.rs"));
 
     /// `Portable`: the choice with the byte network.
@@ -40,5 +40,53 @@ pub mod words {
     /// `RankBits`; the buffer's offset plus `offset` must be below 2^64.
     pub fn rank_read(buffer: &BitBuffer, offset: usize) -> u64 {
         RankBits::new(buffer).read(offset)
+    }
+
+    /// What a kernel gave: its name, the result's words and its count.
+    pub struct Kernel {
+        pub name: &'static str,
+        pub words: Vec<u64>,
+        pub count: usize,
+    }
+
+    fn kernel(name: &'static str, result: Mask) -> Kernel {
+        Kernel { name, words: result.words(), count: result.true_count() }
+    }
+
+    /// Every portable kernel on the same masks, whichever of them the crate would choose.
+    pub fn portable_kernels(own: &BitBuffer, ranks: &BitBuffer) -> Vec<Kernel> {
+        let own_list: Vec<usize> = own.set_indices().collect();
+        let list: Vec<usize> = ranks.set_indices().collect();
+        let (len, count) = (own.len(), list.len());
+        let driven = intersect_mask_driven::<Portable, _>(own, list.iter().copied(), count);
+        vec![
+            kernel("bit buffers, network", intersect_bit_buffers::<Portable>(own, ranks, count)),
+            kernel("bit buffers, loop", intersect_bit_buffers::<PortableLoop>(own, ranks, count)),
+            kernel("rank indices, network", intersect_bit_buffer_by_rank_indices::<Portable>(own, &list)),
+            kernel("rank indices, loop", intersect_bit_buffer_by_rank_indices::<PortableLoop>(own, &list)),
+            kernel("mask-driven", driven),
+            kernel("index lists", intersect_by_rank_indices(len, &own_list, &list)),
+        ]
+    }
+
+    /// The BMI2 kernels; none where the CPU lacks it.
+    pub fn bmi2_kernels(own: &BitBuffer, ranks: &BitBuffer) -> Vec<Kernel> {
+        if !::switched_std::cpu::has_bmi2() {
+            return Vec::new();
+        }
+        let list: Vec<usize> = ranks.set_indices().collect();
+        // SAFETY: the CPU has BMI2 and POPCNT.
+        let (buffers, indices, driven) = unsafe {
+            (
+                bmi2::intersect_bit_buffers_bmi2(own, ranks, list.len()),
+                bmi2::intersect_bit_buffer_by_rank_indices_bmi2(own, &list),
+                bmi2::intersect_mask_driven_bmi2(own, list.iter().copied(), list.len()),
+            )
+        };
+        vec![
+            kernel("bit buffers, BMI2", buffers),
+            kernel("rank indices, BMI2", indices),
+            kernel("mask-driven, BMI2", driven),
+        ]
     }
 }

@@ -49,6 +49,16 @@ impl Mask {
         }
     }
 
+    /// The rows as words, from bit 0 on.
+    pub fn words(&self) -> Vec<u64> {
+        let whole = match self {
+            Mask::AllTrue(len) => &BitBuffer::new_set(*len),
+            Mask::AllFalse(len) => &BitBuffer::new_unset(*len),
+            Mask::Values(values) => values.bit_buffer(),
+        };
+        whole.chunks().iter_padded().collect()
+    }
+
     pub fn true_count(&self) -> usize {
         match self {
             Mask::AllTrue(len) => *len,
