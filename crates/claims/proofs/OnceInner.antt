@@ -19,6 +19,18 @@ use Rattle.intersect_by_rank.proofs.inner.judge_both.Kinds as intersect-by-rank
 use Rattle.intersect_by_rank.proofs.inner.judge_both.Reads as intersect-by-rank-judge-both
 use Rattle.intersect_by_rank.proofs.inner.compose_with.Kinds as intersect-by-rank-compose-with-kinds
 use Rattle.intersect_by_rank.proofs.inner.compose_with.Reads as intersect-by-rank-compose-with
+use Rattle.kernels.proofs.inner.lay_entry_at_rank.Kinds as kernels-lay-entry-at-rank-kinds
+use Rattle.kernels.proofs.inner.lay_entry_at_rank.Reads as kernels-lay-entry-at-rank
+use Rattle.kernels.proofs.inner.lay_entry_if_set.Kinds as kernels-lay-entry-if-set-kinds
+use Rattle.kernels.proofs.inner.lay_entry_if_set.Reads as kernels-lay-entry-if-set
+use Rattle.kernels.proofs.inner.lay_driven_by_list.Kinds as kernels-lay-driven-by-list-kinds
+use Rattle.kernels.proofs.inner.lay_driven_by_list.Reads as kernels-lay-driven-by-list
+use Rattle.kernels.proofs.inner.lay_driven_by_words.Kinds as kernels-lay-driven-by-words-kinds
+use Rattle.kernels.proofs.inner.lay_driven_by_words.Reads as kernels-lay-driven-by-words
+use Rattle.kernels.proofs.inner.intersect_bit_buffer_by_rank_indices.Kinds as kernels-intersect-bit-buffer-by-rank-indices-kinds
+use Rattle.kernels.proofs.inner.intersect_bit_buffer_by_rank_indices.Reads as kernels-intersect-bit-buffer-by-rank-indices
+use Rattle.kernels.proofs.inner.intersect_bit_buffers.Kinds as kernels-intersect-bit-buffers-kinds
+use Rattle.kernels.proofs.inner.intersect_bit_buffers.Reads as kernels-intersect-bit-buffers
 use Rattle.lent.proofs.inner.word_at.Kinds as lent-word-at-kinds
 use Rattle.lent.proofs.inner.word_at.Reads as lent-word-at
 use Rattle.lent.proofs.inner.joined.Kinds as lent-joined-kinds
@@ -108,6 +120,24 @@ intersect-by-rank-judge-both-one κs a p x y v w hv hw = (hv ∙ sym hw, refl)
 
 pub intersect-by-rank-compose-with-one : OneAnswer 5 intersect-by-rank-compose-with-kinds.ps intersect-by-rank-compose-with-kinds.r intersect-by-rank-compose-with.Pre intersect-by-rank-compose-with.Post
 intersect-by-rank-compose-with-one κs a p x y v w hv hw = (hv .0 ∙ sym (hw .0), ap (λ (l : List ℕ). (tt, (tt, (tt, (tt, (tt, (tt, (tt, (l, tt))))))))) (hv .1 ∙ sym (hw .1)))
+
+pub kernels-lay-entry-at-rank-one : OneAnswer 3 kernels-lay-entry-at-rank-kinds.ps kernels-lay-entry-at-rank-kinds.r kernels-lay-entry-at-rank.Pre kernels-lay-entry-at-rank.Post
+kernels-lay-entry-at-rank-one κs a p x y v w hv hw = (refl, ap (λ (l : List ℕ). (tt, (tt, (tt, (tt, (l, tt)))))) (hv ∙ sym hw))
+
+pub kernels-lay-entry-if-set-one : OneAnswer 3 kernels-lay-entry-if-set-kinds.ps kernels-lay-entry-if-set-kinds.r kernels-lay-entry-if-set.Pre kernels-lay-entry-if-set.Post
+kernels-lay-entry-if-set-one κs a p x y v w hv hw = (refl, ap (λ (l : List ℕ). (tt, (tt, (tt, (tt, (tt, (l, tt))))))) (hv ∙ sym hw))
+
+pub kernels-lay-driven-by-list-one : OneAnswer 3 kernels-lay-driven-by-list-kinds.ps kernels-lay-driven-by-list-kinds.r kernels-lay-driven-by-list.Pre kernels-lay-driven-by-list.Post
+kernels-lay-driven-by-list-one κs a p x y v w hv hw = (refl, ap (λ (l : List ℕ). (tt, (tt, (tt, (tt, (tt, (l, tt))))))) (hv ∙ sym hw))
+
+pub kernels-lay-driven-by-words-one : OneAnswer 3 kernels-lay-driven-by-words-kinds.ps kernels-lay-driven-by-words-kinds.r kernels-lay-driven-by-words.Pre kernels-lay-driven-by-words.Post
+kernels-lay-driven-by-words-one κs a p x y v w hv hw = (refl, ap (λ (l : List ℕ). (tt, (tt, (tt, (tt, (tt, (tt, (tt, (l, tt))))))))) (hv ∙ sym hw))
+
+pub kernels-intersect-bit-buffer-by-rank-indices-one : OneAnswer 3 kernels-intersect-bit-buffer-by-rank-indices-kinds.ps kernels-intersect-bit-buffer-by-rank-indices-kinds.r kernels-intersect-bit-buffer-by-rank-indices.Pre kernels-intersect-bit-buffer-by-rank-indices.Post
+kernels-intersect-bit-buffer-by-rank-indices-one κs a p x y v w hv hw = (refl, ap (λ (l : List ℕ). (tt, (tt, (tt, (tt, (tt, (tt, (l, tt)))))))) (hv ∙ sym hw))
+
+pub kernels-intersect-bit-buffers-one : OneAnswer 3 kernels-intersect-bit-buffers-kinds.ps kernels-intersect-bit-buffers-kinds.r kernels-intersect-bit-buffers.Pre kernels-intersect-bit-buffers.Post
+kernels-intersect-bit-buffers-one κs a p x y v w hv hw = (refl, ap (λ (l : List ℕ). (tt, (tt, (tt, (tt, (tt, (tt, (tt, (l, tt))))))))) (hv ∙ sym hw))
 
 pub lent-word-at-one : OneAnswer 1 lent-word-at-kinds.ps lent-word-at-kinds.r lent-word-at.Pre lent-word-at.Post
 lent-word-at-one κs a p x y v w hv hw = (hv ∙ sym hw, refl)

@@ -19,7 +19,7 @@ use Rattle.mask.specs.declared.Form.{Form}
 use Rattle.mask.specs.declared.Form.the-variants.{All, None, Words, List as Listed}
 use Rattle.mask.specs.Operand.{rowsOf, lengthOf, startOf, countOf, empty, full, isList, Accepted}
 use Rattle.mask.proofs.OperandLaws.{accepted-list, accepted-flat, accepted-length, accepted-count, list-rows, list-count}
-use Rattle.intersect_by_rank.specs.declared.deposit.Way.{Way}
+use Rattle.kernels.specs.declared.Way.{Way}
 use Rattle.intersect_by_rank.specs.declared.Factors.{Factors}
 use Rattle.intersect_by_rank.specs.declared.route.Route.the-variants.{RankMask, SelfMask, NoRows, EntryAtRank, EntryIfSet, MaskDriven, Gathered, Read}
 use Rattle.intersect_by_rank.specs.Route.{routeOf, wayOf, InWords, Fits}

@@ -1,9 +1,5 @@
 pub mod ComposeLaws
-pub mod DepositLaws
-pub mod DrivenLaws
 pub mod Examples
 pub mod FitsLaws
-pub mod GatherLaws
-pub mod ListLaws
 pub mod RouteLaws
 pub mod Theorems

@@ -1,4 +1,2 @@
 pub mod Compose
-pub mod Driven
-pub mod Gathers
 pub mod Route

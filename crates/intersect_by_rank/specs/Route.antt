@@ -8,8 +8,8 @@ use mathlib.Core.List.{List}
 use lib.Dec.{ltb}
 use Rattle.mask.specs.declared.Form.{Form}
 use Rattle.mask.specs.Operand.{lengthOf, countOf, empty, full, isList}
-use Rattle.intersect_by_rank.specs.declared.deposit.Way.{Way}
-use Rattle.intersect_by_rank.specs.declared.deposit.Way.the-variants.{Network, Loop}
+use Rattle.kernels.specs.declared.Way.{Way}
+use Rattle.kernels.specs.declared.Way.the-variants.{Network, Loop}
 use Rattle.intersect_by_rank.specs.declared.Factors.{Factors}
 use Rattle.intersect_by_rank.specs.declared.route.Route.{Route}
 use Rattle.intersect_by_rank.specs.declared.route.Route.the-variants.{RankMask, SelfMask, NoRows, EntryAtRank, EntryIfSet, MaskDriven, Gathered, Read}

@@ -8,12 +8,8 @@ use inner::document_factors;
 use mask::Answer;
 use mask::Form;
 
-mod deposit;
-mod driven;
 pub mod inner;
 mod judge;
-mod lay;
-mod lists;
 mod route;
 
 // What the counts are multiplied by before they are held against the lengths: 16 for the loop form, 32 for mask-driven.

@@ -7,7 +7,7 @@ ghost use denote.Ref.{now};
 ghost use Rattle.mask.specs.Operand.{lengthOf, countOf, isList};
 ghost use Rattle.intersect_by_rank.specs.Route.{wayOf, routeOf, numberOf};
 use super::Factors;
-use super::deposit::Way;
+use kernels::Way;
 use mask::Form;
 use mask::inner::count_of;
 use mask::inner::is_empty;

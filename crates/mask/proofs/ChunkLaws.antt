@@ -1,28 +1,15 @@
--- A chunk of an operand that is no list: of all rows, of none, and of a view. Each is a part of the rows, taken and dropped.
+-- A chunk of an operand that is no list: of all rows and of none, and what a chunk adds. Each is a part of the rows, taken and dropped.
 -- Assumes nothing.
 use Prim.Native.Nat.{ℕ, zero, suc, _+_, _-_, _*_, _^_, _≤_}
-use native.Mathlib.Nat.{zero-add, suc-add, pow-suc}
+use native.Mathlib.Nat.{pow-suc}
 use mathlib.Core.Path.{_≡_, refl, sym, ap, _∙_}
 use mathlib.Core.Bool.{Bool, true, false}
 use mathlib.Core.List.{List, [], _∷_, _++_}
 use native.Mathlib.Omega.{arith}
 use lib.ListN.{length, take, drop, replicate, length-take, length-drop}
-use lib.Seq.{take-nil, take-take, take-add, drop-drop}
+use lib.Seq.{take-add}
 use Rattle.rows.specs.Word.{bitsOf, wordOf}
-use Rattle.rows.specs.Words.{fit, bitsOfAll, view}
-use Rattle.rows.proofs.WordsLaws.{bitsOf-wordOf-fit, bitsOfAll-length, fit-all}
-use Rattle.rows.proofs.FitLaws.{fit-is-take}
-
--- a part of a part
-drop-take : (k j : ℕ) (s : List Bool) → drop k (take (k + j) s) ≡ take j (drop k s)
-drop-take zero j s = rw zero-add
-drop-take (suc k) j [] = rw suc-add (sym (take-nil j))
-drop-take (suc k) j (x ∷ s) = rw suc-add (drop-take k j s)
-
-part : (row n len : ℕ) (s : List Bool) → row + n ≤ len → take n (drop row (take len s)) ≡ take n (drop row s)
-part row n len s h =
-    let e : len ≡ row + (len - row) = omega arith in
-    ap (λ (k : ℕ). take n (drop row (take k s))) e ∙ ap (take n) (drop-take row (len - row) s) ∙ take-take n (len - row) (drop row s) (omega arith)
+use Rattle.rows.proofs.WordsLaws.{bitsOf-wordOf-fit, fit-all}
 
 -- the same row n times
 same-part : (b : Bool) (row n len : ℕ) → row + n ≤ len → take n (drop row (replicate len b)) ≡ replicate n b
@@ -47,14 +34,6 @@ all-chunk row n len h = omega (arith, word-true n, ap wordOf (same-part true row
 
 pub none-chunk : (row n len : ℕ) → row + n ≤ len → 0 ≡ wordOf (take n (drop row (replicate len false)))
 none-chunk row n len h = sym (ap wordOf (same-part false row n len h) ∙ word-false n)
-
-pub view-chunk : (start row n len : ℕ) (ws : List ℕ) → row + n ≤ len → start + len ≤ length ws * 64
-    → wordOf (fit n (drop (start + row) (bitsOfAll 64 ws))) ≡ wordOf (take n (drop row (view start len ws)))
-view-chunk start row n len ws h room =
-    let bs = bitsOfAll 64 ws in
-    ap wordOf
-    (fit-is-take n (drop (start + row) bs) (omega (arith, length-drop (start + row) bs, bitsOfAll-length 64 ws))
-    ∙ sym (part row n len (drop start bs) h ∙ ap (take n) (drop-drop row start bs)))
 
 -- the bits of a chunk's word are the chunk
 pub chunk-bits : (row n : ℕ) (s : List Bool) → row + n ≤ length s → bitsOf n (wordOf (take n (drop row s))) ≡ take n (drop row s)

@@ -2,23 +2,21 @@
 -- cleared bit and one chunk more do.
 -- Assumes nothing.
 use Prim.Native.Nat.{ℕ, zero, suc, _+_, _-_, _^_, _≤_, _<_}
-use native.Mathlib.Nat.{zero-add, add-zero, suc-add, add-suc, le-of-suc-le-suc}
+use native.Mathlib.Nat.{zero-add, le-of-suc-le-suc}
 use mathlib.Core.Path.{_≡_, refl, sym, ap, ap₂, _∙_}
-use mathlib.Core.Bool.{Bool, true, false}
+use mathlib.Core.Bool.{Bool}
 use mathlib.Core.List.{List, [], _∷_, _++_}
 use native.Mathlib.Omega.{arith}
-use lib.ListN.{length, take, drop, getD, set, replicate, length-take, take-append-drop}
+use lib.ListN.{length, take, drop, getD, set, length-take}
 use lib.Seq.{take-suc, length-take-le}
 use lib.Bits.{bitAnd}
 use lib.Count.{trailingZeros}
 use Rattle.rows.specs.Rows.{count, splice}
 use Rattle.rows.specs.Word.{bitsOf, wordOf}
-use Rattle.rows.specs.Words.{fit}
 use Rattle.rows.specs.Lists.{setRows}
 use Rattle.rows.proofs.RowLaws.{count-append}
 use Rattle.rows.proofs.SpliceLaws.{over-nil, splice-append, splice-eq}
-use Rattle.rows.proofs.WordsLaws.{bitsOf-wordOf-fit}
-use Rattle.rows.proofs.FitLaws.{zero-word}
+use Rattle.rows.proofs.PartLaws.{rows-append, rows-word}
 use Rattle.rows.proofs.ListLaws.{rows-count}
 use Rattle.rows.proofs.ClearLaws.{rows-low}
 use Rattle.mask.proofs.ChunkLaws.{chunk-next}
@@ -52,31 +50,7 @@ pub bit-turn : (w base n p : ℕ) (out : List ℕ) → 0 < n → n < 2 ^ w → p
 bit-turn w base n p out h l r =
     sym (ap (splice p out) (rows-low base w n h l) ∙ splice-cons p out (base + trailingZeros w n) (setRows base (bitsOf w (bitAnd n (n - 1)))) r)
 
--- a word of 0 has no rows
-pub rows-zero : (b w : ℕ) → setRows b (bitsOf w 0) ≡ []
-rows-zero b w = ap (setRows b) (zero-word w) ∙ none b w
-  where
-    none : (b n : ℕ) → setRows b (replicate n false) ≡ []
-    none b zero = refl
-    none b (suc n) = none (suc b) n
-
 -- ---- chunk after chunk
-
-pub rows-append : (b : ℕ) (s t : List Bool) → setRows b (s ++ t) ≡ setRows b s ++ setRows (b + length s) t
-rows-append b [] t = rw add-zero
-rows-append b (false ∷ s) t = rows-append (suc b) s t ∙ ap (λ (k : ℕ). setRows (suc b) s ++ setRows k t) (suc-add b (length s) ∙ sym (add-suc b (length s)))
-rows-append b (true ∷ s) t = ap (λ (l : List ℕ). b ∷ l) (rows-append (suc b) s t ∙ ap (λ (k : ℕ). setRows (suc b) s ++ setRows k t) (suc-add b (length s) ∙ sym (add-suc b (length s))))
-
-rows-fit : (b m : ℕ) (s : List Bool) → length s ≤ m → setRows b (fit m s) ≡ setRows b s
-rows-fit b zero [] h = refl
-rows-fit b zero (x ∷ s) h = absurd (omega arith)
-rows-fit b (suc m) [] h = rows-fit (suc b) m [] (omega arith)
-rows-fit b (suc m) (false ∷ s) h = rows-fit (suc b) m s (le-of-suc-le-suc h)
-rows-fit b (suc m) (true ∷ s) h = ap (λ (l : List ℕ). b ∷ l) (rows-fit (suc b) m s (le-of-suc-le-suc h))
-
--- the rows of a chunk's word are the chunk's
-pub rows-word : (b w : ℕ) (s : List Bool) → length s ≤ w → setRows b (bitsOf w (wordOf s)) ≡ setRows b s
-rows-word b w s h = ap (setRows b) (bitsOf-wordOf-fit w s) ∙ rows-fit b w s h
 
 count-word : (w : ℕ) (s : List Bool) → length s ≤ w → count (bitsOf w (wordOf s)) ≡ count s
 count-word w s h = sym (rows-count 0 (bitsOf w (wordOf s))) ∙ ap length (rows-word 0 w s h) ∙ rows-count 0 s
@@ -100,10 +74,6 @@ module _ (w row n : ℕ) (rows : List Bool) (short : n ≤ w) (room : row + n �
       ap₂ (λ (k : ℕ) (l : List ℕ). splice k (splice 0 out (setRows 0 done)) l) (sym (zero-add (length (setRows 0 done)) ∙ rows-count 0 done)) (rows-word row w piece piece-length)
       ∙ splice-append 0 out (setRows 0 done) (setRows row piece)
       ∙ ap (splice 0 out) (sym (ap (setRows 0) (chunk-next row n rows) ∙ rows-append 0 done piece ∙ ap (λ (k : ℕ). setRows 0 done ++ setRows k piece) (zero-add (length done) ∙ long)))
-
--- what is passed has no more set rows than all
-pub count-part : (n : ℕ) (s : List Bool) → count (take n s) ≤ count s
-count-part n s = omega (arith, count-append (take n s) (drop n s), ap count (take-append-drop n s))
 
 -- all rows over the front of the output, later entries as they were
 pub list-front : (out : List ℕ) (rs : List ℕ) (n : ℕ) → length rs ≡ n → n ≤ length out → splice 0 out rs ≡ rs ++ drop n out

@@ -26,7 +26,7 @@ use Rattle.mask.specs.declared.Summary.{Summary}
 use Rattle.mask.specs.Answer.{answered}
 use Rattle.mask.specs.Operand.{Accepted}
 use Rattle.mask.proofs.Theorems.{Bare}
-use Rattle.intersect_by_rank.specs.declared.deposit.Way.the-variants.{Network, Loop}
+use Rattle.kernels.specs.declared.Way.the-variants.{Network, Loop}
 use Rattle.intersect_by_rank.specs.declared.route.Route.{Route}
 use Rattle.intersect_by_rank.specs.declared.route.Route.the-variants.{RankMask, SelfMask, NoRows, EntryAtRank, EntryIfSet, MaskDriven, Gathered, Read}
 use Rattle.intersect_by_rank.specs.Route.{published, routeOf, numberOf}

@@ -98,7 +98,7 @@ intersect-bit-buffer-by-rank-indices-requires c κs =
     let a = s .args in
     let f = subst (λ (q : Route). Fits q (a .s) (now (a .srows)) (a .r) (now (a .rrows))) (c .before .before .route .given .1) (s .pre .1) in
     let l = in-words (a .s) (now (a .swords)) (now (a .srows)) (f .0) (s .pre .0 .self) in
-    rw (c .before .before .before .before .before .before .length-of .ensures, c .before .before .before .before .before .start-of .ensures) (l .few, l .reach, s .pre .2, s .pre .3, words-ascends (a .s) (now (a .swords)) (now (a .srows)) (a .r) (now (a .rwords)) (now (a .rrows)) (s .pre .0) (f .0) (f .1))
+    rw (c .before .before .before .before .before .before .length-of .ensures, c .before .before .before .before .before .start-of .ensures) (l .start, l .few, l .reach, s .pre .2, s .pre .3, words-ascends (a .s) (now (a .swords)) (now (a .srows)) (a .r) (now (a .rwords)) (now (a .rrows)) (s .pre .0) (f .0) (f .1))
 
 enum-known-route-2 : tie.Need-enum-known-route-2
 enum-known-route-2 c = search needs
@@ -109,7 +109,8 @@ intersect-bit-buffers-requires c κs =
     let a = s .args in
     let f = subst (λ (q : Route). Fits q (a .s) (now (a .srows)) (a .r) (now (a .rrows))) (c .before .before .route2 .given .1) (s .pre .1) in
     let l = in-words (a .s) (now (a .swords)) (now (a .srows)) (f .0) (s .pre .0 .self) in
-    rw (c .before .before .before .before .before .before .length-of .ensures, c .before .before .before .before .before .start-of .ensures) (l .few, l .reach, s .pre .2, s .pre .3)
+    let m = in-words (a .r) (now (a .rwords)) (now (a .rrows)) (f .1) (s .pre .0 .rank) in
+    rw (c .before .before .before .before .before .before .length-of .ensures, c .before .before .before .before .before .start-of .ensures, c .before .before .before .before .start-of2 .ensures) (l .start, l .few, l .reach, m .start, s .pre .2, s .pre .3)
 
 same-length : tie.Need-same-length
 same-length c = search needs

@@ -2,7 +2,8 @@
 -- By the chunk law of the form that the match tells; a list is ruled out. Assumes nothing.
 use mathlib.Core.Path.{_∙_}
 use denote.Ref.{now}
-use Rattle.mask.proofs.ChunkLaws.{all-chunk, none-chunk, view-chunk}
+use Rattle.rows.proofs.PartLaws.{view-chunk}
+use Rattle.mask.proofs.ChunkLaws.{all-chunk, none-chunk}
 use borrow.Author.Needs.{needs}
 use Rattle.mask.proofs.inner.chunk_of.Statement.{statement}
 use Rattle.mask.proofs.inner.chunk_of.Tie as tie

@@ -14,7 +14,8 @@ use Rattle.rows.specs.Lists.{setRows}
 use Rattle.rows.proofs.SpliceLaws.{splice-nil}
 use Rattle.rows.proofs.ListLaws.{rows-count}
 use Rattle.rows.proofs.ClearLaws.{count-low}
-use Rattle.mask.proofs.ListOutLaws.{bit-turn, rows-zero}
+use Rattle.rows.proofs.PartLaws.{rows-zero}
+use Rattle.mask.proofs.ListOutLaws.{bit-turn}
 use borrow.Author.Needs.{needs}
 use Rattle.mask.proofs.list.list_chunk.Statement.{statement}
 use Rattle.mask.proofs.list.list_chunk.Tie as tie

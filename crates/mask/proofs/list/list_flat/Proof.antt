@@ -14,7 +14,8 @@ use Rattle.rows.specs.Lists.{setRows}
 use Rattle.rows.proofs.SpliceLaws.{splice-nil, splice-length}
 use Rattle.mask.specs.Operand.{rowsOf, lengthOf}
 use Rattle.mask.proofs.OperandLaws.{flat-length, flat-limit}
-use Rattle.mask.proofs.ListOutLaws.{list-count, list-turn, count-part}
+use Rattle.rows.proofs.PartLaws.{count-part}
+use Rattle.mask.proofs.ListOutLaws.{list-count, list-turn}
 use borrow.Author.Needs.{needs}
 use Rattle.mask.proofs.list.list_flat.Statement.{statement}
 use Rattle.mask.proofs.list.list_flat.Tie as tie

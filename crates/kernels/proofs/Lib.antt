@@ -1,0 +1,4 @@
+pub mod DepositLaws
+pub mod DrivenLaws
+pub mod GatherLaws
+pub mod ListLaws

@@ -1,0 +1,46 @@
+-- `kernels::driven::mark_rank` meets its contract.
+-- The row that is found is the rank's, and it is within, so that its bit has room. Assumes nothing.
+use Prim.Native.Nat.{ℕ, _+_}
+use mathlib.Core.Path.{ap, _∙_}
+use mathlib.Core.Bool.{true}
+use mathlib.Core.List.{[], _∷_}
+use native.Mathlib.Omega.{arith}
+use borrow.Author.Needs.{needs}
+use denote.Ref.{now}
+use Rattle.rows.specs.Laid.{laid}
+use Rattle.kernels.proofs.DrivenLaws.{view-few, view-row}
+use Rattle.kernels.proofs.driven.mark_rank.Statement.{statement}
+use Rattle.kernels.proofs.driven.mark_rank.Tie as tie
+
+seek-requires : tie.Need-seek-requires
+seek-requires c κs = search needs
+
+row-in-requires : tie.Need-row-in-requires
+row-in-requires c κs = search needs
+
+-- the row's bit has room. So has the rank's, by `view-few`: were it marked instead, only the promise would fail
+add-set-bit : tie.Need-add-set-bit
+add-set-bit c =
+    let s = c .before .before .before .before .before .before in
+    let a = s .args in
+    omega (arith, c .before .before .row-in .ensures, view-row (a .start) (a .len) (now (a .words)) (s .pre .0 .1) (a .rank .0) (s .pre .4), view-few (a .start) (a .len) (now (a .words)) (s .pre .0 .1))
+
+set-bit-requires : tie.Need-set-bit-requires
+set-bit-requires c κs =
+    let s = c .before .before .before .before .before .before in
+    let a = s .args in
+    omega (arith, c .before .before .row-in .ensures, view-row (a .start) (a .len) (now (a .words)) (s .pre .0 .1) (a .rank .0) (s .pre .4), view-few (a .start) (a .len) (now (a .words)) (s .pre .0 .1))
+
+same-length : tie.Need-same-length
+same-length c = search needs
+
+returns : tie.Need-returns
+returns c =
+    let a = c .before .before .before .before .before .before .before .before .before .args in
+    let h = c .before .before .before .before .before .before .seek .ensures in
+    (h .walked, h .reached, c .before .before .set-bit .ensures ∙ ap (λ (r : ℕ). laid (a .at + r) (true ∷ []) (now (a .out))) (c .before .before .before .before .before .row-in .ensures))
+
+pub mark-rank-spec : {M : Type 1} → statement M
+mark-rank-spec =
+    tie.close
+    (tie.spec seek-requires row-in-requires add-set-bit set-bit-requires same-length returns)

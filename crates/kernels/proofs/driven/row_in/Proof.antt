@@ -1,0 +1,66 @@
+-- `kernels::driven::row_in` meets its contract.
+-- The row is the chunk's first, and the place of the rank that is left in the chunk's word. Assumes nothing.
+use Prim.Native.Nat.{ℕ, _+_, _-_}
+use mathlib.Core.Path.{sym, ap, _∙_}
+use native.Mathlib.Omega.{arith}
+use borrow.Author.Needs.{needs}
+use denote.Ref.{now}
+use Rattle.rows.specs.Word.{bitsOf}
+use Rattle.rows.specs.Words.{view}
+use Rattle.rows.specs.Lists.{select}
+use Rattle.rows.proofs.WordsLaws.{view-length}
+use Rattle.kernels.proofs.DrivenLaws.{chunk-count, chunk-few, place-in, left-in, row-of}
+use Rattle.kernels.proofs.driven.row_in.Statement.{statement}
+use Rattle.kernels.proofs.driven.row_in.Tie as tie
+
+sub-left : tie.Need-sub-left
+sub-left c = search needs
+
+cast-left : tie.Need-cast-left
+cast-left c =
+    let s = c .before .before .before in
+    let a = s .args in
+    let v = view (a .start) (a .len) (now (a .words)) in
+    omega (arith, left-in v (a .place) (a .rank) (s .pre .1), chunk-few v (a .place .done .0))
+
+chunk-at-requires : tie.Need-chunk-at-requires
+chunk-at-requires c κs =
+    let s = c .before .before .before in
+    let a = s .args in
+    (s .pre .0 .1, omega (arith, place-in (view (a .start) (a .len) (now (a .words))) (a .place) (a .rank) (s .pre .1), view-length (a .start) (a .len) (now (a .words)) (s .pre .0 .1)))
+
+select-bit-position-requires : tie.Need-select-bit-position-requires
+select-bit-position-requires c κs =
+    let s = c .before .before .before .before in
+    let a = s .args in
+    let v = view (a .start) (a .len) (now (a .words)) in
+    omega (arith, left-in v (a .place) (a .rank) (s .pre .1), chunk-count v (a .place .done .0) (c .chunk-at .result) (c .chunk-at .ensures))
+
+cast-row : tie.Need-cast-row
+cast-row c = search needs
+
+add-row : tie.Need-add-row
+add-row c =
+    let s = c .before .before .before .before .before in
+    let a = s .args in
+    omega (arith, place-in (view (a .start) (a .len) (now (a .words))) (a .place) (a .rank) (s .pre .1), view-length (a .start) (a .len) (now (a .words)) (s .pre .0 .1), c .select-bit-position .ok)
+
+returns : tie.Need-returns
+returns c =
+    let s = c .before .before .before .before .before in
+    let a = s .args in
+    let v = view (a .start) (a .len) (now (a .words)) in
+    ap (λ (k : ℕ). a .place .done .0 + k) (c .select-bit-position .ensures ∙ ap (λ (x : ℕ). select (bitsOf 64 x) (a .rank .0 - a .place .passed .0)) (c .before .chunk-at .ensures))
+    ∙ sym (row-of v (a .place) (a .rank) (s .pre .1))
+
+pub row-in-spec : {M : Type 1} → statement M
+row-in-spec =
+    tie.close
+    (tie.spec
+    sub-left
+    cast-left
+    chunk-at-requires
+    select-bit-position-requires
+    cast-row
+    add-row
+    returns)

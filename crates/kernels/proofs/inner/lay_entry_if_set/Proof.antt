@@ -1,0 +1,41 @@
+-- `kernels::inner::lay_entry_if_set` meets its contract.
+-- The rows of the composition, marked where the part was cleared, are the composition laid there. Assumes nothing.
+use mathlib.Core.Path.{ap, _∙_}
+use mathlib.Core.Bool.{false}
+use native.Mathlib.Omega.{arith}
+use lib.ListN.{length, drop, replicate}
+use denote.Ref.{now}
+use Rattle.rows.specs.Rows.{compose}
+use Rattle.rows.specs.Words.{bitsOfAll}
+use Rattle.rows.specs.Lists.{listed, setRows, member}
+use Rattle.rows.specs.Laid.{marked}
+use Rattle.rows.proofs.ListLaws.{tab-length}
+use Rattle.rows.proofs.LaidLaws.{laid-length}
+use Rattle.kernels.proofs.ListLaws.{marked-compose}
+use borrow.Author.Needs.{needs}
+use Rattle.kernels.proofs.inner.lay_entry_if_set.Statement.{statement}
+use Rattle.kernels.proofs.inner.lay_entry_if_set.Tie as tie
+
+clear-requires : tie.Need-clear-requires
+clear-requires c κs = (omega (arith, c .before .before .before .before .pre .1), c .before .before .before .before .pre .2)
+
+intersect-indices-by-rank-bits-requires : tie.Need-intersect-indices-by-rank-bits-requires
+intersect-indices-by-rank-bits-requires c κs =
+    let s = c .before .before .before .before .before .before .before .before in
+    (s .pre .0, omega (arith, s .pre .1, ap length (c .before .before .before .clear .ensures), laid-length 64 (s .args .at) (replicate (s .args .len) false) (now (s .args .out))), s .pre .2)
+
+same-length : tie.Need-same-length
+same-length c = search needs
+
+returns : tie.Need-returns
+returns c =
+    let s = c .before .before .before .before .before .before .before .before .before .before .before in
+    let a = s .args in
+    let self = listed (a .len) (now (a .rows)) in
+    let rank = drop (a .from) (bitsOfAll 64 (now (a .ranks))) in
+    c .before .before .intersect-indices-by-rank-bits .ensures ∙ ap (marked (a .at) (setRows 0 (compose self rank))) (c .before .before .before .before .before .before .clear .ensures)
+    ∙ marked-compose (a .at) (a .len) self rank (now (a .out)) (tab-length 0 (a .len) (λ i. member i (now (a .rows))))
+
+pub lay-entry-if-set-spec : {M : Type 1} → statement M
+lay-entry-if-set-spec =
+    tie.close (tie.spec clear-requires intersect-indices-by-rank-bits-requires same-length returns)

@@ -1,0 +1,141 @@
+// Routes 7 to 10: self a chunk of 64 rows at a time, the rank bits for it gathered from a list or read from words, then
+// deposited. The rank bits for a chunk start at the count of the chunks before it.
+ghost use mathlib.Core.Path.{_≡_};
+ghost use Prim.Native.Nat.{_+_, _*_, _^_, _≤_, _<_};
+ghost use lib.ListN.{length, take, drop};
+ghost use lib.Count.{ones};
+ghost use denote.Ref.{now};
+ghost use Rattle.rows.specs.Rows.{count, compose};
+ghost use Rattle.rows.specs.Word.{bitsOf, wordOf};
+ghost use Rattle.rows.specs.Words.{Below, fit, bitsOfAll, view};
+ghost use Rattle.rows.specs.Lists.{listed, Ascending};
+ghost use Rattle.rows.specs.Pdep.{pdep};
+ghost use Rattle.rows.specs.Laid.{laid};
+ghost use Rattle.kernels.specs.Gathers.{Climbs, Gathers};
+use super::Way;
+use lent::inner::chunk;
+use lent::inner::chunk_len;
+use lent::inner::put;
+use lent::inner::read;
+use rows::Rank;
+use rows::Row;
+use word::inner::deposit_portable;
+use word::inner::deposit_portable_loop;
+
+fn deposit_bits(way: Way, source: u64, mask: u64, count: u32) -> u64
+    requires { ⌜ count ≡ ones mask ⌝ }
+    ensures { λ r. ⌜ r ≡ pdep 64 source mask ⌝ }
+{
+    match way {
+        Way::Network => deposit_portable(source, mask, count),
+        Way::Loop => deposit_portable_loop(source, mask, count),
+    }
+}
+
+// Up to 64 rows of self from a row on.
+fn self_chunk(words: &[u64], start: u64, row: Row, n: u64) -> u64
+    requires { ⌜ (0 < n) × (n ≤ 64) ⌝ }
+    ensures { λ r. ⌜ r ≡ wordOf (fit n (drop (start + row .0) (bitsOfAll 64 (now (words .entry))))) ⌝ }
+{
+    let at = row.0;
+    chunk(words, start, at, n)
+}
+
+// The rank bits from a rank on.
+fn rank_bits(ranks: &[u64], from: u64, rank: Rank) -> u64
+    ensures { λ r. ⌜ r ≡ wordOf (fit 64 (drop (from + rank .0) (bitsOfAll 64 (now (ranks .entry))))) ⌝ }
+{
+    let at = rank.0;
+    read(ranks, from, at)
+}
+
+// The rows of one chunk whose rank bits are set, laid from bit at on.
+fn push_result_chunk(way: Way, mask: u64, n: u64, source: u64, at: u64, out: &mut [u64])
+    requires { ⌜ (0 < n) × (n ≤ 64) × (at + n ≤ length (now out) * 64) ⌝ }
+    ensures { λ _. ⌜ now (out .exit) ≡ laid at (bitsOf n (pdep 64 source mask)) (now (out .entry)) ⌝ }
+{
+    put(
+        out,
+        at,
+        n,
+        deposit_bits(way, source, mask, u64::count_ones(mask)),
+    );
+}
+
+// Routes 9 and 10: rank read at the running popcount, then deposit.
+pub fn read_chunks(
+    way: Way,
+    words: &[u64],
+    start: u64,
+    len: u64,
+    ranks: &[u64],
+    from: u64,
+    at: u64,
+    out: &mut [u64],
+)
+    requires { ⌜ (len ≤ 1048576) × (start + len ≤ length (now words) * 64) × (at + len ≤ length (now out) * 64) × (at + len < 2 ^ 64) ⌝ }
+    ensures { λ _. ⌜ now (out .exit) ≡ laid at (compose (view start len (now (words .entry))) (drop from (bitsOfAll 64 (now (ranks .entry))))) (now (out .entry)) ⌝ }
+{
+    let mut row = Row(0);
+    let mut rank = Rank(0);
+    while row.0 < len {
+        let n = chunk_len(len, row.0);
+        let mask = self_chunk(words, start, row, n);
+        let source = rank_bits(ranks, from, rank);
+        push_result_chunk(way, mask, n, source, at + row.0, out);
+        rank = Rank(rank.0 + u64::count_ones(mask) as u64);
+        row = Row(row.0 + n);
+    }
+}
+
+// The rank bits of one chunk, gathered, and the entry after them.
+pub struct Gathered {
+    pub bits: u64,
+    pub next: usize,
+}
+
+fn rank_bits_for_chunk(ranks: &[u32], next: usize, rank: Rank, set: u64) -> Gathered
+    requires { ⌜ (set ≤ 64) × (rank .0 + set < 2 ^ 64) × (next ≤ length (now ranks)) × Below (rank .0) (take next (now ranks)) × Climbs (rank .0) (drop next (now ranks)) ⌝ }
+    ensures { λ r. ⌜ Gathers (rank .0) set (now (ranks .entry)) (r .bits) (r .next) ⌝ }
+{
+    let base = rank.0;
+    let mut bits: u64 = 0;
+    let mut j = next;
+    while j < ranks.len() {
+        let entry = ranks[j] as u64;
+        if entry >= base + set {
+            return Gathered { bits, next: j };
+        }
+        bits |= 1u64 << (entry - base);
+        j += 1;
+    }
+    Gathered { bits, next: j }
+}
+
+// Routes 7 and 8: rank bits gathered per word, then deposit.
+pub fn gather_chunks(
+    way: Way,
+    words: &[u64],
+    start: u64,
+    len: u64,
+    ranks: &[u32],
+    at: u64,
+    out: &mut [u64],
+)
+    requires { ⌜ (len ≤ 1048576) × (start + len ≤ length (now words) * 64) × (at + len ≤ length (now out) * 64) × (at + len < 2 ^ 64) × Ascending 0 (count (view start len (now words))) (now ranks) ⌝ }
+    ensures { λ _. ⌜ now (out .exit) ≡ laid at (compose (view start len (now (words .entry))) (listed (count (view start len (now (words .entry)))) (now (ranks .entry)))) (now (out .entry)) ⌝ }
+{
+    let mut row = Row(0);
+    let mut rank = Rank(0);
+    let mut next: usize = 0;
+    while row.0 < len {
+        let n = chunk_len(len, row.0);
+        let mask = self_chunk(words, start, row, n);
+        let set = u64::count_ones(mask) as u64;
+        let gathered = rank_bits_for_chunk(ranks, next, rank, set);
+        push_result_chunk(way, mask, n, gathered.bits, at + row.0, out);
+        next = gathered.next;
+        rank = Rank(rank.0 + set);
+        row = Row(row.0 + n);
+    }
+}

@@ -1,0 +1,166 @@
+// Mask-driven, route 6: self is walked by the counts of its chunks to each set rank, and the row is selected in the chunk.
+ghost use mathlib.Core.Path.{_≡_};
+ghost use mathlib.Core.Bool.{true};
+ghost use mathlib.Core.List.{[], _∷_, map};
+ghost use Prim.Native.Nat.{_+_, _*_, _^_, _≤_, _<_};
+ghost use lib.ListN.{length};
+ghost use denote.Ref.{now};
+ghost use Rattle.rows.specs.Rows.{count, compose};
+ghost use Rattle.rows.specs.Word.{bitsOf, wordOf};
+ghost use Rattle.rows.specs.Words.{view};
+ghost use Rattle.rows.specs.Lists.{listed, Ascending, setRows, select};
+ghost use Rattle.rows.specs.Laid.{laid, marked};
+ghost use Rattle.kernels.specs.Driven.{chunkAt, Walked, Holds, InView, Room};
+use lent::inner::chunk;
+use lent::inner::chunk_len;
+use lent::inner::set_bit;
+use rows::Rank;
+use rows::Row;
+use word::inner::select_bit_position;
+
+// A place in the walk over self: the first row not passed, a chunk's first, and its rank, the set rows before it.
+pub struct Place {
+    pub done: Row,
+    pub passed: Rank,
+}
+
+// The chunk from bit i of a view on.
+fn chunk_at(words: &[u64], start: u64, len: u64, i: u64) -> u64
+    requires { ⌜ (start + len ≤ length (now words) * 64) × (i < len) ⌝ }
+    ensures { λ r. ⌜ r ≡ wordOf (chunkAt (view start len (now (words .entry))) i) ⌝ }
+{
+    chunk(words, start, i, chunk_len(len, i))
+}
+
+// From a place that is not past the rank on, the place whose chunk holds it.
+fn seek(words: &[u64], start: u64, len: u64, from: Place, rank: Rank) -> Place
+    requires { ⌜ InView start len (now words) × Walked (view start len (now words)) from × (from .passed .0 ≤ rank .0) × (rank .0 < count (view start len (now words))) ⌝ }
+    ensures { λ r. ⌜ Holds (view start len (now (words .entry))) r rank ⌝ }
+{
+    let mut done = from.done.0;
+    let mut passed = from.passed.0;
+    loop {
+        let count = u64::count_ones(chunk_at(words, start, len, done)) as u64;
+        if rank.0 < passed + count {
+            return Place {
+                done: Row(done),
+                passed: Rank(passed),
+            };
+        }
+        passed += count;
+        done += 64;
+    }
+}
+
+// The row of a rank that the chunk at the place holds.
+fn row_in(words: &[u64], start: u64, len: u64, place: Place, rank: Rank) -> Row
+    requires { ⌜ InView start len (now words) × Holds (view start len (now words)) place rank ⌝ }
+    ensures { λ r. ⌜ r .0 ≡ select (view start len (now (words .entry))) (rank .0) ⌝ }
+{
+    let done = place.done.0;
+    let left = (rank.0 - place.passed.0) as u32;
+    let bit = select_bit_position(chunk_at(words, start, len, done), left);
+    let row = done + bit as u64;
+    Row(row)
+}
+
+// The row of one rank marked, and the place where the walk stands then.
+fn mark_rank(
+    words: &[u64],
+    start: u64,
+    len: u64,
+    from: Place,
+    rank: Rank,
+    at: u64,
+    out: &mut [u64],
+) -> Place
+    requires { ⌜ InView start len (now words) × Room at len (now out) × Walked (view start len (now words)) from
+        × (from .passed .0 ≤ rank .0) × (rank .0 < count (view start len (now words))) ⌝ }
+    ensures { λ r. ⌜ Walked (view start len (now (words .entry))) r × (r .passed .0 ≤ rank .0)
+        × (now (out .exit) ≡ laid (at + select (view start len (now (words .entry))) (rank .0)) (true ∷ []) (now (out .entry))) ⌝ }
+{
+    let place = seek(words, start, len, from, rank);
+    let row = row_in(words, start, len, place, rank);
+    set_bit(out, at + row.0);
+    place
+}
+
+// Self's rows at the listed ranks, marked: row 0 of self at bit at.
+pub fn intersect_mask_driven_list(
+    words: &[u64],
+    start: u64,
+    len: u64,
+    ranks: &[u32],
+    at: u64,
+    out: &mut [u64],
+)
+    requires { ⌜ (start ≤ 63) × (len ≤ 1048576) × (start + len ≤ length (now words) * 64) × Ascending 0 (count (view start len (now words))) (now ranks)
+        × (at + len ≤ length (now out) * 64) × (at + len < 2 ^ 64) ⌝ }
+    ensures { λ _. ⌜ now (out .exit) ≡ marked at (setRows 0 (compose (view start len (now (words .entry)))
+        (listed (count (view start len (now (words .entry)))) (now (ranks .entry))))) (now (out .entry)) ⌝ }
+{
+    let mut place = Place {
+        done: Row(0),
+        passed: Rank(0),
+    };
+    let mut i: usize = 0;
+    while i < ranks.len() {
+        let rank = ranks[i] as u64;
+        place = mark_rank(words, start, len, place, Rank(rank), at, out);
+        i += 1;
+    }
+}
+
+// The rows of the ranks that one chunk of the rank mask sets, lowest first; rank base is the chunk's first.
+fn mark_chunk(
+    words: &[u64],
+    start: u64,
+    len: u64,
+    from: Place,
+    chunk: u64,
+    base: Rank,
+    at: u64,
+    out: &mut [u64],
+) -> Place
+    requires { ⌜ InView start len (now words) × Room at len (now out) × Walked (view start len (now words)) from × (from .passed .0 ≤ base .0)
+        × Ascending (from .passed .0) (count (view start len (now words))) (setRows (base .0) (bitsOf 64 chunk)) ⌝ }
+    ensures { λ r. ⌜ Walked (view start len (now (words .entry))) r × (r .passed .0 ≤ base .0 + 64)
+        × (now (out .exit) ≡ marked at (map (select (view start len (now (words .entry)))) (setRows (base .0) (bitsOf 64 chunk))) (now (out .entry))) ⌝ }
+{
+    let mut place = from;
+    let mut rest = chunk;
+    while rest != 0 {
+        let rank = base.0 + u64::trailing_zeros(rest) as u64;
+        place = mark_rank(words, start, len, place, Rank(rank), at, out);
+        rest = rest & (rest - 1);
+    }
+    place
+}
+
+// The same at the ranks that a mask in words sets.
+pub fn intersect_mask_driven_words(
+    words: &[u64],
+    start: u64,
+    len: u64,
+    ranks: &[u64],
+    from: u64,
+    ranklen: u64,
+    at: u64,
+    out: &mut [u64],
+)
+    requires { ⌜ (start ≤ 63) × (len ≤ 1048576) × (start + len ≤ length (now words) * 64) × (ranklen ≡ count (view start len (now words)))
+        × (from ≤ 63) × (from + ranklen ≤ length (now ranks) * 64) × (at + len ≤ length (now out) * 64) × (at + len < 2 ^ 64) ⌝ }
+    ensures { λ _. ⌜ now (out .exit) ≡ marked at (setRows 0 (compose (view start len (now (words .entry)))
+        (view from ranklen (now (ranks .entry))))) (now (out .entry)) ⌝ }
+{
+    let mut place = Place {
+        done: Row(0),
+        passed: Rank(0),
+    };
+    let mut done: u64 = 0;
+    while done < ranklen {
+        let chunk = chunk_at(ranks, from, ranklen, done);
+        place = mark_chunk(words, start, len, place, chunk, Rank(done), at, out);
+        done += 64;
+    }
+}

@@ -1,0 +1,12 @@
+// The kernels of composition by rank: document 01, part 7. Each lays its rows from any bit of the output on; what calls them has
+// checked the operands and chosen the route.
+mod deposit;
+mod driven;
+pub mod inner;
+mod lists;
+
+// The two ways to deposit: the network choice, and the loop form for a sparse self.
+pub enum Way {
+    Network,
+    Loop,
+}
