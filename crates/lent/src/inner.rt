@@ -71,19 +71,40 @@ pub fn chunk_len(len: u64, row: u64) -> u64
     64
 }
 
-// The set bits in view.
+// The set bits of the first n words: a loop of one read and one sum, which is made of vectors.
+fn count_words(words: &[u64], n: usize) -> u64
+    requires { ⌜ (n ≤ 16385) × (n ≤ length (now words)) ⌝ }
+    ensures { λ r. ⌜ r ≡ count (take (n * 64) (bitsOfAll 64 (now (words .entry)))) ⌝ }
+{
+    let mut sum: u64 = 0;
+    let mut i: usize = 0;
+    while i < n {
+        sum += u64::count_ones(words[i]) as u64;
+        i += 1;
+    }
+    sum
+}
+
+// The set bits before a bit: whole words, and then the last one cut.
+fn count_before(words: &[u64], bits: u64) -> u64
+    requires { ⌜ (bits ≤ 1048639) × (bits ≤ length (now words) * 64) ⌝ }
+    ensures { λ r. ⌜ r ≡ count (take bits (bitsOfAll 64 (now (words .entry)))) ⌝ }
+{
+    let whole = (bits / 64) as usize;
+    let sum = count_words(words, whole);
+    let rest = bits % 64;
+    if rest == 0 {
+        return sum;
+    }
+    sum + u64::count_ones(words[whole] & ones(rest)) as u64
+}
+
+// The set bits in view: those before its end less those before its start, so that no word is read at a shift.
 pub fn count_view(words: &[u64], start: u64, len: u64) -> u64
     requires { ⌜ (start ≤ 63) × (len ≤ 1048576) × (start + len ≤ length (now words) * 64) ⌝ }
     ensures { λ r. ⌜ r ≡ count (view start len (now (words .entry))) ⌝ }
 {
-    let mut sum: u64 = 0;
-    let mut row: u64 = 0;
-    while row < len {
-        let n = chunk_len(len, row);
-        sum += u64::count_ones(chunk(words, start, row, n)) as u64;
-        row += n;
-    }
-    sum
+    count_before(words, start + len) - count_before(words, start)
 }
 
 // The low n bits of bits over out, from bit at on: in one word, or in two.

@@ -1,12 +1,13 @@
 -- The laws of `compose`: its length, its rows, its count, and a mask in pieces.
 -- Assumes nothing.
 use Prim.Native.Nat.{ℕ, zero, suc, _+_, _≤_}
-use mathlib.Core.Path.{_≡_, refl, ap}
+use mathlib.Core.Path.{_≡_, refl, ap, _∙_}
 use mathlib.Core.Bool.{Bool, true, false, _&&_}
 use mathlib.Core.List.{List, [], _∷_, _++_}
 use native.Mathlib.Nat.{suc-inj, le-of-suc-le-suc}
 use native.Mathlib.Omega.{arith}
-use lib.ListN.{length, take, getD, replicate}
+use lib.ListN.{length, take, drop, getD, replicate, length-take}
+use lib.Seq.{take-add}
 use Rattle.rows.specs.Rows.{count, rankAt, compose}
 
 -- 1. length, rows, count
@@ -41,6 +42,10 @@ count-append [] t = omega arith
 count-append (false ∷ s) t = count-append s t
 count-append (true ∷ s) t = omega (arith, count-append s t)
 
+-- the rows before a row, and those from it on
+pub count-split : (m n : ℕ) (s : List Bool) → count (take (m + n) s) ≡ count (take m s) + count (take n (drop m s))
+count-split m n s = ap count (take-add m n s) ∙ count-append (take m s) (take n (drop m s))
+
 pub compose-append : (s₁ s₂ r₁ r₂ : List Bool) → length r₁ ≡ count s₁ → compose (s₁ ++ s₂) (r₁ ++ r₂) ≡ compose s₁ r₁ ++ compose s₂ r₂
 compose-append [] s₂ [] r₂ e = refl
 compose-append [] s₂ (x ∷ r₁) r₂ e = absurd (omega arith)
@@ -52,6 +57,9 @@ pub count-le-length : (s : List Bool) → count s ≤ length s
 count-le-length [] = omega arith
 count-le-length (false ∷ s) = omega (arith, count-le-length s)
 count-le-length (true ∷ s) = omega (arith, count-le-length s)
+
+pub count-take-le : (n : ℕ) (s : List Bool) → count (take n s) ≤ n
+count-take-le n s = omega (arith, count-le-length (take n s), length-take n s)
 
 -- 3. a mask that is full, or empty
 
