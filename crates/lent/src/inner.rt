@@ -8,7 +8,7 @@ ghost use lib.ListN.{length, take, drop, getD, replicate};
 ghost use denote.Ref.{now};
 ghost use Rattle.rows.specs.Rows.{count};
 ghost use Rattle.rows.specs.Word.{bitsOf, wordOf};
-ghost use Rattle.rows.specs.Words.{fit, bitsOfAll, view};
+ghost use Rattle.rows.specs.Words.{fit, bitsOfAll, view, Below};
 ghost use Rattle.rows.specs.Laid.{wordsFor, laid, lastCleared};
 ghost use Rattle.lent.specs.Read.{wordFrom};
 
@@ -123,17 +123,44 @@ pub fn put(out: &mut [u64], at: u64, n: u64, bits: u64)
     }
 }
 
-// Zeros over out, n of them, from bit at on.
+// Zeros over out, none or up to 64 of them, from bit at on.
+fn clear_some(out: &mut [u64], at: u64, n: u64)
+    requires { ⌜ (n ≤ 64) × (at + n ≤ length (now out) * 64) ⌝ }
+    ensures { λ _. ⌜ now (out .exit) ≡ laid at (replicate n false) (now (out .entry)) ⌝ }
+{
+    if n == 0 {
+        return;
+    }
+    put(out, at, n, 0);
+}
+
+// The words from first to end are 0: a loop of one store, which is made a fill of memory.
+fn clear_words(out: &mut [u64], first: usize, end: usize)
+    requires { ⌜ (first ≤ end) × (end ≤ length (now out)) × Below (2 ^ 64) (now out) ⌝ }
+    ensures { λ _. ⌜ now (out .exit) ≡ laid (first * 64) (replicate ((end - first) * 64) false) (now (out .entry)) ⌝ }
+{
+    let mut i = first;
+    while i < end {
+        out[i] = 0;
+        i += 1;
+    }
+}
+
+// Zeros over out, n of them, from bit at on: in one word; or to the end of the first, then whole words, then what is left.
 pub fn clear(out: &mut [u64], at: u64, n: u64)
     requires { ⌜ (at + n ≤ length (now out) * 64) × (at + n < 2 ^ 64) ⌝ }
     ensures { λ _. ⌜ now (out .exit) ≡ laid at (replicate n false) (now (out .entry)) ⌝ }
 {
-    let mut row: u64 = 0;
-    while row < n {
-        let k = chunk_len(n, row);
-        put(out, at + row, k, 0);
-        row += k;
+    let shift = at % 64;
+    if shift + n <= 64 {
+        clear_some(out, at, n);
+        return;
     }
+    let end = at + n;
+    let last = end % 64;
+    put(out, at, 64 - shift, 0);
+    clear_words(out, (at / 64 + 1) as usize, (end / 64) as usize);
+    clear_some(out, end - last, last);
 }
 
 // One bit set.
