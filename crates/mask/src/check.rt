@@ -43,18 +43,19 @@ pub fn check_words(operand: u8, start: u64, length: u64, claimed: u64, words: &[
     Verdict::Fine
 }
 
-// Each entry is above the one before it.
+// Each entry is above the one before it. All are looked at, whatever is found: a loop with no way out is made of vectors.
 pub fn ascends(rows: &[u32]) -> bool
     ensures { λ r. ⌜ r ≡ climbs (now (rows .entry)) ⌝ }
 {
+    let mut fine = true;
     let mut i: usize = 1;
     while i < rows.len() {
         if rows[i] <= rows[i - 1] {
-            return false;
+            fine = false;
         }
         i += 1;
     }
-    true
+    fine
 }
 
 // The last entry, if there is one, is below the length.

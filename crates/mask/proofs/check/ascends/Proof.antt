@@ -1,11 +1,14 @@
--- `mask::check::ascends` meets its contract. The invariant: the list climbs just if what is left does.
--- Assumes nothing.
-use mathlib.Core.Path.{_≡_, sym, _∙_}
-use Prim.Native.Nat.{suc, _+_, _-_, _≤_}
+-- `mask::check::ascends` meets its contract.
+-- The invariant: the list climbs just if what was passed was fine and what is left climbs. Assumes nothing.
+use mathlib.Core.Path.{_≡_, sym, ap, _∙_}
+use mathlib.Core.Bool.{Bool, false, _&&_, and-true, and-false}
+use mathlib.Core.Logic.{⊎-elim}
+use Prim.Native.Nat.{suc, _+_, _-_, _≤_, _<_}
 use native.Mathlib.Omega.{arith}
 use borrow.Author.Needs.{needs}
 use borrow.Author.Tests.{lt-ltb, le-ltb}
-use lib.ListN.{length, drop}
+use lib.Dec.{ltb}
+use lib.ListN.{length, drop, getD}
 use denote.Ref.{now}
 use Rattle.mask.specs.Operand.{climbs}
 use Rattle.mask.proofs.OperandLaws.{climbs-step, climbs-end}
@@ -13,10 +16,10 @@ use Rattle.mask.proofs.check.ascends.Statement.{statement}
 use Rattle.mask.proofs.check.ascends.Tie as tie
 
 abbrev Inv-loop : tie.InvT-loop
-Inv-loop rows i₀ i = (1 ≤ i) × (climbs rows ≡ climbs (drop (i - 1) rows))
+Inv-loop rows fine₀ i₀ fine i = (1 ≤ i) × (climbs rows ≡ (fine && climbs (drop (i - 1) rows)))
 
 abbrev μ-loop : tie.MeasureT-loop
-μ-loop rows i₀ i = length rows - i
+μ-loop rows fine₀ i₀ fine i = length rows - i
 
 loop-holds : tie.Need-loop-holds Inv-loop μ-loop
 loop-holds c = search needs
@@ -36,13 +39,6 @@ mul-if1-2 c = search needs
 shared-slice-read-if1-2 : tie.Need-shared-slice-read-if1-2 Inv-loop μ-loop
 shared-slice-read-if1-2 c = search needs
 
-returns : tie.Need-returns Inv-loop μ-loop
-returns c =
-    let rows = now (c .before .before .before .before .before .args .rows) in
-    let i = c .before .before .before .before .loop .i in
-    let k : suc (i - 1) ≡ i = omega arith in
-    sym (c .before .before .before .before .loop .inv .1 ∙ climbs-step rows (i - 1) (omega arith) ∙ rw (k, le-ltb _ _ (c .if1 .taken)))
-
 add-i : tie.Need-add-i Inv-loop μ-loop
 add-i c = search needs
 
@@ -52,15 +48,22 @@ loop-less c = search needs
 loop-again : tie.Need-loop-again Inv-loop μ-loop
 loop-again c =
     let rows = now (c .before .before .before .before .before .args .rows) in
-    let i = c .before .before .before .before .loop .i in
-    let k : suc (i - 1) ≡ i = omega arith in
-    let k2 : i + 1 - 1 ≡ i = omega arith in
-    (search needs, c .before .before .before .before .loop .inv .1 ∙ climbs-step rows (i - 1) (omega arith) ∙ rw (k, lt-ltb _ _ (c .if1 .left), k2))
+    let l = c .before .before .before .before .loop in
+    let e = getD rows (l .i - 1) 0 in
+    let f = getD rows (l .i) 0 in
+    let k : suc (l .i - 1) ≡ l .i = omega arith in
+    let k2 : l .i + 1 - 1 ≡ l .i = omega arith in
+    let step : climbs rows ≡ (l .fine && (ltb e f && climbs (drop (l .i) rows))) =
+    l .inv .1 ∙ ap (λ (b : Bool). l .fine && b) (climbs-step rows (l .i - 1) (omega arith) ∙ rw k) in
+    let falls : f ≤ e → climbs rows ≡ false = λ h. step ∙ rw (le-ltb e f h) (and-false (l .fine)) in
+    let rises : e < f → climbs rows ≡ (l .fine && climbs (drop (l .i) rows)) = λ h. step ∙ rw (lt-ltb e f h) in
+    (search needs, ⊎-elim (λ w. rw (w .1) (falls (omega (arith, w .0 .taken)))) (λ w. rw (w .1, k2) (rises (omega (arith, w .0 .left)))) (c .if1 .came))
 
-returns-2 : tie.Need-returns-2 Inv-loop μ-loop
-returns-2 c =
+returns : tie.Need-returns Inv-loop μ-loop
+returns c =
     let rows = now (c .before .before .args .rows) in
-    sym (c .before .loop .inv .1 ∙ climbs-end rows (c .before .loop .i - 1) (omega arith))
+    let l = c .before .loop in
+    sym (l .inv .1 ∙ ap (λ (b : Bool). l .fine && b) (climbs-end rows (l .i - 1) (omega arith)) ∙ and-true (l .fine))
 
 pub ascends-spec : {M : Type 1} → statement M
 ascends-spec =
@@ -74,8 +77,7 @@ ascends-spec =
     sub-if1
     mul-if1-2
     shared-slice-read-if1-2
-    returns
     add-i
     loop-less
     loop-again
-    returns-2)
+    returns)
