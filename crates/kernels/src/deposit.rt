@@ -2,16 +2,16 @@
 // deposited. The rank bits for a chunk start at the count of the chunks before it.
 ghost use mathlib.Core.Path.{_≡_};
 ghost use Prim.Native.Nat.{_+_, _*_, _^_, _≤_, _<_};
-ghost use lib.ListN.{length, take, drop};
+ghost use lib.ListN.{length, drop};
 ghost use lib.Count.{ones};
 ghost use denote.Ref.{now};
 ghost use Rattle.rows.specs.Rows.{count, compose};
 ghost use Rattle.rows.specs.Word.{bitsOf, wordOf};
-ghost use Rattle.rows.specs.Words.{Below, fit, bitsOfAll, view};
-ghost use Rattle.rows.specs.Lists.{listed, Ascending};
+ghost use Rattle.rows.specs.Words.{fit, bitsOfAll, view};
+ghost use Rattle.rows.specs.Lists.{listed};
 ghost use Rattle.rows.specs.Pdep.{pdep};
 ghost use Rattle.rows.specs.Laid.{laid};
-ghost use Rattle.kernels.specs.Gathers.{Climbs, Gathers};
+ghost use Rattle.kernels.specs.Gathers.{Parted, Gathers};
 use super::Way;
 use lent::inner::chunk;
 use lent::inner::chunk_len;
@@ -22,7 +22,7 @@ use rows::Row;
 use word::inner::deposit_portable;
 use word::inner::deposit_portable_loop;
 
-fn deposit_bits(way: Way, source: u64, mask: u64, count: u32) -> u64
+pub fn deposit_bits(way: Way, source: u64, mask: u64, count: u32) -> u64
     requires { ⌜ count ≡ ones mask ⌝ }
     ensures { λ r. ⌜ r ≡ pdep 64 source mask ⌝ }
 {
@@ -41,28 +41,24 @@ fn self_chunk(words: &[u64], start: u64, row: Row, n: u64) -> u64
     chunk(words, start, at, n)
 }
 
-// The rank bits from a rank on.
-fn rank_bits(ranks: &[u64], from: u64, rank: Rank) -> u64
+// The rank bits from a rank on. The place is one sum, so that the read has nothing else to add.
+pub fn rank_bits(ranks: &[u64], from: u64, rank: Rank) -> u64
+    requires { ⌜ from + rank .0 < 2 ^ 64 ⌝ }
     ensures { λ r. ⌜ r ≡ wordOf (fit 64 (drop (from + rank .0) (bitsOfAll 64 (now (ranks .entry))))) ⌝ }
 {
-    let at = rank.0;
-    read(ranks, from, at)
+    let at = from + rank.0;
+    read(ranks, at, 0)
 }
 
-// The rows of one chunk whose rank bits are set, laid from bit at on.
-fn push_result_chunk(way: Way, mask: u64, n: u64, source: u64, at: u64, out: &mut [u64])
-    requires { ⌜ (0 < n) × (n ≤ 64) × (at + n ≤ length (now out) * 64) ⌝ }
+// The rows of one chunk whose rank bits are set, laid from bit at on. The chunk's count comes from the caller, who needs it too.
+fn push_result_chunk(way: Way, mask: u64, set: u32, n: u64, source: u64, at: u64, out: &mut [u64])
+    requires { ⌜ (set ≡ ones mask) × (0 < n) × (n ≤ 64) × (at + n ≤ length (now out) * 64) ⌝ }
     ensures { λ _. ⌜ now (out .exit) ≡ laid at (bitsOf n (pdep 64 source mask)) (now (out .entry)) ⌝ }
 {
-    put(
-        out,
-        at,
-        n,
-        deposit_bits(way, source, mask, u64::count_ones(mask)),
-    );
+    put(out, at, n, deposit_bits(way, source, mask, set));
 }
 
-// Routes 9 and 10: rank read at the running popcount, then deposit.
+// Routes 9 and 10, chunk by chunk: rank read at the running popcount, then deposit.
 pub fn read_chunks(
     way: Way,
     words: &[u64],
@@ -73,7 +69,7 @@ pub fn read_chunks(
     at: u64,
     out: &mut [u64],
 )
-    requires { ⌜ (len ≤ 1048576) × (start + len ≤ length (now words) * 64) × (at + len ≤ length (now out) * 64) × (at + len < 2 ^ 64) ⌝ }
+    requires { ⌜ (len ≤ 1048576) × (start + len ≤ length (now words) * 64) × (from ≤ 1048639) × (at + len ≤ length (now out) * 64) × (at + len < 2 ^ 64) ⌝ }
     ensures { λ _. ⌜ now (out .exit) ≡ laid at (compose (view start len (now (words .entry))) (drop from (bitsOfAll 64 (now (ranks .entry))))) (now (out .entry)) ⌝ }
 {
     let mut row = Row(0);
@@ -81,9 +77,10 @@ pub fn read_chunks(
     while row.0 < len {
         let n = chunk_len(len, row.0);
         let mask = self_chunk(words, start, row, n);
+        let count = u64::count_ones(mask);
         let source = rank_bits(ranks, from, rank);
-        push_result_chunk(way, mask, n, source, at + row.0, out);
-        rank = Rank(rank.0 + u64::count_ones(mask) as u64);
+        push_result_chunk(way, mask, count, n, source, at + row.0, out);
+        rank = Rank(rank.0 + count as u64);
         row = Row(row.0 + n);
     }
 }
@@ -94,8 +91,14 @@ pub struct Gathered {
     pub next: usize,
 }
 
-fn rank_bits_for_chunk(ranks: &[u32], next: usize, rank: Rank, set: u64) -> Gathered
-    requires { ⌜ (set ≤ 64) × (rank .0 + set < 2 ^ 64) × (next ≤ length (now ranks)) × Below (rank .0) (take next (now ranks)) × Climbs (rank .0) (drop next (now ranks)) ⌝ }
+// Where the walk over a rank list stands: a rank, and the first entry that is not below it.
+pub struct Reached {
+    pub rank: Rank,
+    pub next: usize,
+}
+
+pub fn rank_bits_for_chunk(ranks: &[u32], next: usize, rank: Rank, set: u64) -> Gathered
+    requires { ⌜ (set ≤ 64) × (rank .0 + set < 2 ^ 64) × Parted (rank .0) next (now ranks) ⌝ }
     ensures { λ r. ⌜ Gathers (rank .0) set (now (ranks .entry)) (r .bits) (r .next) ⌝ }
 {
     let base = rank.0;
@@ -112,30 +115,33 @@ fn rank_bits_for_chunk(ranks: &[u32], next: usize, rank: Rank, set: u64) -> Gath
     Gathered { bits, next: j }
 }
 
-// Routes 7 and 8: rank bits gathered per word, then deposit.
+// Routes 7 and 8, chunk by chunk from a rank on: rank bits gathered, then deposit. Entries before next are of earlier ranks.
 pub fn gather_chunks(
     way: Way,
     words: &[u64],
     start: u64,
     len: u64,
     ranks: &[u32],
+    from: Reached,
     at: u64,
     out: &mut [u64],
 )
-    requires { ⌜ (len ≤ 1048576) × (start + len ≤ length (now words) * 64) × (at + len ≤ length (now out) * 64) × (at + len < 2 ^ 64) × Ascending 0 (count (view start len (now words))) (now ranks) ⌝ }
-    ensures { λ _. ⌜ now (out .exit) ≡ laid at (compose (view start len (now (words .entry))) (listed (count (view start len (now (words .entry)))) (now (ranks .entry)))) (now (out .entry)) ⌝ }
+    requires { ⌜ (len ≤ 1048576) × (start + len ≤ length (now words) * 64) × (at + len ≤ length (now out) * 64) × (at + len < 2 ^ 64)
+        × (from .rank .0 ≤ 1048576) × Parted (from .rank .0) (from .next) (now ranks) ⌝ }
+    ensures { λ _. ⌜ now (out .exit) ≡ laid at (compose (view start len (now (words .entry)))
+        (drop (from .rank .0) (listed (from .rank .0 + count (view start len (now (words .entry)))) (now (ranks .entry))))) (now (out .entry)) ⌝ }
 {
     let mut row = Row(0);
-    let mut rank = Rank(0);
-    let mut next: usize = 0;
+    let mut rank = from.rank;
+    let mut next = from.next;
     while row.0 < len {
         let n = chunk_len(len, row.0);
         let mask = self_chunk(words, start, row, n);
-        let set = u64::count_ones(mask) as u64;
-        let gathered = rank_bits_for_chunk(ranks, next, rank, set);
-        push_result_chunk(way, mask, n, gathered.bits, at + row.0, out);
+        let set = u64::count_ones(mask);
+        let gathered = rank_bits_for_chunk(ranks, next, rank, set as u64);
+        push_result_chunk(way, mask, set, n, gathered.bits, at + row.0, out);
         next = gathered.next;
-        rank = Rank(rank.0 + set);
+        rank = Rank(rank.0 + set as u64);
         row = Row(row.0 + n);
     }
 }

@@ -9,13 +9,17 @@ ghost use Rattle.rows.specs.Words.{bitsOfAll, view};
 ghost use Rattle.rows.specs.Lists.{listed, Ascending};
 ghost use Rattle.rows.specs.Laid.{laid};
 use super::Way;
+use super::deposit::Reached;
 use super::deposit::gather_chunks;
 use super::deposit::read_chunks;
 use super::driven::intersect_mask_driven_list;
 use super::driven::intersect_mask_driven_words;
 use super::lists::intersect_by_rank_indices;
 use super::lists::intersect_indices_by_rank_bits;
+use super::whole::gather_words;
+use super::whole::read_words;
 use lent::inner::clear;
+use rows::Rank;
 
 // Route 4.
 pub fn lay_entry_at_rank(rows: &[u32], ranks: &[u32], len: u64, at: u64, out: &mut [u64])
@@ -72,7 +76,7 @@ pub fn lay_driven_by_words(
     intersect_mask_driven_words(words, start, len, ranks, from, ranklen, at, out);
 }
 
-// Routes 7 and 8.
+// Routes 7 and 8: whole words first where self and the output begin on one.
 pub fn intersect_bit_buffer_by_rank_indices(
     way: Way,
     words: &[u64],
@@ -85,10 +89,21 @@ pub fn intersect_bit_buffer_by_rank_indices(
     requires { ⌜ (start ≤ 63) × (len ≤ 1048576) × (start + len ≤ length (now words) * 64) × (at + len ≤ length (now out) * 64) × (at + len < 2 ^ 64) × Ascending 0 (count (view start len (now words))) (now ranks) ⌝ }
     ensures { λ _. ⌜ now (out .exit) ≡ laid at (compose (view start len (now (words .entry))) (listed (count (view start len (now (words .entry)))) (now (ranks .entry)))) (now (out .entry)) ⌝ }
 {
-    gather_chunks(way, words, start, len, ranks, at, out);
+    if start + at % 64 != 0 {
+        let fresh = Reached {
+            rank: Rank(0),
+            next: 0,
+        };
+        gather_chunks(way, words, start, len, ranks, fresh, at, out);
+        return;
+    }
+    let n = (len / 64) as usize;
+    let reached = gather_words(way, words, n, ranks, (at / 64) as usize, out);
+    let done = len / 64 * 64;
+    gather_chunks(way, words, done, len - done, ranks, reached, at + done, out);
 }
 
-// Routes 9 and 10.
+// Routes 9 and 10: likewise.
 pub fn intersect_bit_buffers(
     way: Way,
     words: &[u64],
@@ -102,5 +117,21 @@ pub fn intersect_bit_buffers(
     requires { ⌜ (start ≤ 63) × (len ≤ 1048576) × (start + len ≤ length (now words) * 64) × (from ≤ 63) × (at + len ≤ length (now out) * 64) × (at + len < 2 ^ 64) ⌝ }
     ensures { λ _. ⌜ now (out .exit) ≡ laid at (compose (view start len (now (words .entry))) (drop from (bitsOfAll 64 (now (ranks .entry))))) (now (out .entry)) ⌝ }
 {
-    read_chunks(way, words, start, len, ranks, from, at, out);
+    if start + at % 64 != 0 {
+        read_chunks(way, words, start, len, ranks, from, at, out);
+        return;
+    }
+    let n = (len / 64) as usize;
+    let rank = read_words(way, words, n, ranks, from, (at / 64) as usize, out);
+    let done = len / 64 * 64;
+    read_chunks(
+        way,
+        words,
+        done,
+        len - done,
+        ranks,
+        from + rank.0,
+        at + done,
+        out,
+    );
 }

@@ -4,6 +4,7 @@ mod deposit;
 mod driven;
 pub mod inner;
 mod lists;
+mod whole;
 
 // The two ways to deposit: the network choice, and the loop form for a sparse self.
 pub enum Way {

@@ -30,7 +30,7 @@ loop-holds c =
     let s = c in
     let b = s .args .rank .0 in
     let ranks = now (s .args .ranks) in
-    (s .pre .2, gather-start b (s .args .set) (s .args .next) ranks (s .pre .3), below-more b (b + s .args .set) (take (s .args .next) ranks) (omega arith) (s .pre .3), s .pre .4)
+    (s .pre .2 .within, gather-start b (s .args .set) (s .args .next) ranks (s .pre .2 .before), below-more b (b + s .args .set) (take (s .args .next) ranks) (omega arith) (s .pre .2 .before), s .pre .2 .after)
 
 mul-entry : tie.Need-mul-entry Inv-loop μ-loop
 mul-entry c = omega arith
@@ -51,9 +51,7 @@ returns c =
     let past = climbs-past (a .rank .0) (a .rank .0 + a .set) (l .j) (now (a .ranks)) (omega arith) (omega arith) (l .inv .3) in
     record {
       is = l .inv .1 ∙ gather-end (a .rank .0) (a .set) (l .j) (now (a .ranks)) past;
-      within = l .inv .0;
-      before = l .inv .2;
-      after = past;
+      parted = record { within = l .inv .0; before = l .inv .2; after = past };
     }
 
 sub-bits : tie.Need-sub-bits Inv-loop μ-loop
@@ -97,9 +95,7 @@ returns-2 c =
     let past : Climbs (a .rank .0 + a .set) (drop (l .j) ranks) = rw none tt in
     record {
       is = l .inv .1 ∙ gather-end (a .rank .0) (a .set) (l .j) ranks past;
-      within = l .inv .0;
-      before = l .inv .2;
-      after = past;
+      parted = record { within = l .inv .0; before = l .inv .2; after = past };
     }
 
 pub rank-bits-for-chunk-spec : {M : Type 1} → statement M
