@@ -1,11 +1,11 @@
 // An operand's rows over lent words from any bit on: chunk by chunk, or, of a list, one bit a row on zeros.
 ghost use mathlib.Core.Path.{_≡_};
 ghost use mathlib.Core.List.{[]};
-ghost use Prim.Native.Nat.{_+_, _*_, _^_, _≤_, _<_};
-ghost use lib.ListN.{length};
+ghost use Prim.Native.Nat.{_+_, _*_, _%_, _^_, _≤_, _<_};
+ghost use lib.ListN.{length, take};
 ghost use denote.Ref.{now};
 ghost use Rattle.rows.specs.Lists.{listed, Ascending};
-ghost use Rattle.rows.specs.Words.{Below};
+ghost use Rattle.rows.specs.Words.{bitsOfAll, view, Below};
 ghost use Rattle.rows.specs.Laid.{laid, marked};
 ghost use Rattle.mask.specs.Operand.{rowsOf, lengthOf, Flat};
 use super::Form;
@@ -17,7 +17,7 @@ use lent::inner::put;
 use lent::inner::set_bit;
 
 // All, none or words: chunk by chunk.
-pub fn lay_flat(form: Form, words: &[u64], at: u64, out: &mut [u64])
+fn lay_chunks(form: Form, words: &[u64], at: u64, out: &mut [u64])
     requires { ⌜ Flat form (now words) × (at + lengthOf form ≤ length (now out) * 64) × (at + lengthOf form < 2 ^ 64) ⌝ }
     ensures { λ _. ⌜ now (out .exit) ≡ laid at (rowsOf form (now (words .entry)) []) (now (out .entry)) ⌝ }
 {
@@ -28,6 +28,53 @@ pub fn lay_flat(form: Form, words: &[u64], at: u64, out: &mut [u64])
         put(out, at + row, n, chunk_of(form, words, row, n));
         row += n;
     }
+}
+
+// The first n words over out from word first on: a loop of one read and one store, which is made a copy of memory.
+fn copy_words(words: &[u64], first: usize, n: usize, out: &mut [u64])
+    requires { ⌜ (n ≤ length (now words)) × (first + n ≤ length (now out)) × Below (2 ^ 64) (now out) ⌝ }
+    ensures { λ _. ⌜ now (out .exit) ≡ laid (first * 64) (take (n * 64) (bitsOfAll 64 (now (words .entry)))) (now (out .entry)) ⌝ }
+{
+    let mut i: usize = 0;
+    while i < n {
+        out[first + i] = words[i];
+        i += 1;
+    }
+}
+
+// The first len bits of words over out from the first bit of a word on: whole words, and then what is left.
+fn lay_words(words: &[u64], len: u64, at: u64, out: &mut [u64])
+    requires { ⌜ (at % 64 ≡ 0) × (len ≤ length (now words) * 64) × (at + len ≤ length (now out) * 64) × (at + len < 2 ^ 64) ⌝ }
+    ensures { λ _. ⌜ now (out .exit) ≡ laid at (view 0 len (now (words .entry))) (now (out .entry)) ⌝ }
+{
+    let whole = (len / 64) as usize;
+    let rest = len % 64;
+    copy_words(words, (at / 64) as usize, whole, out);
+    if rest == 0 {
+        return;
+    }
+    put(out, at + (len - rest), rest, words[whole]);
+}
+
+// All, none or words. Words that stand as they will stand in out are copied, all else is laid chunk by chunk.
+pub fn lay_flat(form: Form, words: &[u64], at: u64, out: &mut [u64])
+    requires { ⌜ Flat form (now words) × (at + lengthOf form ≤ length (now out) * 64) × (at + lengthOf form < 2 ^ 64) ⌝ }
+    ensures { λ _. ⌜ now (out .exit) ≡ laid at (rowsOf form (now (words .entry)) []) (now (out .entry)) ⌝ }
+{
+    let Form::Words {
+        start,
+        length,
+        claimed: _,
+    } = form
+    else {
+        lay_chunks(form, words, at, out);
+        return;
+    };
+    if start + at % 64 != 0 {
+        lay_chunks(form, words, at, out);
+        return;
+    }
+    lay_words(words, length, at, out);
 }
 
 // The bit of each listed row set, row 0 at bit at.

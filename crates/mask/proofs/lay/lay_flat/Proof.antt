@@ -1,104 +1,72 @@
--- `mask::lay::lay_flat` meets its contract.
--- The invariant: the rows before `row` are laid; a turn lays a chunk more. Assumes nothing.
-use Rattle.mask.proofs.OperandLaws.{flat-length}
-use borrow.Author.Needs.{needs}
-use Prim.Native.Nat.{ℕ, _+_, _-_, _≤_, _^_}
-use mathlib.Core.Path.{_≡_, refl, sym, ap, _∙_}
-use mathlib.Core.Bool.{Bool}
-use mathlib.Core.List.{List, []}
+-- `mask::lay::lay_flat` meets its contract: words from bit 0 at a word's first bit are copied, all else goes chunk by chunk.
+-- By the contracts of the two ways; what the match tells of the form is put into each. Assumes nothing.
+use Prim.Native.Nat.{ℕ}
+use mathlib.Core.Path.{_≡_, ap, _∙_}
 use native.Mathlib.Omega.{arith}
-use lib.ListN.{length, take, drop}
-use lib.Seq.{length-take-le, take-all}
 use denote.Ref.{now}
-use Rattle.rows.specs.Word.{bitsOf}
+use borrow.Author.Needs.{needs}
+use Rattle.rows.specs.Words.{view}
 use Rattle.rows.specs.Laid.{laid}
-use Rattle.rows.proofs.LaidLaws.{below-all, laid-nil, laid-length, laid-append}
-use Rattle.mask.specs.Operand.{rowsOf, lengthOf}
-use Rattle.mask.proofs.OperandLaws.{flat-length}
-use Rattle.mask.proofs.ChunkLaws.{chunk-bits, chunk-next}
 use Rattle.mask.proofs.lay.lay_flat.Statement.{statement}
 use Rattle.mask.proofs.lay.lay_flat.Tie as tie
 
--- `mask::lay::lay_flat` meets its contract.
--- The invariant: the rows before `row` are laid; a turn lays a chunk more. Assumes nothing.
+enum-known-form : tie.Need-enum-known-form
+enum-known-form c = search needs
 
-abbrev Inv-loop : tie.InvT-loop
-Inv-loop form words at out₀ len row₀ out row = (row ≤ len) × (len ≡ lengthOf form) × (length out ≡ length out₀) × (out ≡ laid at (take row (rowsOf form words [])) out₀)
+lay-chunks-requires : tie.Need-lay-chunks-requires
+lay-chunks-requires c κs = search needs
 
-abbrev μ-loop : tie.MeasureT-loop
-μ-loop form words at out₀ len row₀ out row = len - row
-
-length-of-requires : tie.Need-length-of-requires Inv-loop μ-loop
-length-of-requires c κs = search needs
-
-loop-holds : tie.Need-loop-holds Inv-loop μ-loop
-loop-holds c =
-    let s = c .before .before .before in
-    let out = now (s .args .out) in
-    (omega arith, c .length-of .ensures, refl, sym (laid-nil 64 (s .args .at) out (below-all (2 ^ 64) out (λ i. c .before .slice-known .given i .fits))))
-
-chunk-len-requires : tie.Need-chunk-len-requires Inv-loop μ-loop
-chunk-len-requires c κs = omega arith
-
-add-put : tie.Need-add-put Inv-loop μ-loop
-add-put c = omega (arith, c .before .before .before .loop .inv .1)
-
-chunk-of-requires : tie.Need-chunk-of-requires Inv-loop μ-loop
-chunk-of-requires c κs =
-    let s = c .before .before .before .before .before .before .before in
-    (s .pre .0, omega arith, omega arith, omega (arith, c .before .before .before .loop .inv .1))
-
-put-requires : tie.Need-put-requires Inv-loop μ-loop
-put-requires c κs = omega (arith, c .before .before .before .before .loop .inv .1, c .before .before .before .before .loop .inv .2)
-
-add-row : tie.Need-add-row Inv-loop μ-loop
-add-row c = omega (arith, c .before .before .before .before .before .before .before .loop .inv .1, c .before .before .before .before .before .before .before .before .before .before .before .pre .2)
-
-loop-less : tie.Need-loop-less Inv-loop μ-loop
-loop-less c = omega arith
-
-loop-again : tie.Need-loop-again Inv-loop μ-loop
-loop-again c =
-    let s = c .before .before .before .before .before .before .before .before .before .before .before in
-    let a = s .args in
-    let l = c .before .before .before .before .before .before .before .loop in
-    let n : ℕ = c .before .before .before .before .before .chunk-len .result in
-    let rows = rowsOf (a .form) (now (a .words)) [] in
-    let long : length rows ≡ lengthOf (a .form) = flat-length (a .form) (now (a .words)) (s .pre .0) in
-    let room : l .row + n ≤ length rows = omega (arith, l .inv .1, c .before .before .before .before .before .chunk-len .ensures) in
-    let part = take n (drop (l .row) rows) in
-    let out : c .before .before .put .last .0 ≡ laid (a .at) (take (l .row + n) rows) (now (a .out)) =
-    c .before .before .put .ensures ∙ ap (λ (x : ℕ). laid (a .at + l .row) (bitsOf n x) (l .out)) (c .before .before .before .chunk-of .ensures)
-    ∙ ap (λ (z : List Bool). laid (a .at + l .row) z (l .out)) (chunk-bits (l .row) n rows room)
-    ∙ ap (laid (a .at + l .row) part) (l .inv .3)
-    ∙ laid-append 64 (a .at) (a .at + l .row) (take (l .row) rows) part (now (a .out)) (ap (λ (x : ℕ). a .at + x) (sym (length-take-le (l .row) rows (omega arith))))
-    ∙ ap (λ (z : List Bool). laid (a .at) z (now (a .out))) (sym (chunk-next (l .row) n rows)) in
-    (omega arith, l .inv .1, ap length out ∙ laid-length 64 (a .at) (take (l .row + n) rows) (now (a .out)), out)
-
-same-length : tie.Need-same-length Inv-loop μ-loop
+same-length : tie.Need-same-length
 same-length c = search needs
 
-returns : tie.Need-returns Inv-loop μ-loop
-returns c =
+returns : tie.Need-returns
+returns c = search needs
+
+add-if1 : tie.Need-add-if1
+add-if1 c =
     let s = c .before .before .before .before .before in
-    let l = c .before .loop in
-    let rows = rowsOf (s .args .form) (now (s .args .words)) [] in
-    l .inv .3 ∙ ap (λ (z : List Bool). laid (s .args .at) z (now (s .args .out))) (take-all (l .row) rows (omega (arith, flat-length (s .args .form) (now (s .args .words)) (s .pre .0), l .inv .1)))
+    let q = rw (c .before .form .given .1) at (s .pre .0) in
+    omega (arith, q .1)
+
+lay-chunks-requires-2 : tie.Need-lay-chunks-requires-2
+lay-chunks-requires-2 c κs =
+    let s = c .before .before .before .before .before .before .before in
+    rw (c .before .before .before .form .given .1) at (s .pre)
+
+same-length-2 : tie.Need-same-length-2
+same-length-2 c = search needs
+
+returns-2 : tie.Need-returns-2
+returns-2 c = rw (c .before .before .before .before .before .before .form .given .1) (c .before .before .lay-chunks2 .ensures)
+
+lay-words-requires : tie.Need-lay-words-requires
+lay-words-requires c κs =
+    let s = c .before .before .before .before .before .before .before in
+    let q = rw (c .before .before .before .form .given .1) at (s .pre) in
+    (omega (arith, c .before .if1 .left), omega (arith, q .0 .2), q .1, q .2)
+
+same-length-3 : tie.Need-same-length-3
+same-length-3 c = search needs
+
+returns-3 : tie.Need-returns-3
+returns-3 c =
+    let a = c .before .before .before .before .before .before .before .before .before .before .args in
+    let form = c .before .before .before .before .before .before .form .given in
+    let first : 0 ≡ form .0 .0 = omega (arith, c .before .before .before .before .if1 .left) in
+    rw (form .1) (c .before .before .lay-words .ensures ∙ ap (λ (k : ℕ). laid (a .at) (view k (form .0 .1 .0) (now (a .words))) (now (a .out))) first)
 
 pub lay-flat-spec : {M : Type 1} → statement M
 lay-flat-spec =
     tie.close
     (tie.spec
-    Inv-loop
-    μ-loop
-    length-of-requires
-    loop-holds
-    chunk-len-requires
-    add-put
-    chunk-of-requires
-    put-requires
-    add-row
-    loop-less
-    loop-again
+    enum-known-form
+    lay-chunks-requires
     same-length
-    returns)
+    returns
+    add-if1
+    lay-chunks-requires-2
+    same-length-2
+    returns-2
+    lay-words-requires
+    same-length-3
+    returns-3)
