@@ -139,7 +139,7 @@ module _ (s : Form) (sws ses : List ℕ) (r : Form) (rws res : List ℕ) (p : Pa
     listed-self : rowsOf s sws ses ≡ listed (lengthOf s) ses
     listed-self = list-rows s sws ses l
 
-    list-length : lengthOf r ≡ length ses
+    pub list-length : lengthOf r ≡ length ses
     list-length = p .ranks ∙ list-count s ses l
 
     pub list-ascends : Ascending 0 (lengthOf s) ses

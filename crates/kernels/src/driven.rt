@@ -25,7 +25,7 @@ pub struct Place {
 }
 
 // The chunk from bit i of a view on.
-fn chunk_at(words: &[u64], start: u64, len: u64, i: u64) -> u64
+pub fn chunk_at(words: &[u64], start: u64, len: u64, i: u64) -> u64
     requires { ⌜ (start + len ≤ length (now words) * 64) × (i < len) ⌝ }
     ensures { λ r. ⌜ r ≡ wordOf (chunkAt (view start len (now (words .entry))) i) ⌝ }
 {

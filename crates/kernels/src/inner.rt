@@ -32,7 +32,7 @@ pub fn lay_entry_at_rank(rows: &[u32], ranks: &[u32], len: u64, at: u64, out: &m
 
 // Route 5.
 pub fn lay_entry_if_set(rows: &[u32], ranks: &[u64], from: u64, len: u64, at: u64, out: &mut [u64])
-    requires { ⌜ Ascending 0 len (now rows) × (at + len ≤ length (now out) * 64) × (at + len < 2 ^ 64) ⌝ }
+    requires { ⌜ Ascending 0 len (now rows) × (length (now rows) ≤ 1048576) × (from + length (now rows) ≤ length (now ranks) * 64) × (at + len ≤ length (now out) * 64) × (at + len < 2 ^ 64) ⌝ }
     ensures { λ _. ⌜ now (out .exit) ≡ laid at (compose (listed len (now (rows .entry))) (drop from (bitsOfAll 64 (now (ranks .entry))))) (now (out .entry)) ⌝ }
 {
     clear(out, at, len);

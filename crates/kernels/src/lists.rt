@@ -1,16 +1,17 @@
 // Routes 4 and 5: self is a list. Its rows at the listed ranks, or at the ranks that a mask in words sets, are marked one by
 // one; the caller has cleared their part.
 ghost use mathlib.Core.Path.{_≡_};
-ghost use mathlib.Core.Bool.{false};
-ghost use mathlib.Core.List.{[], _∷_};
+ghost use mathlib.Core.List.{map};
 ghost use Prim.Native.Nat.{_+_, _*_, _^_, _≤_, _<_};
 ghost use lib.ListN.{length, getD, drop};
 ghost use denote.Ref.{now};
 ghost use Rattle.rows.specs.Rows.{compose};
-ghost use Rattle.rows.specs.Words.{bitsOfAll};
+ghost use Rattle.rows.specs.Word.{bitsOf};
+ghost use Rattle.rows.specs.Words.{Below, bitsOfAll};
 ghost use Rattle.rows.specs.Lists.{listed, setRows, Ascending};
 ghost use Rattle.rows.specs.Laid.{marked};
-use lent::inner::read;
+ghost use Rattle.kernels.specs.Driven.{Room};
+use super::driven::chunk_at;
 use lent::inner::set_bit;
 use rows::Rank;
 use rows::Row;
@@ -23,25 +24,6 @@ fn entry_at(rows: &[u32], rank: Rank) -> Row
     let at = rank.0 as usize;
     let row = rows[at] as u64;
     Row(row)
-}
-
-// Rank bit j.
-fn is_set(ranks: &[u64], from: u64, rank: Rank) -> bool
-    ensures { λ r. ⌜ r ≡ getD (drop from (bitsOfAll 64 (now (ranks .entry)))) (rank .0) false ⌝ }
-{
-    let at = rank.0;
-    read(ranks, from, at) % 2 == 1
-}
-
-// The row marked if its rank is set.
-fn mark_if(out: &mut [u64], at: u64, row: Row, set: bool)
-    requires { ⌜ (at + row .0 < length (now out) * 64) × (at + row .0 < 2 ^ 64) ⌝ }
-    ensures { λ _. ⌜ now (out .exit) ≡ marked at (setRows (row .0) (set ∷ [])) (now (out .entry)) ⌝ }
-{
-    if !set {
-        return;
-    }
-    set_bit(out, at + row.0);
 }
 
 // Route 4: the self entry at each listed rank.
@@ -58,7 +40,21 @@ pub fn intersect_by_rank_indices(rows: &[u32], ranks: &[u32], len: u64, at: u64,
     }
 }
 
-// Route 5: the j-th self entry kept if rank bit j is set.
+// The self entries at the ranks that one chunk of the rank mask sets, lowest first; rank base is the chunk's first.
+fn mark_entries(rows: &[u32], len: u64, chunk: u64, base: Rank, at: u64, out: &mut [u64])
+    requires { ⌜ Below len (now rows) × Room at len (now out) × Below (length (now rows)) (setRows (base .0) (bitsOf 64 chunk)) ⌝ }
+    ensures { λ _. ⌜ now (out .exit) ≡ marked at (map (λ k. getD (now (rows .entry)) k 0) (setRows (base .0) (bitsOf 64 chunk))) (now (out .entry)) ⌝ }
+{
+    let mut rest = chunk;
+    while rest != 0 {
+        let rank = base.0 + u64::trailing_zeros(rest) as u64;
+        let row = entry_at(rows, Rank(rank));
+        set_bit(out, at + row.0);
+        rest = rest & (rest - 1);
+    }
+}
+
+// Route 5: the j-th self entry kept if rank bit j is set, the rank bits a chunk at a time.
 pub fn intersect_indices_by_rank_bits(
     rows: &[u32],
     ranks: &[u64],
@@ -67,15 +63,14 @@ pub fn intersect_indices_by_rank_bits(
     at: u64,
     out: &mut [u64],
 )
-    requires { ⌜ Ascending 0 len (now rows) × (at + len ≤ length (now out) * 64) × (at + len < 2 ^ 64) ⌝ }
+    requires { ⌜ Ascending 0 len (now rows) × (length (now rows) ≤ 1048576) × (from + length (now rows) ≤ length (now ranks) * 64) × (at + len ≤ length (now out) * 64) × (at + len < 2 ^ 64) ⌝ }
     ensures { λ _. ⌜ now (out .exit) ≡ marked at (setRows 0 (compose (listed len (now (rows .entry))) (drop from (bitsOfAll 64 (now (ranks .entry)))))) (now (out .entry)) ⌝ }
 {
-    let mut j: usize = 0;
-    while j < rows.len() {
-        let rank = j as u64;
-        let row = entry_at(rows, Rank(rank));
-        let set = is_set(ranks, from, Rank(rank));
-        mark_if(out, at, row, set);
-        j += 1;
+    let count = rows.len() as u64;
+    let mut done: u64 = 0;
+    while done < count {
+        let chunk = chunk_at(ranks, from, count, done);
+        mark_entries(rows, len, chunk, Rank(done), at, out);
+        done += 64;
     }
 }

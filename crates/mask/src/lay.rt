@@ -30,7 +30,7 @@ fn lay_chunks(form: Form, words: &[u64], at: u64, out: &mut [u64])
     }
 }
 
-// The first n words over out from word first on: a loop of one read and one store, which is made a copy of memory.
+// The first n words over out from word first on: a loop of one read and one store, which is made of vectors.
 fn copy_words(words: &[u64], first: usize, n: usize, out: &mut [u64])
     requires { ⌜ (n ≤ length (now words)) × (first + n ≤ length (now out)) × Below (2 ^ 64) (now out) ⌝ }
     ensures { λ _. ⌜ now (out .exit) ≡ laid (first * 64) (take (n * 64) (bitsOfAll 64 (now (words .entry)))) (now (out .entry)) ⌝ }

@@ -15,7 +15,7 @@ use Rattle.mask.specs.Operand.{lengthOf, startOf}
 use Rattle.intersect_by_rank.specs.declared.route.Route.{Route}
 use Rattle.intersect_by_rank.specs.Route.{Fits}
 use Rattle.intersect_by_rank.specs.Compose.{result}
-use Rattle.intersect_by_rank.proofs.FitsLaws.{in-words, by-full-self, full-length, by-full-rank, by-empty, words-ascends, words-listed, words-read, list-ascends, list-ranks, list-listed, list-read}
+use Rattle.intersect_by_rank.proofs.FitsLaws.{in-words, by-full-self, full-length, by-full-rank, by-empty, words-ascends, words-listed, words-read, list-ascends, list-length, list-ranks, list-listed, list-read}
 use borrow.Author.Needs.{needs}
 use Rattle.intersect_by_rank.proofs.inner.compose_at.Statement.{statement}
 use Rattle.intersect_by_rank.proofs.inner.compose_at.Tie as tie
@@ -76,7 +76,9 @@ lay-entry-if-set-requires c κs =
     let s = c .before .before .before .before .before .before .before .before .before .before .before in
     let a = s .args in
     let f = subst (λ (q : Route). Fits q (a .s) (now (a .srows)) (a .r) (now (a .rrows))) (c .before .enum-told5 .given .1) (s .pre .1) in
-    rw (c .before .before .before .before .before .length-of .ensures) (list-ascends (a .s) (now (a .swords)) (now (a .srows)) (a .r) (now (a .rwords)) (now (a .rrows)) (s .pre .0) (f .0), s .pre .2, s .pre .3)
+    let m = in-words (a .r) (now (a .rwords)) (now (a .rrows)) (f .1) (s .pre .0 .rank) in
+    let long = list-length (a .s) (now (a .swords)) (now (a .srows)) (a .r) (now (a .rwords)) (now (a .rrows)) (s .pre .0) (f .0) in
+    rw (c .before .before .before .before .before .length-of .ensures, c .before .before .before .start-of2 .ensures) (list-ascends (a .s) (now (a .swords)) (now (a .srows)) (a .r) (now (a .rwords)) (now (a .rrows)) (s .pre .0) (f .0), omega (arith, long, m .few), omega (arith, long, m .reach), s .pre .2, s .pre .3)
 
 enum-told-6 : tie.Need-enum-told-6
 enum-told-6 c = search needs

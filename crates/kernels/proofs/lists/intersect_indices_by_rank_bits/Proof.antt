@@ -1,69 +1,73 @@
 -- `kernels::lists::intersect_indices_by_rank_bits` meets its contract.
--- The invariant: what the ranks keep of the first j rows is marked. Assumes nothing.
-use Prim.Native.Nat.{ℕ, _-_, _≤_, _<_}
-use mathlib.Core.Path.{_≡_, refl, sym, ap, ap₂, _∙_}
-use mathlib.Core.Bool.{Bool, false}
-use mathlib.Core.List.{List, [], _∷_}
-use native.Mathlib.Numerals.{add-one}
+-- The invariant: the entries at the set ranks before `done` are marked. Assumes nothing.
+use Prim.Native.Nat.{ℕ, _-_}
+use mathlib.Core.Path.{_≡_, refl, sym, ap, _∙_}
+use mathlib.Core.Bool.{Bool}
+use mathlib.Core.List.{List, map}
 use native.Mathlib.Omega.{arith}
 use denote.Ref.{now}
 use lib.ListN.{length, take, drop, getD}
 use lib.Seq.{take-all}
-use Rattle.rows.specs.Words.{bitsOfAll}
+use Rattle.rows.specs.Rows.{count}
+use Rattle.rows.specs.Word.{bitsOf, wordOf}
+use Rattle.rows.specs.Words.{bitsOfAll, view}
 use Rattle.rows.specs.Lists.{setRows}
 use Rattle.rows.specs.Laid.{marked}
-use Rattle.rows.proofs.MarkLaws.{marked-append, marked-length, ascending-below, below-at}
-use Rattle.rows.proofs.KeptLaws.{kept}
-use Rattle.kernels.proofs.ListLaws.{kept-next, kept-all}
+use Rattle.rows.proofs.WordsLaws.{view-length}
+use Rattle.rows.proofs.MarkLaws.{marked-length, ascending-below}
+use Rattle.kernels.specs.Driven.{chunkAt}
+use Rattle.kernels.proofs.DrivenLaws.{chunk-ranks, chunk-marks}
+use Rattle.kernels.proofs.ListLaws.{rows-at-set}
 use borrow.Author.Needs.{needs}
 use Rattle.kernels.proofs.lists.intersect_indices_by_rank_bits.Statement.{statement}
 use Rattle.kernels.proofs.lists.intersect_indices_by_rank_bits.Tie as tie
 
 abbrev Inv-loop : tie.InvT-loop
-Inv-loop rows ranks from len at out₀ j₀ out j =
-    (j ≤ length rows) × (length out ≡ length out₀) × (out ≡ marked at (kept (take j rows) (drop from (bitsOfAll 64 ranks))) out₀)
+Inv-loop rows ranks from len at out₀ count done₀ out done =
+    (length out ≡ length out₀) × (out ≡ marked at (map (λ k. getD rows k 0) (setRows 0 (take done (view from (length rows) ranks)))) out₀)
 
 abbrev μ-loop : tie.MeasureT-loop
-μ-loop rows ranks from len at out₀ j₀ out j = length rows - j
+μ-loop rows ranks from len at out₀ count done₀ out done = length rows - done
 
 loop-holds : tie.Need-loop-holds Inv-loop μ-loop
-loop-holds c = (omega arith, refl, refl)
+loop-holds c = (refl, refl)
 
-entry-at-requires : tie.Need-entry-at-requires Inv-loop μ-loop
-entry-at-requires c κs = omega arith
+chunk-at-requires : tie.Need-chunk-at-requires Inv-loop μ-loop
+chunk-at-requires c κs = (c .before .before .before .before .before .pre .2, omega arith)
 
-is-set-requires : tie.Need-is-set-requires Inv-loop μ-loop
-is-set-requires c κs = tt
-
-mark-if-requires : tie.Need-mark-if-requires Inv-loop μ-loop
-mark-if-requires c κs =
-    let s = c .before .before .before .before .before .before .before .before in
+mark-entries-requires : tie.Need-mark-entries-requires Inv-loop μ-loop
+mark-entries-requires c κs =
+    let s = c .before .before .before .before .before .before .before in
     let a = s .args in
-    let l = c .before .before .before .before .loop in
-    let row : getD (now (a .rows)) (l .j) 0 < a .len = below-at (a .len) (now (a .rows)) (l .j) (ascending-below 0 (a .len) (now (a .rows)) (s .pre .0)) (omega arith) in
-    let e : c .before .before .entry-at .result .0 ≡ getD (now (a .rows)) (l .j) 0 = c .before .before .entry-at .ensures in
-    (omega (arith, s .pre .1, l .inv .1), omega (arith, s .pre .2))
+    let l = c .before .before .before .loop in
+    let n : ℕ = length (now (a .rows)) in
+    let r = view (a .from) n (now (a .ranks)) in
+    let long : length r ≡ n = view-length (a .from) n (now (a .ranks)) (s .pre .2) in
+    let ups = chunk-ranks r (l .done) 0 n (omega arith) (omega arith) (omega arith) in (
+      ascending-below 0 (a .len) (now (a .rows)) (s .pre .0),
+      (omega (arith, l .inv .0, s .pre .3), s .pre .4),
+      rw (c .before .chunk-at .ensures) (ascending-below 0 n (setRows (l .done) (bitsOf 64 (wordOf (chunkAt r (l .done))))) ups),
+    )
 
-add-j : tie.Need-add-j Inv-loop μ-loop
-add-j c = omega arith
+add-done : tie.Need-add-done Inv-loop μ-loop
+add-done c = omega (arith, c .before .before .before .before .before .before .before .before .before .before .pre .1)
 
 loop-less : tie.Need-loop-less Inv-loop μ-loop
 loop-less c = omega arith
 
 loop-again : tie.Need-loop-again Inv-loop μ-loop
 loop-again c =
-    let a = c .before .before .before .before .before .before .before .before .before .before .before .args in
-    let l = c .before .before .before .before .before .before .before .loop in
-    let rows = now (a .rows) in
-    let ranks = drop (a .from) (bitsOfAll 64 (now (a .ranks))) in
-    let e = c .before .before .mark-if .ensures in (
-      omega arith,
-      ap length e ∙ marked-length (a .at) (setRows (c .before .before .before .before .before .entry-at .result .0) (c .before .before .before .before .is-set .result ∷ [])) (l .out) ∙ l .inv .1,
-      e ∙ ap₂ (λ (x : ℕ) (b : Bool). marked (a .at) (setRows x (b ∷ [])) (l .out)) (c .before .before .before .before .before .entry-at .ensures) (c .before .before .before .before .is-set .ensures)
-          ∙ ap (λ (o : List ℕ). marked (a .at) (setRows (getD rows (l .j) 0) (getD ranks (l .j) false ∷ [])) o) (l .inv .2)
-          ∙ sym (marked-append (a .at) (kept (take (l .j) rows) ranks) (setRows (getD rows (l .j) 0) (getD ranks (l .j) false ∷ [])) (now (a .out)))
-          ∙ ap (λ (rs : List ℕ). marked (a .at) rs (now (a .out))) (sym (kept-next (l .j) rows ranks (omega arith)))
-          ∙ ap (λ (k : ℕ). marked (a .at) (kept (take k rows) ranks) (now (a .out))) (sym (add-one (l .j))),
+    let s = c .before .before .before .before .before .before .before .before .before .before in
+    let a = s .args in
+    let l = c .before .before .before .before .before .before .loop in
+    let n : ℕ = length (now (a .rows)) in
+    let f : ℕ → ℕ = λ k. getD (now (a .rows)) k 0 in
+    let r = view (a .from) n (now (a .ranks)) in
+    let long : length r ≡ n = view-length (a .from) n (now (a .ranks)) (s .pre .2) in (
+      ap length (c .before .before .mark-entries .ensures) ∙ marked-length (a .at) (map f (setRows (l .done) (bitsOf 64 (c .before .before .before .before .chunk-at .result)))) (l .out) ∙ l .inv .0,
+      c .before .before .mark-entries .ensures ∙ ap (λ (x : ℕ). marked (a .at) (map f (setRows (l .done) (bitsOf 64 x))) (l .out)) (c .before .before .before .before .chunk-at .ensures)
+          ∙ ap (marked (a .at) (map f (setRows (l .done) (bitsOf 64 (wordOf (chunkAt r (l .done))))))) (l .inv .1)
+          ∙ chunk-marks (a .at) f r (l .done) (now (a .out)) (omega arith),
     )
 
 same-length : tie.Need-same-length Inv-loop μ-loop
@@ -74,23 +78,12 @@ returns c =
     let s = c .before .before .before .before .before in
     let a = s .args in
     let l = c .before .loop in
-    let rows = now (a .rows) in
-    let ranks = drop (a .from) (bitsOfAll 64 (now (a .ranks))) in
-    l .inv .2 ∙ ap (λ (rs : List ℕ). marked (a .at) (kept rs ranks) (now (a .out))) (take-all (l .j) rows (omega arith))
-    ∙ ap (λ (rs : List ℕ). marked (a .at) rs (now (a .out))) (sym (kept-all (a .len) rows ranks (s .pre .0)))
+    let n : ℕ = length (now (a .rows)) in
+    let f : ℕ → ℕ = λ k. getD (now (a .rows)) k 0 in
+    let r = view (a .from) n (now (a .ranks)) in
+    let long : length r ≡ n = view-length (a .from) n (now (a .ranks)) (s .pre .2) in
+    l .inv .1 ∙ ap (λ (t : List Bool). marked (a .at) (map f (setRows 0 t)) (now (a .out))) (take-all (l .done) r (omega arith))
+    ∙ ap (λ (rs : List ℕ). marked (a .at) rs (now (a .out))) (sym (rows-at-set (a .len) (now (a .rows)) (drop (a .from) (bitsOfAll 64 (now (a .ranks)))) (s .pre .0)))
 
 pub intersect-indices-by-rank-bits-spec : {M : Type 1} → statement M
-intersect-indices-by-rank-bits-spec =
-    tie.close
-    (tie.spec
-    Inv-loop
-    μ-loop
-    loop-holds
-    entry-at-requires
-    is-set-requires
-    mark-if-requires
-    add-j
-    loop-less
-    loop-again
-    same-length
-    returns)
+intersect-indices-by-rank-bits-spec = tie.close (tie.spec Inv-loop μ-loop loop-holds chunk-at-requires mark-entries-requires add-done loop-less loop-again same-length returns)
