@@ -12,7 +12,8 @@ pub(crate) use types::{Mask, MaskValues, MaskValuesRef};
 pub mod private {
     include!(concat!(env!("OUT_DIR"), "/source.rs"));
 
-    /// `Portable`: the choice with the byte network.
+    /// `Portable`: the choice with the byte network. Never inlined, so that a call of it can be timed.
+    #[inline(never)]
     pub fn network_deposit(source: u64, mask: u64) -> u64 {
         Portable::deposit_bits(source, mask, mask.count_ones() as usize)
     }
@@ -27,7 +28,8 @@ pub mod private {
         ::switched_std::cpu::has_bmi2().then(|| bmi2::Bmi2::deposit_bits(source, mask, mask.count_ones() as usize))
     }
 
-    /// `select_bit_position_portable`; the rank must be below the word's count.
+    /// `select_bit_position_portable`; the rank must be below the word's count. Never inlined, as above.
+    #[inline(never)]
     pub fn portable_select(word: u64, rank: usize) -> usize {
         select_bit_position_portable(word, rank)
     }

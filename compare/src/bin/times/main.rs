@@ -1,0 +1,100 @@
+//! How long ours takes beside the Rust crate: tables on the terminal and in SPEED.md, and a plot, speed.svg. Ours is
+//! called through probe with all its checks; the crate stands on this workspace's buffers. Words: FOLDER PLACE, the
+//! folder to write to and what the program runs on.
+mod clock;
+mod compositions;
+mod masks;
+mod operations;
+mod plot;
+mod table;
+mod words;
+mod year;
+
+use std::path::Path;
+use std::{env, fs, process};
+
+use table::Part;
+
+fn main() {
+    let [folder, place] = match <[String; 2]>::try_from(env::args().skip(1).collect::<Vec<_>>()) {
+        Ok(words) => words,
+        Err(_) => {
+            eprintln!("times: two words are needed, the folder to write to and what it runs on");
+            process::exit(2);
+        }
+    };
+    println!("on {place}; the best of several turns of each");
+    let parts = timed();
+    write(&folder, "SPEED.md", &told(&place, &parts));
+    write(&folder, "speed.svg", &plot::drawing(&place, &parts));
+}
+
+fn write(folder: &str, name: &str, text: &str) {
+    let path = Path::new(folder).join(name);
+    if let Err(why) = fs::write(&path, text) {
+        eprintln!("times: {}: {why}", path.display());
+        process::exit(1);
+    }
+    println!("wrote {}", path.display());
+}
+
+const WORD: &str = "nanoseconds for each 64 rows of self";
+const PAIR: [&str; 4] = ["route", "how", "self density", "rank density"];
+
+fn timed() -> Vec<Part> {
+    let mut parts = Vec::new();
+    let mut part = |title, about, columns, unit, bound, fill: fn(&mut Part)| {
+        let mut part = Part::new(title, about, columns, unit, bound);
+        fill(&mut part);
+        parts.push(part);
+    };
+    part("Compositions", ALIGNED, &PAIR, WORD, 1.3, compositions::aligned);
+    part("Compositions, unaligned", UNALIGNED, &PAIR, WORD, 1.3, compositions::unaligned);
+    part("Set operations", OPERATIONS, &["operation", "starts"], WORD, 1.3, operations::operations);
+    part("Deposit and select", WORDS, &["function", "mask density"], "nanoseconds for a call", 1.1, |part| {
+        words::deposits(part);
+        words::selects(part);
+    });
+    part("The whole year", YEAR, &["forms", "self density", "rank density"], "milliseconds", 1.3, year::year);
+    parts
+}
+
+const ALIGNED: &str = "\
+Blocks of 1,048,576 rows, both masks from bit 0 on, scattered at random. \"Rank density\" is the rank mask's. On routes 1 to 3 the crate
+hands a shared mask on, where ours writes words. A list has its bits too in the crate, made before the clock starts, and the crate goes
+by them where the list is long; ours has the list alone.
+";
+const UNALIGNED: &str = "The same with words of self from bit 13 on and words of the rank mask from bit 37 on.\n";
+const OPERATIONS: &str = "\
+Two masks in words of 1,048,576 rows at density 0.5. The crate's loops here are the stand-in's, and it has no BMI2 path.
+";
+const WORDS: &str = "\
+`boltamber_deposit` and `boltamber_select` of the C library, over 16,384 random inputs, against the crate's `Portable` deposit with its
+count and its portable select, which are called and not inlined, as a C library's functions are. Ours checks the rank.
+";
+const YEAR: &str = "\
+324,979,200 rows in 310 blocks of at most 1,048,576, made one at a time; the best of each block's turns is added up.
+";
+
+fn told(place: &str, parts: &[Part]) -> String {
+    let tables: Vec<String> = parts.iter().map(Part::markdown).collect();
+    format!("{}\n{}", HEAD.replace("PLACE", place), tables.join("\n"))
+}
+
+const HEAD: &str = "\
+# How long it takes
+
+`compare/run --times` timed what follows, in one run on PLACE, and wrote this file and the plot.
+
+![ours, portable and BMI2, a panel for each route](speed.svg)
+
+- ours: the proved functions through `probe`, x86-64 code without popcnt, with all checks of both operands, into lent words.
+- portable, BMI2: the crate vortex-mask 0.90.0, optimised, without debug assertions, on this repository's stand-ins for its buffers.
+  Its masks are made before the clock starts, and anew for each turn, since it keeps lists that it built. It checks nothing, and
+  allocates its result.
+- The three take turns, and the best of each is told; the ratios are of these. Before the clock starts, all three gave the same rows;
+  of the year, in the first block.
+- Under an emulator the times are the emulator's. They go by the number of instructions, whatever a CPU makes of them; a loop that
+  happens to lie across two pages of memory takes up to a fifth longer; and PDEP is a loop over the mask's bits, so that the BMI2
+  column tells nothing of a CPU that has it.
+";

@@ -1,0 +1,81 @@
+//! Masks of a million rows, made by words: row by row would take longer than what is timed.
+use compare::operand::{LIST, Operand, WORDS};
+use compare::random::Random;
+
+/// Rows as words, row 0 at bit 0 of the first; clear past the length.
+pub struct Rows {
+    pub length: u64,
+    words: Vec<u64>,
+}
+
+impl Rows {
+    pub fn scattered(length: u64, density: f64, random: &mut Random) -> Self {
+        let chance = (density * f64::from(1 << CHANCE_BITS)).round() as u64;
+        let mut words: Vec<u64> = (0..length.div_ceil(64)).map(|_| scattered_word(chance, random)).collect();
+        if let (Some(last), true) = (words.last_mut(), length % 64 != 0) {
+            *last &= (1 << (length % 64)) - 1;
+        }
+        Rows { length, words }
+    }
+
+    pub fn count(&self) -> u64 {
+        self.words.iter().map(|word| u64::from(word.count_ones())).sum()
+    }
+
+    /// As words from bit `start` on, as a list, or as all or none, which need rows that are so.
+    pub fn lent(&self, form: u64, start: u64) -> Operand {
+        let mut operand =
+            Operand { form, length: self.length, start: 0, claimed: 0, words: Vec::new(), rows: Vec::new() };
+        if form == WORDS {
+            operand.start = start;
+            operand.claimed = self.count();
+            operand.words = self.moved_up(start);
+        }
+        if form == LIST {
+            operand.rows = self.listed();
+        }
+        operand
+    }
+
+    fn moved_up(&self, start: u64) -> Vec<u64> {
+        let needed = (start + self.length).div_ceil(64) as usize;
+        let word = |i: usize| self.words.get(i).copied().unwrap_or(0);
+        let moved = |i: usize| match (start, i) {
+            (0, _) => word(i),
+            (_, 0) => word(0) << start,
+            _ => word(i) << start | word(i - 1) >> (64 - start),
+        };
+        (0..needed).map(moved).collect()
+    }
+
+    fn listed(&self) -> Vec<u32> {
+        let mut rows = Vec::with_capacity(self.count() as usize);
+        for (i, &word) in self.words.iter().enumerate() {
+            let mut rest = word;
+            while rest != 0 {
+                rows.push(64 * i as u32 + rest.trailing_zeros());
+                rest &= rest - 1;
+            }
+        }
+        rows
+    }
+}
+
+const CHANCE_BITS: u32 = 16;
+
+/// Each bit set with `chance` in 2^16: from the chance's lowest bit up, a random bit halves what came before it, and a set
+/// bit of the chance adds a half.
+pub fn scattered_word(chance: u64, random: &mut Random) -> u64 {
+    if chance == 1 << CHANCE_BITS {
+        return u64::MAX;
+    }
+    (0..CHANCE_BITS).fold(0, |word, bit| match chance >> bit & 1 {
+        1 => word | random.next(),
+        _ => word & random.next(),
+    })
+}
+
+/// A word whose bits are set at about this density.
+pub fn word_at(density: f64, random: &mut Random) -> u64 {
+    scattered_word((density * f64::from(1 << CHANCE_BITS)).round() as u64, random)
+}
