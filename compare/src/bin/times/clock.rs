@@ -15,6 +15,15 @@ impl Times {
         Times { ours: self.ours * factor, portable: self.portable * factor, bmi2: self.bmi2.map(|it| it * factor) }
     }
 
+    /// Of each side the lesser.
+    pub fn least(self, other: Times) -> Times {
+        Times {
+            ours: self.ours.min(other.ours),
+            portable: self.portable.min(other.portable),
+            bmi2: self.bmi2.zip(other.bmi2).map(|(one, other)| one.min(other)),
+        }
+    }
+
     pub fn plus(self, more: Times) -> Times {
         Times {
             ours: self.ours + more.ours,

@@ -10,7 +10,7 @@ use crate::clock::{Times, best_of, seconds};
 use crate::masks::Rows;
 use crate::table::{Line, Part};
 
-const TURNS: usize = 15;
+const TURNS: usize = 9;
 pub const DENSITIES: [f64; 11] = [0.005, 0.01, 0.02, 0.04, 0.06, 0.1, 0.25, 0.5, 0.75, 0.9, 0.99];
 const DENSITIES_UNALIGNED: [f64; 4] = [0.02, 0.1, 0.5, 0.9];
 const STARTS: (u64, u64) = (13, 37); // of self and of the rank mask

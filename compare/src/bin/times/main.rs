@@ -1,8 +1,9 @@
 //! How long ours takes beside the Rust crate: tables on the terminal and in SPEED.md, and a plot, speed.svg. Ours is
-//! called through probe with all its checks; the crate stands on this workspace's buffers. Words: FOLDER PLACE, the
-//! folder to write to and what the program runs on.
+//! called through probe with all its checks; the crate stands on this workspace's buffers. Words: FOLDER PLACE EARLIER,
+//! the folder to write to, what the program runs on, and a file that keeps the best times from run to run.
 mod clock;
 mod compositions;
+mod earlier;
 mod masks;
 mod operations;
 mod plot;
@@ -16,24 +17,30 @@ use std::{env, fs, process};
 use table::Part;
 
 fn main() {
-    let [folder, place] = match <[String; 2]>::try_from(env::args().skip(1).collect::<Vec<_>>()) {
+    let [folder, place, earlier] = match <[String; 3]>::try_from(env::args().skip(1).collect::<Vec<_>>()) {
         Ok(words) => words,
         Err(_) => {
-            eprintln!("times: two words are needed, the folder to write to and what it runs on");
-            process::exit(2);
+            stop("three words are needed: the folder to write to, what it runs on, and a file for the best times")
         }
     };
     println!("on {place}; the best of several turns of each");
-    let parts = timed();
+    let mut parts = timed();
+    if let Err(why) = earlier::best_with_earlier(&mut parts, Path::new(&earlier)) {
+        stop(&format!("{earlier}: {why}"));
+    }
     write(&folder, "SPEED.md", &told(&place, &parts));
     write(&folder, "speed.svg", &plot::drawing(&place, &parts));
+}
+
+fn stop(why: &str) -> ! {
+    eprintln!("times: {why}");
+    process::exit(1);
 }
 
 fn write(folder: &str, name: &str, text: &str) {
     let path = Path::new(folder).join(name);
     if let Err(why) = fs::write(&path, text) {
-        eprintln!("times: {}: {why}", path.display());
-        process::exit(1);
+        stop(&format!("{}: {why}", path.display()));
     }
     println!("wrote {}", path.display());
 }
@@ -94,7 +101,7 @@ const HEAD: &str = "\
   allocates its result.
 - The three take turns, and the best of each is told; the ratios are of these. Before the clock starts, all three gave the same rows;
   of the year, in the first block.
-- Under an emulator the times are the emulator's. They go by the number of instructions, whatever a CPU makes of them; a loop that
-  happens to lie across two pages of memory takes up to a fifth longer; and PDEP is a loop over the mask's bits, so that the BMI2
-  column tells nothing of a CPU that has it.
+- Under an emulator the times are the emulator's. They go by the number of instructions, whatever a CPU makes of them; and PDEP is a
+  loop over the mask's bits, so that the BMI2 column tells nothing of a CPU that has it. A loop that happens to lie across two pages of
+  memory takes up to a fifth longer there, so the program is linked at four places, and the best of all turns is told.
 ";

@@ -11,7 +11,7 @@ use crate::clock::{best_of, seconds};
 use crate::masks::Rows;
 use crate::table::{Line, Part};
 
-const TURNS: usize = 25;
+const TURNS: usize = 9;
 const NAMES: [&str; 4] = ["and", "or", "and-not", "not"];
 const STARTS: [(u64, u64); 2] = [(0, 0), (13, 37)];
 

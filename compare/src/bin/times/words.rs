@@ -8,7 +8,7 @@ use crate::clock::{best_of, seconds};
 use crate::masks::word_at;
 use crate::table::{Line, Part};
 
-const TURNS: usize = 51;
+const TURNS: usize = 15;
 const INPUTS: usize = 16_384;
 const DENSITIES: [f64; 7] = [0.02, 0.1, 0.25, 0.5, 0.75, 0.9, 0.97];
 

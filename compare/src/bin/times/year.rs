@@ -9,7 +9,7 @@ use crate::masks::Rows;
 use crate::table::{Line, Part};
 
 pub const ROWS: u64 = 6_200 * 52 * 7 * 24 * 6; // nodes, weeks, days, hours, samples an hour
-const TURNS: usize = 3; // of each block: its best is added
+const TURNS: usize = 2; // of each block: its best is added
 
 /// What self and the rank mask are like in every block.
 struct Mix {
