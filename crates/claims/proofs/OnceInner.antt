@@ -37,6 +37,8 @@ use Rattle.lent.proofs.inner.joined.Kinds as lent-joined-kinds
 use Rattle.lent.proofs.inner.joined.Reads as lent-joined
 use Rattle.lent.proofs.inner.read.Kinds as lent-read-kinds
 use Rattle.lent.proofs.inner.read.Reads as lent-read
+use Rattle.lent.proofs.inner.whole_word.Kinds as lent-whole-word-kinds
+use Rattle.lent.proofs.inner.whole_word.Reads as lent-whole-word
 use Rattle.lent.proofs.inner.ones.Kinds as lent-ones-kinds
 use Rattle.lent.proofs.inner.ones.Reads as lent-ones
 use Rattle.lent.proofs.inner.chunk.Kinds as lent-chunk-kinds
@@ -147,6 +149,9 @@ lent-joined-one κs a p x y v w hv hw = (hv ∙ sym hw, refl)
 
 pub lent-read-one : OneAnswer 1 lent-read-kinds.ps lent-read-kinds.r lent-read.Pre lent-read.Post
 lent-read-one κs a p x y v w hv hw = (hv ∙ sym hw, refl)
+
+pub lent-whole-word-one : OneAnswer 1 lent-whole-word-kinds.ps lent-whole-word-kinds.r lent-whole-word.Pre lent-whole-word.Post
+lent-whole-word-one κs a p x y v w hv hw = (hv ∙ sym hw, refl)
 
 pub lent-ones-one : OneAnswer 0 lent-ones-kinds.ps lent-ones-kinds.r lent-ones.Pre lent-ones.Post
 lent-ones-one κs a p x y v w hv hw = (hv ∙ sym hw, refl)

@@ -76,7 +76,7 @@ pub fn lay_driven_by_words(
     intersect_mask_driven_words(words, start, len, ranks, from, ranklen, at, out);
 }
 
-// Routes 7 and 8: whole words first where self and the output begin on one.
+// Routes 7 and 8: whole words first where the output begins on one.
 pub fn intersect_bit_buffer_by_rank_indices(
     way: Way,
     words: &[u64],
@@ -89,7 +89,7 @@ pub fn intersect_bit_buffer_by_rank_indices(
     requires { ⌜ (start ≤ 63) × (len ≤ 1048576) × (start + len ≤ length (now words) * 64) × (at + len ≤ length (now out) * 64) × (at + len < 2 ^ 64) × Ascending 0 (count (view start len (now words))) (now ranks) ⌝ }
     ensures { λ _. ⌜ now (out .exit) ≡ laid at (compose (view start len (now (words .entry))) (listed (count (view start len (now (words .entry)))) (now (ranks .entry)))) (now (out .entry)) ⌝ }
 {
-    if start + at % 64 != 0 {
+    if at % 64 != 0 {
         let fresh = Reached {
             rank: Rank(0),
             next: 0,
@@ -98,9 +98,18 @@ pub fn intersect_bit_buffer_by_rank_indices(
         return;
     }
     let n = (len / 64) as usize;
-    let reached = gather_words(way, words, n, ranks, (at / 64) as usize, out);
+    let reached = gather_words(way, words, start, n, ranks, (at / 64) as usize, out);
     let done = len / 64 * 64;
-    gather_chunks(way, words, done, len - done, ranks, reached, at + done, out);
+    gather_chunks(
+        way,
+        words,
+        start + done,
+        len - done,
+        ranks,
+        reached,
+        at + done,
+        out,
+    );
 }
 
 // Routes 9 and 10: likewise.
@@ -117,17 +126,17 @@ pub fn intersect_bit_buffers(
     requires { ⌜ (start ≤ 63) × (len ≤ 1048576) × (start + len ≤ length (now words) * 64) × (from ≤ 63) × (at + len ≤ length (now out) * 64) × (at + len < 2 ^ 64) ⌝ }
     ensures { λ _. ⌜ now (out .exit) ≡ laid at (compose (view start len (now (words .entry))) (drop from (bitsOfAll 64 (now (ranks .entry))))) (now (out .entry)) ⌝ }
 {
-    if start + at % 64 != 0 {
+    if at % 64 != 0 {
         read_chunks(way, words, start, len, ranks, from, at, out);
         return;
     }
     let n = (len / 64) as usize;
-    let rank = read_words(way, words, n, ranks, from, (at / 64) as usize, out);
+    let rank = read_words(way, words, start, n, ranks, from, (at / 64) as usize, out);
     let done = len / 64 * 64;
     read_chunks(
         way,
         words,
-        done,
+        start + done,
         len - done,
         ranks,
         from + rank.0,

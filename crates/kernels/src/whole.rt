@@ -1,5 +1,5 @@
-// Routes 7 to 10 where self and the output begin on a word: whole words of self are read, and whole words stored, as they lie. Fewer
-// than 64 rows are left for the chunk loops.
+// Routes 7 to 10 where the output begins on a word, as it does in every composition: whole words are stored as they are. Fewer than 64 rows are
+// left for the chunk loops.
 ghost use mathlib.Core.Path.{_≡_};
 ghost use Prim.Native.Nat.{_+_, _*_, _≤_};
 ghost use lib.ListN.{length, drop};
@@ -14,26 +14,28 @@ use super::deposit::Reached;
 use super::deposit::deposit_bits;
 use super::deposit::rank_bits;
 use super::deposit::rank_bits_for_chunk;
+use lent::inner::whole_word;
 use rows::Rank;
 
 // Rank bits read. The rank after the last word is told.
 pub fn read_words(
     way: Way,
     words: &[u64],
+    start: u64,
     n: usize,
     ranks: &[u64],
     from: u64,
     to: usize,
     out: &mut [u64],
 ) -> Rank
-    requires { ⌜ (n ≤ 16384) × (n ≤ length (now words)) × (from ≤ 63) × (to + n ≤ length (now out)) ⌝ }
-    ensures { λ r. ⌜ (r .0 ≡ count (view 0 (n * 64) (now (words .entry))))
-        × (now (out .exit) ≡ laid (to * 64) (compose (view 0 (n * 64) (now (words .entry))) (drop from (bitsOfAll 64 (now (ranks .entry))))) (now (out .entry))) ⌝ }
+    requires { ⌜ (start ≤ 63) × (n ≤ 16384) × (start + n * 64 ≤ length (now words) * 64) × (from ≤ 63) × (to + n ≤ length (now out)) ⌝ }
+    ensures { λ r. ⌜ (r .0 ≡ count (view start (n * 64) (now (words .entry))))
+        × (now (out .exit) ≡ laid (to * 64) (compose (view start (n * 64) (now (words .entry))) (drop from (bitsOfAll 64 (now (ranks .entry))))) (now (out .entry))) ⌝ }
 {
     let mut i: usize = 0;
     let mut rank = Rank(0);
     while i < n {
-        let mask = words[i];
+        let mask = whole_word(words, start, i);
         let count = u64::count_ones(mask);
         let source = rank_bits(ranks, from, rank);
         let at = to + i;
@@ -48,20 +50,21 @@ pub fn read_words(
 pub fn gather_words(
     way: Way,
     words: &[u64],
+    start: u64,
     n: usize,
     ranks: &[u32],
     to: usize,
     out: &mut [u64],
 ) -> Reached
-    requires { ⌜ (n ≤ 16384) × (n ≤ length (now words)) × (to + n ≤ length (now out)) × Climbs 0 (now ranks) ⌝ }
-    ensures { λ r. ⌜ (r .rank .0 ≡ count (view 0 (n * 64) (now (words .entry)))) × Parted (r .rank .0) (r .next) (now (ranks .entry))
-        × (now (out .exit) ≡ laid (to * 64) (compose (view 0 (n * 64) (now (words .entry))) (listed (count (view 0 (n * 64) (now (words .entry)))) (now (ranks .entry)))) (now (out .entry))) ⌝ }
+    requires { ⌜ (start ≤ 63) × (n ≤ 16384) × (start + n * 64 ≤ length (now words) * 64) × (to + n ≤ length (now out)) × Climbs 0 (now ranks) ⌝ }
+    ensures { λ r. ⌜ (r .rank .0 ≡ count (view start (n * 64) (now (words .entry)))) × Parted (r .rank .0) (r .next) (now (ranks .entry))
+        × (now (out .exit) ≡ laid (to * 64) (compose (view start (n * 64) (now (words .entry))) (listed (count (view start (n * 64) (now (words .entry)))) (now (ranks .entry)))) (now (out .entry))) ⌝ }
 {
     let mut i: usize = 0;
     let mut rank = Rank(0);
     let mut next: usize = 0;
     while i < n {
-        let mask = words[i];
+        let mask = whole_word(words, start, i);
         let set = u64::count_ones(mask);
         let gathered = rank_bits_for_chunk(ranks, next, rank, set as u64);
         let at = to + i;

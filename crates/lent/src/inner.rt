@@ -44,6 +44,18 @@ pub fn read(words: &[u64], start: u64, offset: u64) -> u64
     joined(here, next, bit % 64)
 }
 
+// Rows 64 i to 64 i + 63 of a view that has them all: nothing is held against the words' end, and nothing is joined where the view begins on a word.
+pub fn whole_word(words: &[u64], start: u64, i: usize) -> u64
+    requires { ⌜ (start ≤ 63) × (start + i * 64 + 64 ≤ length (now words) * 64) ⌝ }
+    ensures { λ r. ⌜ r ≡ wordFrom (start + i * 64) (now (words .entry)) ⌝ }
+{
+    let word = words[i];
+    if start == 0 {
+        return word;
+    }
+    joined(word, words[i + 1], start)
+}
+
 // The n lowest bits set.
 pub fn ones(n: u64) -> u64
     requires { ⌜ (0 < n) × (n ≤ 64) ⌝ }
