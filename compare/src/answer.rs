@@ -15,6 +15,7 @@ pub const WORD: usize = 4;
 pub const DONE: usize = 5;
 pub const RANKS: usize = 6;
 pub const KEPT: usize = 7;
+pub const WRITTEN: usize = 15;
 
 const NAMES: [&str; 8] = ["refusal", "operand", "count", "route", "word or position", "done", "ranks", "kept"];
 
@@ -46,6 +47,12 @@ impl Answer {
         self
     }
 
+    /// The bytes that the program wrote.
+    pub fn with_written(mut self, bytes: u64) -> Self {
+        self.cells[WRITTEN] = bytes;
+        self
+    }
+
     pub fn state(&self) -> [u64; 3] {
         [self.cells[DONE], self.cells[RANKS], self.cells[KEPT]]
     }
@@ -56,6 +63,7 @@ impl fmt::Debug for Answer {
         for (name, cell) in NAMES.iter().zip(self.cells) {
             write!(f, "{name} {cell}, ")?;
         }
-        write!(f, "the rest {:?}, density {:?}", &self.cells[8..], f64::from_bits(self.density))
+        write!(f, "the rest {:?}, ", &self.cells[8..WRITTEN])?;
+        write!(f, "bytes written {}, density {:?}", self.cells[WRITTEN], f64::from_bits(self.density))
     }
 }

@@ -18,6 +18,7 @@ pub fn run(tally: &mut Tally) -> Outcome {
     compositions(&mut examples)?;
     set_operations(&mut examples)?;
     feeds(&mut examples)?;
+    programs(&mut examples)?;
     tally.add("document 01's examples and its edges, answers written out", examples.held);
     Ok(())
 }
@@ -74,6 +75,22 @@ impl Examples {
         first: u64,
     ) -> Outcome {
         self.call(name, &ours::feed(state, a, b, out)?, &rules::feed(state, a, b, out), expected, first)
+    }
+
+    /// With an output as long as the text, and with one that is a byte shorter.
+    fn program(&mut self, input: &[u8], expected: Answer, text: &str) -> Outcome {
+        let name = format!("the program's input {}", input.escape_ascii());
+        let room = vec![7; text.len()];
+        let (told, by_rules) = (ours::program(input, &room)?, rules::program(input, &room));
+        self.word(&name, told.answer, by_rules.answer, expected.with_written(text.len() as u64))?;
+        let (shorter, shorter_by_rules) = (ours::program(input, &room[1..])?, rules::program(input, &room[1..]));
+        self.word(&name, shorter.answer, shorter_by_rules.answer, Answer::refused(8, 0))?;
+        let outputs = [(told.out, text.as_bytes()), (by_rules.out, text.as_bytes())];
+        let stayed = [(shorter.out, &room[1..]), (shorter_by_rules.out, &room[1..])];
+        match outputs.iter().chain(&stayed).find(|(out, expected)| out != expected) {
+            None => Ok(()),
+            Some((out, _)) => Err(format!("{name}: the output is {}", out.escape_ascii())),
+        }
     }
 }
 
@@ -282,4 +299,38 @@ fn feeds(examples: &mut Examples) -> Outcome {
         !0x70,
     )?;
     examples.feed("no such form", [4, 2, 1], &operand(4, 0), &all(0), &[JUNK], Answer::refused(99, 0), JUNK)
+}
+
+fn programs(examples: &mut Examples) -> Outcome {
+    let document = b"self=01101011\nrank=10010\n";
+    let text = "refusal=0\nroute=9\ncount=2\nbits=01000010\n";
+    examples.program(document, Answer::summary(2, 8, 9), text)?;
+    let no_rows = Answer::summary(0, 0, 3);
+    examples.program(b"self=\nrank=\n", no_rows, "refusal=0\nroute=3\ncount=0\nbits=\n")?;
+    examples.program(b"self=1\nrank=0\n", Answer::summary(0, 1, 1), "refusal=0\nroute=1\ncount=0\nbits=0\n")?;
+    let unpaired = "refusal=7\nroute=0\ncount=0\nbits=\n";
+    examples.program(b"self=01101011\nrank=1001\n", Answer::refused(7, 0), unpaired)?;
+    let malformed = "refusal=13\nroute=0\ncount=0\nbits=\n";
+    let inputs: [&[u8]; 6] = [
+        b"",
+        b"self=01101011\nrank=10010",
+        b"self=01101011\r\nrank=10010\r\n",
+        b"rank=10010\nself=01101011\n",
+        b"self=01101011\nrank=10010\n\n",
+        b"self=01101021\nrank=10010\n",
+    ];
+    for input in inputs {
+        examples.program(input, Answer::refused(13, 0), malformed)?;
+    }
+    long_lines(examples, malformed)
+}
+
+/// 8,192 rows in both lines are taken, and one more in either is malformed.
+fn long_lines(examples: &mut Examples, malformed: &str) -> Outcome {
+    let input = |own: usize, ranks: usize| format!("self={}\nrank={}\n", "1".repeat(own), "1".repeat(ranks));
+    let text = format!("refusal=0\nroute=1\ncount=8192\nbits={}\n", "1".repeat(8192));
+    examples.program(input(8192, 8192).as_bytes(), Answer::summary(8192, 8192, 1), &text)?;
+    examples.program(input(8193, 8193).as_bytes(), Answer::refused(13, 0), malformed)?;
+    examples.program(input(8192, 8193).as_bytes(), Answer::refused(13, 0), malformed)?;
+    examples.program(input(8193, 8192).as_bytes(), Answer::refused(13, 0), malformed)
 }

@@ -21,6 +21,12 @@ impl Element for u32 {
     }
 }
 
+impl Element for u8 {
+    fn guard(place: usize) -> u8 {
+        0xe8 ^ place as u8
+    }
+}
+
 pub struct Lent<T> {
     memory: Vec<T>,
     as_lent: Vec<T>,

@@ -13,6 +13,7 @@ pub mod operand;
 #[rustfmt::skip] // as mirror
 pub mod ours;
 pub mod probe;
+pub mod programs;
 pub mod random;
 pub mod refusals;
 pub mod rules;

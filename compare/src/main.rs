@@ -7,7 +7,7 @@ use std::{env, process};
 use compare::checks::Outcome;
 use compare::probe::OURS;
 use compare::tally::Tally;
-use compare::{compositions, examples, feeds, refusals, sets, small, without_room, words};
+use compare::{compositions, examples, feeds, programs, refusals, sets, small, without_room, words};
 
 /// How many cases each part has.
 struct Plan {
@@ -19,6 +19,7 @@ struct Plan {
     conversions: u64,
     refusals: u64,
     streams: u64,
+    programs: u64,
 }
 
 /// A few seconds: for `faults`.
@@ -31,6 +32,7 @@ const BRIEF: Plan = Plan {
     conversions: 2_000,
     refusals: 20_000,
     streams: 300,
+    programs: 300,
 };
 
 const SHORT: Plan = Plan {
@@ -42,6 +44,7 @@ const SHORT: Plan = Plan {
     conversions: 30_000,
     refusals: 80_000,
     streams: 4_000,
+    programs: 3_000,
 };
 
 const LONG: Plan = Plan {
@@ -53,6 +56,7 @@ const LONG: Plan = Plan {
     conversions: 150_000,
     refusals: 1_000_000,
     streams: 30_000,
+    programs: 60_000,
 };
 
 fn main() -> ExitCode {
@@ -83,12 +87,14 @@ fn run(plan: &Plan, seed: u64, tally: &mut Tally) -> Outcome {
     small::compositions(plan.small, seed, tally)?;
     small::set_operations(plan.small / 2, seed, tally)?;
     small::conversions(plan.small, seed, tally)?;
+    small::programs(plan.small, seed, tally)?;
     compositions::run(plan.compositions, seed, tally)?;
     sets::set_operations(plan.sets, seed, tally)?;
     sets::conversions(plan.conversions, seed, tally)?;
     refusals::run(plan.refusals, seed, tally)?;
     without_room::run(plan.refusals / 10, seed, tally)?;
     feeds::run(plan.streams, seed, tally)?;
+    programs::run(plan.programs, seed, tally)?;
     compositions::blocks(plan.blocks, seed, tally)?;
     feeds::blocks(plan.blocks / 3, seed, tally)
 }

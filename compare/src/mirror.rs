@@ -226,3 +226,30 @@ pub unsafe fn probe_feed(
         written(expected, out, nout, ans, den);
     }
 }
+
+pub unsafe fn probe_program(
+    input: *const u8, ninput: usize, out: *mut u8, nout: usize,
+    ans: *mut u64, nans: usize, den: *mut f64, nden: usize,
+) {
+    if nans < 16 || nden < 1 {
+        return;
+    }
+    unsafe {
+        let mut input = slice::from_raw_parts(input, ninput).to_vec();
+        if fault("the program passes over returns") {
+            input.retain(|&byte| byte != b'\r');
+        }
+        if fault("the program looks at seven bits of a byte") {
+            input.iter_mut().for_each(|byte| *byte &= 0x7f);
+        }
+        if fault("the program takes a last line without its newline") && !input.ends_with(b"\n") {
+            input.push(b'\n');
+        }
+        let before = slice::from_raw_parts(out, nout);
+        let mut expected = rules::program(&input, before);
+        if fault("the program fills an output that is too short") && expected.answer.cells[0] == 8 {
+            expected.out = rules::program(&input, &vec![0; nout + 1]).out[..nout].to_vec();
+        }
+        written(expected, out, nout, ans, den);
+    }
+}

@@ -73,6 +73,13 @@ pub fn lend(rows: &[bool], form: u64, random: &mut Random) -> Operand {
     operand
 }
 
+/// The rows as words from bit 0 on, and nothing beside them.
+pub fn in_words(rows: &[bool]) -> Operand {
+    let mut words = vec![0; rows.len().div_ceil(64)];
+    lay(&mut words, 0, rows);
+    Operand { form: WORDS, length: rows.len() as u64, start: 0, claimed: count(rows), words, rows: Vec::new() }
+}
+
 /// Row i of `rows` at bit `at` + i; no other bit changes.
 pub fn lay(words: &mut [u64], at: usize, rows: &[bool]) {
     for (i, &row) in rows.iter().enumerate() {

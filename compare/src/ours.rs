@@ -152,6 +152,21 @@ pub fn feed(state: [u64; 3], a: &Operand, b: &Operand, out: &[u64]) -> Result<To
     ended(&[&lent_a, &lent_b], &out, &answer)
 }
 
+/// The program's four lines, written into `out`.
+pub fn program(input: &[u8], out: &[u8]) -> Result<Told<u8>, String> {
+    let (mut lent, mut out) = (Lent::new(input), Lent::new(out));
+    let mut answer = AnswerMemory::new();
+    let (ans, den) = (answer.cells(), answer.density());
+    // SAFETY: as above.
+    unsafe {
+        probe::probe_program(lent.pointer(), lent.len(), out.pointer(), out.len(), ans, NANS, den, NDEN);
+    }
+    if !lent.unchanged() {
+        return Err("memory of the input, or beside it, was changed".to_string());
+    }
+    ended(&[], &out, &answer)
+}
+
 fn ended<T: Element>(operands: &[&LentOperand], out: &Lent<T>, answer: &AnswerMemory) -> Result<Told<T>, String> {
     for (operand, which) in operands.iter().zip(1..) {
         operand.check(which)?;

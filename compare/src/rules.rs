@@ -1,10 +1,11 @@
 //! Document 01 written out plainly, row by row: the refusal table with its order, the route table, and what is written.
 //! It shares nothing with the Rust crate or the proved code.
 use crate::answer::Answer;
-use crate::operand::{ALL, LIST, NONE, Operand, WORDS, count, lay, set_rows};
+use crate::operand::{ALL, LIST, NONE, Operand, WORDS, count, in_words, lay, set_rows};
 
 pub const LIMIT: u64 = 1_048_576;
 pub const UNKNOWN_FORM: u64 = 99;
+pub const LONGEST_LINE: usize = 8_192; // characters after the key of one of the program's lines
 
 /// The answer, and the whole of the lent output after the call.
 pub struct Expected<T> {
@@ -339,4 +340,63 @@ pub fn feed(state: [u64; 3], a: &Operand, b: &Operand, out: &[u64]) -> Expected<
     let answer = Answer::summary(count(&result), a.length, route(a, &own, b, &ranks));
     let state = [done + a.length, ranks_before + own_count, kept + count(&result)];
     Expected { answer: answer.with_state(state), out: after }
+}
+
+// ---- the program
+
+/// What the program writes, and the answer that its lines tell; 8 where the output is shorter.
+pub fn program(input: &[u8], out: &[u8]) -> Expected<u8> {
+    let (answer, text) = answer_and_lines(input);
+    if out.len() < text.len() {
+        return refused(8, 0, out);
+    }
+    let mut after = out.to_vec();
+    after[..text.len()].copy_from_slice(text.as_bytes());
+    Expected { answer: answer.with_written(text.len() as u64), out: after }
+}
+
+fn answer_and_lines(input: &[u8]) -> (Answer, String) {
+    let Some((own, ranks)) = two_masks(input) else {
+        return (Answer::refused(13, 0), lines_of_refusal(13));
+    };
+    if ranks.len() as u64 != count(&own) {
+        return (Answer::refused(7, 0), lines_of_refusal(7));
+    }
+    let result = laid_back(&own, &ranks);
+    let route = route(&in_words(&own), &own, &in_words(&ranks), &ranks);
+    let answer = Answer::summary(count(&result), own.len() as u64, route);
+    (answer, lines(route, count(&result), &result))
+}
+
+/// The four lines of an accepted input.
+pub fn lines(route: u64, count: u64, result: &[bool]) -> String {
+    format!("refusal=0\nroute={route}\ncount={count}\nbits={}\n", digits(result))
+}
+
+/// Its number, route=0, count=0 and `bits=` with nothing after it.
+fn lines_of_refusal(number: u64) -> String {
+    format!("refusal={number}\nroute=0\ncount=0\nbits=\n")
+}
+
+/// Row 0 first.
+pub fn digits(rows: &[bool]) -> String {
+    rows.iter().map(|&row| if row { '1' } else { '0' }).collect()
+}
+
+/// Two lines, `self=` and `rank=`, in that order, then the end of the input; none where it is anything else.
+fn two_masks(input: &[u8]) -> Option<(Vec<bool>, Vec<bool>)> {
+    let (own, rest) = line(b"self=", input)?;
+    let (ranks, rest) = line(b"rank=", rest)?;
+    rest.is_empty().then_some((own, ranks))
+}
+
+/// The key, at most 8,192 characters 0 or 1, a newline; with what comes after it.
+fn line<'a>(key: &[u8], input: &'a [u8]) -> Option<(Vec<bool>, &'a [u8])> {
+    let after_key = input.strip_prefix(key)?;
+    let end = after_key.iter().position(|&byte| byte == b'\n')?;
+    let (characters, rest) = (&after_key[..end], &after_key[end + 1..]);
+    if characters.len() > LONGEST_LINE || !characters.iter().all(|character| b"01".contains(character)) {
+        return None;
+    }
+    Some((characters.iter().map(|&character| character == b'1').collect(), rest))
 }

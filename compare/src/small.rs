@@ -1,7 +1,9 @@
-//! Every small composition, set operation and conversion, smallest first: a difference shows at its smallest input.
+//! Every small composition, set operation, conversion and input of the program, smallest first: a difference shows at its
+//! smallest input.
 use crate::checks::Outcome;
 use crate::compositions::{Seen, compose_both};
 use crate::operand::{ALL, LIST, NONE, Operand, WORDS, count, lend};
+use crate::programs::{self, bytes_needed, program_both, said};
 use crate::random::Random;
 use crate::sets::{convert_both, set_both};
 use crate::tally::{Progress, Tally};
@@ -55,6 +57,25 @@ pub fn conversions(longest: u64, seed: u64, tally: &mut Tally) -> Outcome {
         }
     }
     tally.add(&format!("conversions: every mask of up to {longest} rows in every form, to words and to a list"), cases);
+    Ok(())
+}
+
+/// Rank masks of every length up to self's, so that most are refused with 7; each with just room, and with a byte less.
+pub fn programs(longest: u64, seed: u64, tally: &mut Tally) -> Outcome {
+    let mut random = Random::new(seed, "small programs");
+    let longest = longest / 2;
+    let (mut seen, mut cases) = (programs::Seen::default(), 0);
+    for own in masks_up_to(longest) {
+        for ranks in masks_up_to(own.len() as u64) {
+            let input = said(&own, &ranks);
+            let need = bytes_needed(&input);
+            program_both(&input, need, &mut seen, &mut random)?;
+            program_both(&input, need - 1, &mut seen, &mut random)?;
+            cases += 1;
+        }
+    }
+    tally.add(&format!("the program: every self of up to {longest} rows, every rank mask as long or shorter"), cases);
+    tally.add("  of these, accepted", seen.accepted());
     Ok(())
 }
 

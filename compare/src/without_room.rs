@@ -7,7 +7,8 @@ use crate::probe;
 use crate::random::Random;
 use crate::tally::{Progress, Tally};
 
-const CALLS: u64 = 8;
+const CALLS: u64 = 9;
+const LINES: &[u8] = b"self=01101011\nrank=10010\n";
 
 /// Cells and densities lent, of which at least one is too few.
 const ROOMS: [(usize, usize); 6] = [(0, 0), (0, 1), (15, 1), (15, 2), (16, 0), (17, 0)];
@@ -41,6 +42,8 @@ struct Memory {
     b: LentOperand,
     out: Lent<u64>,
     list: Lent<u32>,
+    lines: Lent<u8>,
+    text: Lent<u8>,
     answer: AnswerMemory,
 }
 
@@ -51,6 +54,8 @@ impl Memory {
             b: LentOperand::new(b),
             out: Lent::new(out),
             list: Lent::new(&[7; 200]),
+            lines: Lent::new(LINES),
+            text: Lent::new(&[7; 100]),
             answer: AnswerMemory::new(),
         }
     }
@@ -58,7 +63,8 @@ impl Memory {
     fn check(&self) -> Outcome {
         self.a.check(1)?;
         self.b.check(2)?;
-        match self.out.unchanged() && self.list.unchanged() && self.answer.unchanged() {
+        let of_the_program = self.lines.unchanged() && self.text.unchanged();
+        match of_the_program && self.out.unchanged() && self.list.unchanged() && self.answer.unchanged() {
             true => Ok(()),
             false => Err("without room for the answer, something was written".to_string()),
         }
@@ -93,6 +99,9 @@ impl Memory {
                     a.form, a.length, a.start, a.claimed, a_words, a_nwords, a_rows, a_nrows,
                     b.form, b.length, b.start, b.claimed, b_words, b_nwords, b_rows, b_nrows,
                     out, nout, ans, nans, den, nden),
+                7 => probe::probe_program(
+                    self.lines.pointer(), self.lines.len(), self.text.pointer(), self.text.len(),
+                    ans, nans, den, nden),
                 _ => probe::probe_feed(
                     0, 0, 0,
                     a.form, a.length, a.start, a.claimed, a_words, a_nwords, a_rows, a_nrows,
