@@ -1,4 +1,4 @@
-//! The parts of the comparison, for the program `compare` and the program `times`.
+//! The parts of the comparison, for the programs `compare`, `times` and `record`.
 
 pub mod answer;
 pub mod checks;
@@ -17,9 +17,11 @@ pub mod programs;
 pub mod random;
 pub mod refusals;
 pub mod rules;
+pub mod sample;
 pub mod sets;
 pub mod small;
 pub mod tally;
+pub mod telling;
 pub mod theirs;
 pub mod without_room;
 pub mod words;

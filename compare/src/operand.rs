@@ -51,6 +51,11 @@ fn shown<T>(items: &[T], show: impl Fn(&T) -> String) -> String {
 /// The rows as lent in `form`. All and none need rows that are all set, or all clear.
 pub fn lend(rows: &[bool], form: u64, random: &mut Random) -> Operand {
     let start = random.below(64);
+    lend_at(start, rows, form, random)
+}
+
+/// Words from the start bit on; the other forms have no use for it.
+pub fn lend_at(start: u64, rows: &[bool], form: u64, random: &mut Random) -> Operand {
     let (garbage_words, garbage_rows) = (random.below(3), random.below(3));
     let mut operand = Operand {
         form,

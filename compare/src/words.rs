@@ -69,7 +69,7 @@ fn low(count: u32) -> u64 {
 }
 
 /// A mask with exactly `count` set bits, in one of several shapes.
-fn mask_word(count: u32, random: &mut Random) -> u64 {
+pub fn mask_word(count: u32, random: &mut Random) -> u64 {
     let turn = random.below(64) as u32;
     match random.below(8) {
         0 => low(count).rotate_left(turn),
@@ -87,7 +87,7 @@ fn two_runs(count: u32, random: &mut Random) -> u64 {
     low(first) | second
 }
 
-fn source_word(count: u32, random: &mut Random) -> u64 {
+pub fn source_word(count: u32, random: &mut Random) -> u64 {
     match random.below(6) {
         0 => u64::MAX,
         1 => low(count),
@@ -198,7 +198,7 @@ fn reads_of_one_slice(
     }
 }
 
-fn random_offset(nwords: u64, random: &mut Random) -> u64 {
+pub fn random_offset(nwords: u64, random: &mut Random) -> u64 {
     match random.below(10) {
         0 => u64::MAX - random.below(200),
         1 => random.next(),

@@ -13,6 +13,7 @@ pub enum Finding {
     RouteDiffers,
     DensityDiffers,
     StateDiffers,
+    WordDiffers,
     OutputDiffers,
 }
 

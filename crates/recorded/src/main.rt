@@ -1,5 +1,5 @@
-// Runs the recorded cases of data/, which scripts/ wrote, and holds every answer and all of each output slice to what is
-// recorded there.
+// Runs the recorded cases of data/ and holds every answer and all of each output slice to what is recorded there. README.md
+// says where each file's answers come from.
 use answer::Finding;
 use answer::Outcome;
 use answer::differs;
@@ -11,12 +11,14 @@ mod conversions;
 mod feeds;
 mod pairs;
 mod reader;
+mod words;
 
 // What a file has cases of.
 enum Subject {
     Conversions,
     Pairs,
     Feeds,
+    Words,
 }
 
 // How many cases agreed, and what came of the one after them.
@@ -40,6 +42,7 @@ fn run_case(
         Subject::Conversions => conversions::run_case(text, cursor, awords, arows, out, brows),
         Subject::Pairs => pairs::run_case(text, cursor, awords, arows, bwords, brows, out),
         Subject::Feeds => feeds::run_case(text, cursor, awords, arows, bwords, brows, out),
+        Subject::Words => words::run_case(text, cursor, awords),
     }
 }
 
@@ -93,6 +96,7 @@ fn print_finding(finding: Finding) {
         Finding::RouteDiffers => io::write_all(STDOUT_FILENO, b"the route differs\n"),
         Finding::DensityDiffers => io::write_all(STDOUT_FILENO, b"the density differs\n"),
         Finding::StateDiffers => io::write_all(STDOUT_FILENO, b"the state differs\n"),
+        Finding::WordDiffers => io::write_all(STDOUT_FILENO, b"the word differs\n"),
         Finding::OutputDiffers => io::write_all(STDOUT_FILENO, b"the output differs\n"),
     }
     ;
@@ -147,4 +151,7 @@ fn main() {
     run_file(Subject::Conversions, b"conversions");
     run_file(Subject::Pairs, b"pairs");
     run_file(Subject::Feeds, b"feeds");
+    run_file(Subject::Pairs, b"rust_pairs");
+    run_file(Subject::Conversions, b"rust_conversions");
+    run_file(Subject::Words, b"rust_words");
 }
