@@ -18,6 +18,11 @@ pub mod private {
         Portable::deposit_bits(source, mask, mask.count_ones() as usize)
     }
 
+    /// `Portable` with a count that the caller claims.
+    pub fn claiming_deposit(source: u64, mask: u64, claimed: usize) -> u64 {
+        Portable::deposit_bits(source, mask, claimed)
+    }
+
     /// `PortableLoop`.
     pub fn loop_deposit(source: u64, mask: u64) -> u64 {
         PortableLoop::deposit_bits(source, mask, mask.count_ones() as usize)
