@@ -13,11 +13,12 @@ pub extern "C" fn boltamber_deposit(source: u64, mask: u64) -> u64
 }
 
 // The position of the set bit that has the rank, and 64 where refusal 9 holds: the rank is not below the word's set bits.
+// Below 64 the walk over the bytes finds that out, with no count of the whole word.
 #[no_mangle]
 pub extern "C" fn boltamber_select(word: u64, rank: u64) -> u64
     ensures { λ r. ⌜ r ≡ select (bitsOf 64 word) rank ⌝ }
 {
-    if rank >= u64::count_ones(word) as u64 {
+    if rank > 63 {
         return 64;
     }
     word::inner::select_bit_position(word, rank as u32) as u64

@@ -6,11 +6,10 @@ use mathlib.Core.Bool.{Bool}
 use mathlib.Core.List.{List}
 use mathlib.Core.Logic.{⊎-elim}
 use Prim.Native.Nat.{ℕ, zero, suc, _+_, _-_, _/_, _%_, _^_, _≤_, _<_}
-use native.Mathlib.Nat.{mod-lt, mod-mod}
+use native.Mathlib.Nat.{mod-mod}
 use native.Mathlib.Omega.{arith}
 use lib.Bits.{bitAnd}
-use lib.Pow.{pow-pos, split}
-use lib.Count.{ones, trailingZeros, ones-cat}
+use lib.Count.{ones, trailingZeros}
 use Rattle.rows.specs.Rows.{count}
 use Rattle.rows.specs.Word.{bitsOf}
 use Rattle.rows.specs.Lists.{select}
@@ -48,7 +47,3 @@ unfolding bitsOf trailingZeros
 select-first zero n = refl
 select-first (suc w) n =
     ⊎-elim (λ (x : n % 2 ≡ 0). rw x (select-unset (bitsOf w (n / 2)) 0 ∙ ap suc (select-first w (n / 2)))) (λ (x : n % 2 ≡ 1). rw x) (digit n)
-
--- the count of a word is that of its k low digits and of the rest
-pub ones-parts : (k n : ℕ) → ones n ≡ ones (n / 2 ^ k) + ones (n % 2 ^ k)
-ones-parts k n = ap ones (sym (split n k)) ∙ ones-cat k (n / 2 ^ k) (n % 2 ^ k) (mod-lt n (pow-pos k))

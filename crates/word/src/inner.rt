@@ -1,6 +1,5 @@
-// What the kernels call of the word layer: the two ways to deposit, and select. Each asks what its caller has checked.
+// What the kernels call of the word layer: the two ways to deposit, which ask that the count is the mask's, and select.
 ghost use mathlib.Core.Path.{_≡_};
-ghost use Prim.Native.Nat.{_<_};
 ghost use lib.Count.{ones};
 ghost use Rattle.rows.specs.Word.{bitsOf};
 ghost use Rattle.rows.specs.Lists.{select};
@@ -42,10 +41,9 @@ pub fn deposit_portable_loop(source: u64, mask: u64, count: u32) -> u64
     result
 }
 
-// The position of the set bit that has the rank. Bytes are skipped by their counts; in the byte that holds the rank, low
-// bits are cleared until the bit is the lowest.
+// The position of the set bit that has the rank, and 64 where there is none. Bytes are skipped by their counts; in the byte
+// that holds the rank, low bits are cleared until the bit is the lowest.
 pub fn select_bit_position(word: u64, rank: u32) -> u32
-    requires { ⌜ rank < ones word ⌝ }
     ensures { λ r. ⌜ r ≡ select (bitsOf 64 word) rank ⌝ }
 {
     let mut left = rank;

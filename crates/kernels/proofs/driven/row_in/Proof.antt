@@ -9,7 +9,7 @@ use Rattle.rows.specs.Word.{bitsOf}
 use Rattle.rows.specs.Words.{view}
 use Rattle.rows.specs.Lists.{select}
 use Rattle.rows.proofs.WordsLaws.{view-length}
-use Rattle.kernels.proofs.DrivenLaws.{chunk-count, chunk-few, place-in, left-in, row-of}
+use Rattle.kernels.proofs.DrivenLaws.{chunk-few, place-in, left-in, row-of}
 use Rattle.kernels.proofs.driven.row_in.Statement.{statement}
 use Rattle.kernels.proofs.driven.row_in.Tie as tie
 
@@ -30,11 +30,7 @@ chunk-at-requires c κs =
     (s .pre .0 .1, omega (arith, place-in (view (a .start) (a .len) (now (a .words))) (a .place) (a .rank) (s .pre .1), view-length (a .start) (a .len) (now (a .words)) (s .pre .0 .1)))
 
 select-bit-position-requires : tie.Need-select-bit-position-requires
-select-bit-position-requires c κs =
-    let s = c .before .before .before .before in
-    let a = s .args in
-    let v = view (a .start) (a .len) (now (a .words)) in
-    omega (arith, left-in v (a .place) (a .rank) (s .pre .1), chunk-count v (a .place .done .0) (c .chunk-at .result) (c .chunk-at .ensures))
+select-bit-position-requires c κs = search needs
 
 cast-row : tie.Need-cast-row
 cast-row c = search needs

@@ -1,18 +1,18 @@
--- `word::inner::select_bit_position` meets its contract. The outer invariant: the place in what is left of the word, after the bytes passed, is the place that is asked.
+-- `word::inner::select_bit_position` meets its contract. The outer invariant: the place in what is left of the word, after the bytes passed, is the place that is asked;
+-- past the last byte nothing is left, and the place is the width.
 -- The inner one: the place of the rank that is left in the byte, with its low bits cleared, is the place in the byte. Assumes nothing.
-use mathlib.Core.Path.{_≡_, refl, sym, ap, _∙_, subst}
+use mathlib.Core.Path.{_≡_, refl, sym, ap, _∙_}
 use Prim.Native.Nat.{ℕ, suc, _+_, _-_, _/_, _%_, _^_, _<_, _≤_}
 use native.Mathlib.Omega.{arith}
 use mathlib.Core.Logic.{⊎-elim}
 use native.Mathlib.Nat.{eq-zero-or-pos, lt-of-le-of-lt, zero-add}
-use lib.Pow.{shr-lt}
 use lib.Bits.{bitAnd, and-mask, and-le-l, and-le-r}
 use lib.Count.{ones, ones-le, trailing-le}
 use Rattle.rows.specs.Word.{bitsOf}
 use Rattle.word.specs.Lowest.{withoutLowest}
 use Rattle.rows.specs.Lists.{select}
 use Rattle.word.proofs.LowestLaws.{and-pred, ones-clear, ones-zero}
-use Rattle.word.proofs.SelectWord.{select-first, select-and-pred, skip-bits, in-bits, ones-parts}
+use Rattle.word.proofs.SelectWord.{select-first, select-and-pred, skip-bits, in-bits}
 use Rattle.word.proofs.inner.select_bit_position.Statement.{statement}
 use Rattle.word.proofs.inner.select_bit_position.Tie as tie
 
@@ -23,6 +23,11 @@ some n h = ⊎-elim (λ (z : n ≡ 0). absurd (let o : ones n ≡ 0 = ap ones z 
 byte-le : (n : ℕ) → ones (bitAnd n 255) ≤ 8
 byte-le n = ones-le 8 (bitAnd n 255) (lt-of-le-of-lt (and-le-r n 255) (omega arith))
 
+-- past the last byte no bit is left
+select-empty : (n r : ℕ) → select (bitsOf 0 n) r ≡ 0
+unfolding bitsOf
+select-empty n r = refl
+
 abbrev Inv-loop : tie.InvT-loop
 Inv-loop word rank left rest offset byte count bits₀ counter₀ bits counter =
     (counter ≤ left) × (bits < 2 ^ 64) × (ones bits + counter ≡ ones byte) × (select (bitsOf 64 bits) (left - counter) ≡ select (bitsOf 64 byte) left)
@@ -32,13 +37,13 @@ abbrev μ-loop : tie.MeasureT-loop
 
 abbrev Inv-bytes : tie.InvT-bytes
 Inv-bytes word rank left₀ rest₀ offset₀ left rest offset =
-    (offset ≤ 64) × (offset % 8 ≡ 0) × (rest < 2 ^ (64 - offset)) × (left < ones rest) × (offset + select (bitsOf (64 - offset) rest) left ≡ select (bitsOf 64 word) rank)
+    (offset ≤ 64) × (offset % 8 ≡ 0) × (offset + select (bitsOf (64 - offset) rest) left ≡ select (bitsOf 64 word) rank)
 
 abbrev μ-bytes : tie.MeasureT-bytes
 μ-bytes word rank left₀ rest₀ offset₀ left rest offset = 64 - offset
 
 bytes-holds : tie.Need-bytes-holds Inv-loop μ-loop Inv-bytes μ-bytes
-bytes-holds c = (omega arith, refl, c .fits .word .fits, c .pre, zero-add (select (bitsOf 64 (c .args .word)) (c .args .rank)))
+bytes-holds c = (omega arith, refl, zero-add (select (bitsOf 64 (c .args .word)) (c .args .rank)))
 
 loop-holds : tie.Need-loop-holds Inv-loop μ-loop Inv-bytes μ-bytes
 loop-holds c =
@@ -87,19 +92,17 @@ bytes-again c =
     let o : ones (bitAnd n 255) ≡ ones (n % 256) = ap ones b in
     let j : ℕ = 64 - (at .bit-offset + 8) in
     let room : at .bit-offset + 8 ≤ 64 = omega arith in
-    let w : 64 - at .bit-offset ≡ j + 8 = omega arith in
     let v : 64 - at .bit-offset ≡ 8 + j = omega arith in
     let skip : select (bitsOf (64 - at .bit-offset) n) (at .left) ≡ 8 + select (bitsOf j (n / 256)) (at .left - ones (bitAnd n 255)) =
     ap (λ (k : ℕ). select (bitsOf k n) (at .left)) v ∙ skip-bits 8 j n (at .left) (omega arith) ∙ ap (λ (k : ℕ). 8 + select (bitsOf j (n / 256)) (at .left - k)) (sym o) in
-    (room, omega arith, shr-lt j 8 (subst (λ (k : ℕ). n < 2 ^ k) w (at .inv .2)), omega (arith, ones-parts 8 n), omega (arith, at .inv .4))
+    (room, omega arith, omega (arith, at .inv .2))
 
 returns : tie.Need-returns Inv-loop μ-loop Inv-bytes μ-bytes
 returns c =
     let at = c .before .bytes in
     let e : 64 - at .bit-offset ≡ 0 = omega arith in
-    let l : at .rest < 1 = subst (λ (k : ℕ). at .rest < 2 ^ k) e (at .inv .2) in
-    let z : at .rest ≡ 0 = omega arith in
-    absurd (let o : ones (at .rest) ≡ 0 = ap ones z ∙ ones-zero in omega arith)
+    let z : select (bitsOf (64 - at .bit-offset) (at .rest)) (at .left) ≡ 0 = ap (λ (k : ℕ). select (bitsOf k (at .rest)) (at .left)) e ∙ select-empty (at .rest) (at .left) in
+    omega (arith, at .inv .2)
 
 returns-2 : tie.Need-returns-2 Inv-loop μ-loop Inv-bytes μ-bytes
 returns-2 c =
@@ -114,7 +117,7 @@ returns-2 c =
     ap (λ (k : ℕ). out .bit-offset + k)
     (sym (select-first 64 (at .bits)) ∙ ap (select (bitsOf 64 (at .bits))) (sym z) ∙ at .inv .3 ∙ ap (λ (k : ℕ). select (bitsOf 64 k) (out .left)) b
     ∙ sym (in-bits 8 j 56 n (out .left) lt) ∙ ap (λ (k : ℕ). select (bitsOf k n) (out .left)) (sym v))
-    ∙ out .inv .4
+    ∙ out .inv .2
 
 pub select-bit-position-spec : {M : Type 1} → statement M
 select-bit-position-spec =
