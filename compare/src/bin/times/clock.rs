@@ -2,33 +2,37 @@
 use std::hint::black_box;
 use std::time::Instant;
 
-/// Seconds of each side, the best of its turns. The crate's BMI2 paths are timed where it and the CPU have them.
+/// Seconds of each side, the best of its turns. The crate's BMI2 paths are timed where it and the CPU have them; its portable
+/// path with the making of its masks where these are made of what ours is lent.
 #[derive(Clone, Copy, Default)]
 pub struct Times {
     pub ours: f64,
     pub portable: f64,
     pub bmi2: Option<f64>,
+    pub making: Option<f64>,
 }
 
 impl Times {
     pub fn scaled(self, factor: f64) -> Times {
-        Times { ours: self.ours * factor, portable: self.portable * factor, bmi2: self.bmi2.map(|it| it * factor) }
+        self.with(self, |one, _| one * factor)
     }
 
     /// Of each side the lesser.
     pub fn least(self, other: Times) -> Times {
-        Times {
-            ours: self.ours.min(other.ours),
-            portable: self.portable.min(other.portable),
-            bmi2: self.bmi2.zip(other.bmi2).map(|(one, other)| one.min(other)),
-        }
+        self.with(other, f64::min)
     }
 
     pub fn plus(self, more: Times) -> Times {
+        self.with(more, |one, other| one + other)
+    }
+
+    fn with(self, other: Times, both: impl Fn(f64, f64) -> f64) -> Times {
+        let if_timed = |one: Option<f64>, other: Option<f64>| one.zip(other).map(|(one, other)| both(one, other));
         Times {
-            ours: self.ours + more.ours,
-            portable: self.portable + more.portable,
-            bmi2: self.bmi2.zip(more.bmi2).map(|(one, other)| one + other),
+            ours: both(self.ours, other.ours),
+            portable: both(self.portable, other.portable),
+            bmi2: if_timed(self.bmi2, other.bmi2),
+            making: if_timed(self.making, other.making),
         }
     }
 }
@@ -37,16 +41,15 @@ impl Times {
 pub type Turn<'a> = &'a mut dyn FnMut() -> f64;
 
 /// The sides go turn by turn, so that what else the machine does strikes all of them alike.
-pub fn best_of(turns: usize, ours: Turn, portable: Turn, mut bmi2: Option<Turn>) -> Times {
-    let mut best = Times { ours: f64::MAX, portable: f64::MAX, bmi2: bmi2.as_ref().map(|_| f64::MAX) };
-    for _ in 0..turns {
-        best.ours = best.ours.min(ours());
-        best.portable = best.portable.min(portable());
-        if let (Some(turn), Some(so_far)) = (&mut bmi2, &mut best.bmi2) {
-            *so_far = so_far.min(turn());
-        }
-    }
-    best
+pub fn best_of(turns: usize, ours: Turn, portable: Turn, mut bmi2: Option<Turn>, mut making: Option<Turn>) -> Times {
+    let mut all = || Times {
+        ours: ours(),
+        portable: portable(),
+        bmi2: bmi2.as_mut().map(|turn| turn()),
+        making: making.as_mut().map(|turn| turn()),
+    };
+    let first = all();
+    (1..turns).fold(first, |best, _| best.least(all()))
 }
 
 /// The seconds of one call. What it gives is dropped off the clock.

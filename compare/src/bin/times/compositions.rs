@@ -107,6 +107,7 @@ pub fn time(turns: usize, a: &Operand, b: &Operand) -> Times {
         &mut || seconds(|| lent.call()),
         &mut || theirs_once(a, b, false),
         cpu::has_bmi2().then_some(&mut bmi2),
+        Some(&mut || theirs_made_and_once(a, b)),
     )
 }
 
@@ -115,4 +116,10 @@ fn theirs_once(a: &Operand, b: &Operand, bmi2: bool) -> f64 {
     cpu::allow_bmi2(bmi2);
     let (a, b) = (theirs::mask(a), theirs::mask(b));
     seconds(|| a.intersect_by_rank(&b))
+}
+
+/// With the making of both masks, of words or of lists as ours is lent them.
+fn theirs_made_and_once(a: &Operand, b: &Operand) -> f64 {
+    cpu::allow_bmi2(false);
+    seconds(|| theirs::mask(a).intersect_by_rank(&theirs::mask(b)))
 }

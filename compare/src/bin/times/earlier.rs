@@ -18,12 +18,12 @@ pub fn best_with_earlier(parts: &mut [Part], path: &Path) -> io::Result<()> {
 }
 
 fn written(times: Times) -> String {
-    let bmi2 = times.bmi2.map_or(String::new(), |bmi2| format!(" {bmi2:e}"));
-    format!("{:e} {:e}{bmi2}", times.ours, times.portable)
+    let if_timed = |seconds: Option<f64>| seconds.map_or("-".to_string(), |seconds| format!("{seconds:e}"));
+    format!("{:e} {:e} {} {}", times.ours, times.portable, if_timed(times.bmi2), if_timed(times.making))
 }
 
 fn read(line: &str) -> Times {
-    let mut numbers = line.split(' ').map(|number| number.parse().expect("a time"));
-    let mut next = || numbers.next();
-    Times { ours: next().expect("ours"), portable: next().expect("portable"), bmi2: next() }
+    let mut numbers = line.split(' ').map(|number| number.parse().ok());
+    let mut next = || numbers.next().expect("a time");
+    Times { ours: next().expect("ours"), portable: next().expect("portable"), bmi2: next(), making: next() }
 }

@@ -67,9 +67,12 @@ fn timed() -> Vec<Part> {
 }
 
 const ALIGNED: &str = "\
-Blocks of 1,048,576 rows, both masks from bit 0 on, scattered at random. \"Rank density\" is the rank mask's. On routes 1 to 3 the crate
-hands a shared mask on, where ours writes words. A list has its bits too in the crate, made before the clock starts, and the crate goes
-by them where the list is long; ours has the list alone.
+Blocks of 1,048,576 rows, both masks from bit 0 on, scattered at random. \"Rank density\" is the rank mask's.
+
+What is over the bound, and why: on routes 1 to 3 the crate hands a shared mask on, where ours checks both operands and writes words. A
+long list (routes 4 and 5 from a density of 0.25 or so on, routes 7 and 8 with a rank mask of 0.5) is lent as a list, and ours looks at each
+entry, to check it and to lay it; the crate's mask has the bits of its list since before the clock started, and where the list is long the
+crate goes by these. \"made\" has their making on the clock.
 ";
 const UNALIGNED: &str = "The same with words of self from bit 13 on and words of the rank mask from bit 37 on.\n";
 const OPERATIONS: &str = "\
@@ -77,7 +80,8 @@ Two masks in words of 1,048,576 rows at density 0.5. The crate's loops here are 
 ";
 const WORDS: &str = "\
 `boltamber_deposit` and `boltamber_select` of the C library, over 16,384 random inputs, against the crate's `Portable` deposit with its
-count and its portable select, which are called and not inlined, as a C library's functions are. Ours checks the rank.
+count and its portable select, which are called and not inlined, as a C library's functions are. Ours answers
+any rank.
 ";
 const YEAR: &str = "\
 324,979,200 rows in 310 blocks of at most 1,048,576, made one at a time; the best of each block's turns is added up.
@@ -99,7 +103,9 @@ const HEAD: &str = "\
 - portable, BMI2: the crate vortex-mask 0.90.0, optimised, without debug assertions, on this repository's stand-ins for its buffers.
   Its masks are made before the clock starts, and anew for each turn, since it keeps lists that it built. It checks nothing, and
   allocates its result.
-- The three take turns, and the best of each is told; the ratios are of these. Before the clock starts, all three gave the same rows;
+- made: portable with the making of its masks on the clock, of what ours is lent: a copy of the words and their count, or a copy of the list and
+  its bits.
+- The sides take turns, and the best of each is told; the ratios are of these. Before the clock starts, all three gave the same rows;
   of the year, in the first block.
 - Under an emulator the times are the emulator's. They go by the number of instructions, whatever a CPU makes of them; and PDEP is a
   loop over the mask's bits, so that the BMI2 column tells nothing of a CPU that has it. A loop that happens to lie across two pages of

@@ -36,7 +36,7 @@ fn line(part: &mut Part, which: u64, name: &str, a: &Operand, b: &Operand) {
         let (a, b) = (theirs::mask(a), theirs::mask(b));
         seconds(|| operation(which, a, &b))
     };
-    let times = best_of(TURNS, &mut || seconds(|| lent.call()), &mut portable, None);
+    let times = best_of(TURNS, &mut || seconds(|| lent.call()), &mut portable, None, None);
     let starts = format!("{} and {}", a.start, b.start);
     part.add(Line {
         cells: vec![name.to_string(), starts.clone()],

@@ -7,10 +7,11 @@ const EDGE: (f64, f64) = (46.0, 14.0); // of the field inside a panel: left, rig
 const FIELD: (f64, f64) = (46.0, 196.0); // its top and bottom
 const TOP: f64 = 84.0;
 
-const SIDES: [(&str, &str); 3] = [
+const SIDES: [(&str, &str); 4] = [
     ("ours", "ours: proved, with all checks"),
     ("portable", "the crate's portable paths"),
-    ("bmi2", "the crate's BMI2 paths, where it has them"),
+    ("bmi2", "its BMI2 paths, where it has them"),
+    ("made", "portable, with its masks made"),
 ];
 
 const STYLE: &str = "
@@ -29,10 +30,12 @@ const STYLE: &str = "
     polyline.ours { stroke: #1f5fa8; }
     polyline.portable { stroke: #b3541e; }
     polyline.bmi2 { stroke: #5d7f2f; stroke-dasharray: 5 3; }
+    polyline.made { stroke: #777; stroke-width: 1.5; stroke-dasharray: 2 3; }
     .mark { stroke: #fff; stroke-width: 0.8; }
     .mark.ours { fill: #1f5fa8; }
     .mark.portable { fill: #b3541e; }
     .mark.bmi2 { fill: #5d7f2f; }
+    .mark.made { fill: #777; }
 ";
 
 pub fn drawing(place: &str, parts: &[Part]) -> String {
@@ -193,7 +196,7 @@ fn steps(of_a_decade: &[f64]) -> impl DoubleEndedIterator<Item = f64> {
 fn time(line: &Line, side: usize) -> Option<f64> {
     // what is too short for the clock stands at a ten-thousandth
     let on_scale = |time: f64| time.max(1e-4);
-    [Some(line.times.ours), Some(line.times.portable), line.times.bmi2][side].map(on_scale)
+    [Some(line.times.ours), Some(line.times.portable), line.times.bmi2, line.times.making][side].map(on_scale)
 }
 
 /// A mark of its own for each side, so that colour is not needed to tell them apart.
@@ -203,6 +206,12 @@ fn mark(class: &str, x: f64, y: f64) -> String {
         "portable" => {
             let (x, y) = (x - 3.5, y - 3.5);
             format!(r#"<rect class="mark {class}" x="{x:.1}" y="{y:.1}" width="7" height="7"/>"#)
+        }
+        "made" => {
+            let (left, right, low, high) = (x - 3.5, x + 3.5, y + 3.5, y - 3.5);
+            format!(
+                r#"<path class="mark {class}" d="M {left:.1} {y:.1} L {x:.1} {high:.1} L {right:.1} {y:.1} L {x:.1} {low:.1} z"/>"#
+            )
         }
         _ => {
             let (left, right, low, high) = (x - 4.5, x + 4.5, y + 4.0, y - 4.5);

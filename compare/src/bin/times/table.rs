@@ -45,18 +45,18 @@ impl Part {
     }
 
     fn head(&self) -> Vec<String> {
-        let numbers = ["ours", "portable", "BMI2", "ours/portable", "ours/BMI2", "mark"];
+        let numbers = ["ours", "portable", "BMI2", "made", "ours/portable", "ours/BMI2", "ours/made", "mark"];
         self.columns.iter().chain(&numbers).map(|name| name.to_string()).collect()
     }
 
     fn row(&self, line: &Line) -> Vec<String> {
-        let Times { ours, portable, bmi2 } = line.times;
+        let Times { ours, portable, bmi2, making } = line.times;
+        let sides = [Some(portable), bmi2, making];
+        let told = |side: Option<f64>, tell: fn(f64) -> String| side.map_or("-".to_string(), tell);
         let mut row = line.cells.clone();
         row.push(number(ours));
-        row.push(number(portable));
-        row.push(bmi2.map_or("-".to_string(), number));
-        row.push(ratio(ours / portable));
-        row.push(bmi2.map_or("-".to_string(), |bmi2| ratio(ours / bmi2)));
+        row.extend(sides.map(|side| told(side, number)));
+        row.extend(sides.map(|side| told(side.map(|side| ours / side), ratio)));
         row.push(if self.is_over(line) { format!("over {}", self.bound) } else { String::new() });
         row
     }

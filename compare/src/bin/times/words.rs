@@ -48,7 +48,8 @@ fn line(
     portable: impl Fn(u64, u64) -> u64 + Copy,
 ) {
     assert!(inputs.iter().all(|&(x, y)| ours(x, y) == portable(x, y)), "{name}: not the crate's answer");
-    let times = best_of(TURNS, &mut || seconds(|| all(inputs, ours)), &mut || seconds(|| all(inputs, portable)), None);
+    let times =
+        best_of(TURNS, &mut || seconds(|| all(inputs, ours)), &mut || seconds(|| all(inputs, portable)), None, None);
     part.add(Line {
         cells: vec![name.to_string(), density.to_string()],
         panel: format!("C library: {name}"),
