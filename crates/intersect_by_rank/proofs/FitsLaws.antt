@@ -13,7 +13,8 @@ use lib.Dec.{ltb, eqb}
 use Rattle.rows.specs.Rows.{count, compose}
 use Rattle.rows.specs.Words.{bitsOfAll, view}
 use Rattle.rows.specs.Lists.{listed, Ascending}
-use Rattle.rows.proofs.RowLaws.{compose-full, compose-by-full, compose-empty, compose-by-empty, compose-cut}
+use Rattle.rows.proofs.RowLaws.{compose-full, compose-by-full, compose-empty, compose-by-empty}
+use Rattle.rows.proofs.FitLaws.{compose-cut}
 use Rattle.rows.proofs.ListLaws.{eqb-same, listed-count}
 use Rattle.mask.specs.declared.Form.{Form}
 use Rattle.mask.specs.declared.Form.the-variants.{All, None, Words, List as Listed}
@@ -132,7 +133,7 @@ module _ (s : Form) (sws ses : List ℕ) (r : Form) (rws res : List ℕ) (p : Pa
     words-words v = sym (ap₂ compose same (in-words r rws res v (p .rank) .rows))
 
     pub words-read : InWords r res → compose (view (startOf s) (lengthOf s) sws) (drop (startOf r) (bitsOfAll 64 rws)) ≡ result s sws ses r rws res
-    words-read v = sym (compose-cut shown (drop (startOf r) (bitsOfAll 64 rws)) (lengthOf r) (omega (arith, words-count))) ∙ words-words v
+    words-read v = sym (compose-cut (lengthOf r) shown (drop (startOf r) (bitsOfAll 64 rws)) (omega (arith, words-count))) ∙ words-words v
 
   -- self a list
   module _ (l : isList s ≡ true) where
@@ -155,7 +156,7 @@ module _ (s : Form) (sws ses : List ℕ) (r : Form) (rws res : List ℕ) (p : Pa
     list-read v =
         let all : count (listed (lengthOf s) ses) ≡ length ses = listed-count (lengthOf s) ses list-ascends in
         sym (ap₂ compose listed-self (in-words r rws res v (p .rank) .rows)
-        ∙ compose-cut (listed (lengthOf s) ses) (drop (startOf r) (bitsOfAll 64 rws)) (lengthOf r) (omega (arith, all, list-length)))
+        ∙ compose-cut (lengthOf r) (listed (lengthOf s) ses) (drop (startOf r) (bitsOfAll 64 rws)) (omega (arith, all, list-length)))
 
 -- a rank mask that is no list, on route 6
 pub rank-in-words : (f : Form) (es : List ℕ) → (isList f ≡ true) ⊎ InWords f es → isList f ≡ false → InWords f es

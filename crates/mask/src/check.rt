@@ -1,6 +1,5 @@
 // The checks of one operand, form by form: early returns in document 01's order.
 ghost use mathlib.Core.Path.{_≡_};
-ghost use Prim.Native.Nat.{_≤_};
 ghost use denote.Ref.{now};
 ghost use Rattle.rows.specs.Table.{first, refusal};
 ghost use Rattle.mask.specs.Operand.{climbs, lastBelow, lengthChecks, wordsChecks, listChecks};
