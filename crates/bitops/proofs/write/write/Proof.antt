@@ -1,136 +1,43 @@
--- `bitops::write::write` meets its contract.
--- The invariant: the rows before `row` are laid over the cleared words, and `sum` is their count. Assumes nothing.
-use Prim.Native.Nat.{ℕ, _+_, _-_, _≤_, _^_}
-use mathlib.Core.Path.{_≡_, refl, sym, ap, ap₂, _∙_}
-use mathlib.Core.List.{List, []}
+-- `bitops::write::write` meets its contract: the rows laid over words whose last was cleared are the rows written.
+-- By the law of rows laid from bit 0 on. Assumes nothing.
+use Prim.Native.Nat.{ℕ, _^_}
+use mathlib.Core.Path.{ap, _∙_}
+use mathlib.Core.List.{[]}
 use native.Mathlib.Omega.{arith}
-use borrow.Author.Needs.{needs}
-use lib.Count.{ones}
-use lib.ListN.{length, take, drop}
-use lib.Seq.{take-all}
 use denote.Ref.{now}
-use Rattle.rows.specs.Rows.{count}
-use Rattle.rows.specs.Word.{bitsOf, wordOf, both}
+use Rattle.rows.specs.Word.{both}
 use Rattle.rows.specs.Laid.{laid, lastCleared}
-use Rattle.rows.proofs.LaidLaws.{below-all, laid-nil, laid-length}
+use Rattle.rows.proofs.LaidLaws.{below-all}
 use Rattle.rows.proofs.WrittenLaws.{laid-written}
 use Rattle.mask.specs.Operand.{rowsOf, lengthOf}
-use Rattle.mask.proofs.OperandLaws.{flat-limit}
 use Rattle.bitops.specs.SetOps.{rowOf}
 use Rattle.bitops.proofs.SetLaws.{result-length}
-use Rattle.bitops.proofs.WriteLaws.{turn-few, turn-count, turn-laid}
+use borrow.Author.Needs.{needs}
 use Rattle.bitops.proofs.write.write.Statement.{statement}
 use Rattle.bitops.proofs.write.write.Tie as tie
 
-abbrev Inv-loop : tie.InvT-loop
-Inv-loop op a awords b bwords out₀ len sum₀ row₀ out sum row =
-    (row ≤ len) × (len ≡ lengthOf a) × (length out ≡ length out₀) × (sum ≤ row) × (sum ≡ count (take row (both (rowOf op) (rowsOf a awords []) (rowsOf b bwords []))))
-    × (out ≡ laid 0 (take row (both (rowOf op) (rowsOf a awords []) (rowsOf b bwords []))) out₀)
-
-abbrev μ-loop : tie.MeasureT-loop
-μ-loop op a awords b bwords out₀ len sum₀ row₀ out sum row = len - row
-
-length-of-requires : tie.Need-length-of-requires Inv-loop μ-loop
+length-of-requires : tie.Need-length-of-requires
 length-of-requires c κs = search needs
 
-clear-last-requires : tie.Need-clear-last-requires Inv-loop μ-loop
+clear-last-requires : tie.Need-clear-last-requires
 clear-last-requires c κs = omega (arith, c .before .length-of .ensures, c .before .before .before .before .before .pre .3)
 
-loop-holds : tie.Need-loop-holds Inv-loop μ-loop
-loop-holds c =
-    let out : List ℕ = c .before .before .clear-last .last .0 in
-    (omega arith, c .before .before .before .before .length-of .ensures, refl, omega arith, refl, sym (laid-nil 64 0 out (below-all (2 ^ 64) out (λ i. c .slice-known2 .given i .fits))))
+write-rows-requires : tie.Need-write-rows-requires
+write-rows-requires c κs = search needs
 
-chunk-len-requires : tie.Need-chunk-len-requires Inv-loop μ-loop
-chunk-len-requires c κs = omega arith
-
-chunk-requires : tie.Need-chunk-requires Inv-loop μ-loop
-chunk-requires c κs =
-    let s = c .before .before .before .before .before .before .before .before .before .before .before in
-    (s .pre .0, s .pre .1, s .pre .2, omega arith, omega arith, omega (arith, c .before .before .loop .inv .1))
-
-put-requires : tie.Need-put-requires Inv-loop μ-loop
-put-requires c κs =
-    let l = c .before .before .before .before .loop in
-    (omega arith, omega arith, omega (arith, l .inv .1, l .inv .2, c .before .before .before .before .before .before .before .before .before .before .before .before .before .pre .3))
-
-cast-sum : tie.Need-cast-sum Inv-loop μ-loop
-cast-sum c =
-    let s = c .before .before .before .before .before .before .before .before .before .before .before .before .before .before .before .before in
-    let l = c .before .before .before .before .before .before .before .loop in
-    let rows = both (rowOf (s .args .op)) (rowsOf (s .args .a) (now (s .args .awords)) []) (rowsOf (s .args .b) (now (s .args .bwords)) []) in
-    let few = turn-few (l .row) (c .before .before .before .before .before .chunk-len .result) rows (c .before .before .before .before .chunk .result) (c .before .before .before .before .chunk .ensures) in
-    omega arith
-
-add-sum : tie.Need-add-sum Inv-loop μ-loop
-add-sum c =
-    let s = c .before .before .before .before .before .before .before .before .before .before .before .before .before .before .before .before in
-    let l = c .before .before .before .before .before .before .before .loop in
-    let rows = both (rowOf (s .args .op)) (rowsOf (s .args .a) (now (s .args .awords)) []) (rowsOf (s .args .b) (now (s .args .bwords)) []) in
-    let few = turn-few (l .row) (c .before .before .before .before .before .chunk-len .result) rows (c .before .before .before .before .chunk .result) (c .before .before .before .before .chunk .ensures) in
-    omega (arith, l .inv .1, flat-limit (s .args .a) (now (s .args .awords)) (s .pre .0))
-
-add-row : tie.Need-add-row Inv-loop μ-loop
-add-row c =
-    let s = c .before .before .before .before .before .before .before .before .before .before .before .before .before .before .before .before in
-    omega (arith, c .before .before .before .before .before .before .before .loop .inv .1, flat-limit (s .args .a) (now (s .args .awords)) (s .pre .0))
-
-loop-less : tie.Need-loop-less Inv-loop μ-loop
-loop-less c = omega arith
-
-loop-again : tie.Need-loop-again Inv-loop μ-loop
-loop-again c =
-    let s = c .before .before .before .before .before .before .before .before .before .before .before .before .before .before .before .before in
-    let l = c .before .before .before .before .before .before .before .loop in
-    let n : ℕ = c .before .before .before .before .before .chunk-len .result in
-    let bits : ℕ = c .before .before .before .before .chunk .result in
-    let start : List ℕ = c .before .before .before .before .before .before .before .before .before .before .clear-last .last .0 in
-    let rows = both (rowOf (s .args .op)) (rowsOf (s .args .a) (now (s .args .awords)) []) (rowsOf (s .args .b) (now (s .args .bwords)) []) in
-    let long : length rows ≡ lengthOf (s .args .a) = result-length _ (s .args .a) (now (s .args .awords)) (s .args .b) (now (s .args .bwords)) (s .pre .0) (s .pre .1) (s .pre .2) in
-    let room : l .row + n ≤ length rows = omega (arith, l .inv .1, c .before .before .before .before .before .chunk-len .ensures) in
-    let e = c .before .before .before .before .chunk .ensures in
-    let out : c .before .before .put .last .0 ≡ laid 0 (take (l .row + n) rows) start =
-    c .before .before .put .ensures ∙ ap (λ (x : ℕ). laid (l .row) (bitsOf n x) (l .out)) e
-    ∙ ap (laid (l .row) (bitsOf n (wordOf (take n (drop (l .row) rows))))) (l .inv .5) ∙ turn-laid (l .row) n rows start room in (
-      omega arith,
-      l .inv .1,
-      ap length out ∙ laid-length 64 0 (take (l .row + n) rows) start,
-      omega (arith, turn-few (l .row) n rows bits e),
-      ap₂ (λ (x y : ℕ). x + ones y) (l .inv .4) e ∙ turn-count (l .row) n rows,
-      out,
-    )
-
-same-length : tie.Need-same-length Inv-loop μ-loop
+same-length : tie.Need-same-length
 same-length c = search needs
 
-returns : tie.Need-returns Inv-loop μ-loop
+returns : tie.Need-returns
 returns c =
-    let s = c .before .before .before .before .before .before .before .before .before .before in
-    let l = c .before .loop in
+    let s = c .before .before .before .before .before .before .before .before .before .before .before .before in
     let rows = both (rowOf (s .args .op)) (rowsOf (s .args .a) (now (s .args .awords)) []) (rowsOf (s .args .b) (now (s .args .bwords)) []) in
-    let long : length rows ≡ lengthOf (s .args .a) = result-length _ (s .args .a) (now (s .args .awords)) (s .args .b) (now (s .args .bwords)) (s .pre .0) (s .pre .1) (s .pre .2) in
-    let all : take (l .row) rows ≡ rows = take-all (l .row) rows (omega (arith, l .inv .1)) in (
-      l .inv .4 ∙ ap count all,
-      l .inv .5 ∙ ap₂ (laid 0) all (c .before .before .before .before .clear-last .ensures ∙ ap (λ (n : ℕ). lastCleared n (now (s .args .out))) (c .before .before .before .before .before .before .length-of .ensures))
-          ∙ laid-written (lengthOf (s .args .a)) rows (now (s .args .out)) (below-all (2 ^ 64) (now (s .args .out)) (λ i. c .before .before .before .before .before .before .before .slice-known .given i .fits)) long (s .pre .3),
+    let long = result-length _ (s .args .a) (now (s .args .awords)) (s .args .b) (now (s .args .bwords)) (s .pre .0) (s .pre .1) (s .pre .2) in
+    let cleared = c .before .before .before .before .before .before .clear-last .ensures ∙ ap (λ (n : ℕ). lastCleared n (now (s .args .out))) (c .before .before .before .before .before .before .before .before .length-of .ensures) in (
+      c .before .before .write-rows .ensures .0,
+      c .before .before .write-rows .ensures .1 ∙ ap (laid 0 rows) cleared
+          ∙ laid-written (lengthOf (s .args .a)) rows (now (s .args .out)) (below-all (2 ^ 64) (now (s .args .out)) (λ i. c .before .before .before .before .before .before .before .before .before .slice-known .given i .fits)) long (s .pre .3),
     )
 
 pub write-spec : {M : Type 1} → statement M
-write-spec =
-    tie.close
-    (tie.spec
-    Inv-loop
-    μ-loop
-    length-of-requires
-    clear-last-requires
-    loop-holds
-    chunk-len-requires
-    chunk-requires
-    put-requires
-    cast-sum
-    add-sum
-    add-row
-    loop-less
-    loop-again
-    same-length
-    returns)
+write-spec = tie.close (tie.spec length-of-requires clear-last-requires write-rows-requires same-length returns)
