@@ -45,6 +45,8 @@ use Rattle.lent.proofs.inner.chunk.Kinds as lent-chunk-kinds
 use Rattle.lent.proofs.inner.chunk.Reads as lent-chunk
 use Rattle.lent.proofs.inner.chunk_len.Kinds as lent-chunk-len-kinds
 use Rattle.lent.proofs.inner.chunk_len.Reads as lent-chunk-len
+use Rattle.lent.proofs.inner.has_count.Kinds as lent-has-count-kinds
+use Rattle.lent.proofs.inner.has_count.Reads as lent-has-count
 use Rattle.lent.proofs.inner.count_view.Kinds as lent-count-view-kinds
 use Rattle.lent.proofs.inner.count_view.Reads as lent-count-view
 use Rattle.lent.proofs.inner.put.Kinds as lent-put-kinds
@@ -161,6 +163,9 @@ lent-chunk-one κs a p x y v w hv hw = (hv ∙ sym hw, refl)
 
 pub lent-chunk-len-one : OneAnswer 0 lent-chunk-len-kinds.ps lent-chunk-len-kinds.r lent-chunk-len.Pre lent-chunk-len.Post
 lent-chunk-len-one κs a p x y v w hv hw = (hv ∙ sym hw, refl)
+
+pub lent-has-count-one : OneAnswer 1 lent-has-count-kinds.ps lent-has-count-kinds.r lent-has-count.Pre lent-has-count.Post
+lent-has-count-one κs a p x y v w hv hw = (hv ∙ sym hw, refl)
 
 pub lent-count-view-one : OneAnswer 1 lent-count-view-kinds.ps lent-count-view-kinds.r lent-count-view.Pre lent-count-view.Post
 lent-count-view-one κs a p x y v w hv hw = (hv ∙ sym hw, refl)

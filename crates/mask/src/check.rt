@@ -3,7 +3,7 @@ ghost use mathlib.Core.Path.{_≡_};
 ghost use denote.Ref.{now};
 ghost use Rattle.rows.specs.Table.{first, refusal};
 ghost use Rattle.mask.specs.Operand.{climbs, lastBelow, lengthChecks, wordsChecks, listChecks};
-use lent::inner::count_view;
+use lent::inner::has_count;
 use lent::inner::words_for;
 use rows::Refusal;
 use rows::Verdict;
@@ -36,7 +36,7 @@ pub fn check_words(operand: u8, start: u64, length: u64, claimed: u64, words: &[
     if (words.len() as u64) < words_for(start + length) {
         return refuse(3, operand);
     }
-    if claimed != count_view(words, start, length) {
+    if !has_count(words, start, length, claimed) {
         return refuse(4, operand);
     }
     Verdict::Fine

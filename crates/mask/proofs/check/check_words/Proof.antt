@@ -1,14 +1,19 @@
 -- `mask::check::check_words` meets its contract: each return is one line of the table, the lines before it met.
 -- By the table's law. Assumes nothing.
-use mathlib.Core.Path.{refl, sym, _∙_}
+use Prim.Native.Nat.{ℕ}
+use mathlib.Core.Path.{_≡_, refl, sym, _∙_, subst}
 use mathlib.Core.Logic.{inl, inr}
 use native.Mathlib.Omega.{arith}
+use lib.Dec.{T, eqb, eqb→eq, eqb-refl}
 use denote.Ref.{now}
+use Rattle.rows.specs.Rows.{count}
+use Rattle.rows.specs.Words.{view}
 use Rattle.rows.specs.declared.Verdict.the-variants.{Fine, Refused}
 use Rattle.rows.specs.Table.{refusal}
-use Rattle.rows.proofs.TableLaws.{tells}
+use Rattle.rows.proofs.TableLaws.{tells, is-true, is-false}
 use Rattle.mask.specs.Operand.{wordsChecks}
 use borrow.Author.Needs.{needs}
+use borrow.Author.Tests.{not-true, not-false}
 use Rattle.mask.proofs.check.check_words.Statement.{statement}
 use Rattle.mask.proofs.check.check_words.Tie as tie
 
@@ -42,8 +47,8 @@ returns-3 c =
     let a = c .before .before .before .before .before .before .args in
     c .refuse3 .ensures ∙ sym (tells (wordsChecks (a .operand) (a .start) (a .length) (a .claimed) (now (a .words))) (Refused (refusal 3 (a .operand))) (inl (omega arith, inl (omega arith, inr (λ h. omega arith, refl)))))
 
-count-view-requires : tie.Need-count-view-requires
-count-view-requires c κs = search needs
+has-count-requires : tie.Need-has-count-requires
+has-count-requires c κs = search needs
 
 refuse-requires-4 : tie.Need-refuse-requires-4
 refuse-requires-4 c κs = search needs
@@ -51,12 +56,15 @@ refuse-requires-4 c κs = search needs
 returns-4 : tie.Need-returns-4
 returns-4 c =
     let a = c .before .before .before .before .before .before .before .before .args in
-    c .refuse4 .ensures ∙ sym (tells (wordsChecks (a .operand) (a .start) (a .length) (a .claimed) (now (a .words))) (Refused (refusal 4 (a .operand))) (inl (omega arith, inl (omega arith, inl (omega arith, inr (λ h. omega arith, refl))))))
+    let e = is-false (sym (c .before .before .has-count .ensures) ∙ not-true _ (c .before .if4 .taken)) in
+    let other : ¬ (a .claimed ≡ count (view (a .start) (a .length) (now (a .words)))) = λ h. e (subst (λ (k : ℕ). T (eqb (a .claimed) k)) h (eqb-refl (a .claimed))) in
+    c .refuse4 .ensures ∙ sym (tells (wordsChecks (a .operand) (a .start) (a .length) (a .claimed) (now (a .words))) (Refused (refusal 4 (a .operand))) (inl (omega arith, inl (omega arith, inl (omega arith, inr (other, refl))))))
 
 returns-5 : tie.Need-returns-5
 returns-5 c =
     let a = c .before .before .before .before .before .before .before .args in
-    sym (tells (wordsChecks (a .operand) (a .start) (a .length) (a .claimed) (now (a .words))) Fine (inl (omega arith, inl (omega arith, inl (omega arith, inl (omega arith, refl))))))
+    let same : a .claimed ≡ count (view (a .start) (a .length) (now (a .words))) = eqb→eq (a .claimed) (count (view (a .start) (a .length) (now (a .words)))) (is-true (sym (c .before .has-count .ensures) ∙ not-false _ (c .if4 .left))) in
+    sym (tells (wordsChecks (a .operand) (a .start) (a .length) (a .claimed) (now (a .words))) Fine (inl (omega arith, inl (omega arith, inl (omega arith, inl (same, refl))))))
 
 pub check-words-spec : {M : Type 1} → statement M
 check-words-spec =
@@ -70,7 +78,7 @@ check-words-spec =
     words-for-requires
     refuse-requires-3
     returns-3
-    count-view-requires
+    has-count-requires
     refuse-requires-4
     returns-4
     returns-5)
