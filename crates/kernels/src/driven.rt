@@ -24,12 +24,19 @@ pub struct Place {
     pub passed: Rank,
 }
 
-// The chunk from bit i of a view on.
+// The chunk from bit i of a view on: a word as it lies where the view and the chunk begin on one, and no row lacks.
 pub fn chunk_at(words: &[u64], start: u64, len: u64, i: u64) -> u64
     requires { ⌜ (start + len ≤ length (now words) * 64) × (i < len) ⌝ }
     ensures { λ r. ⌜ r ≡ wordOf (chunkAt (view start len (now (words .entry))) i) ⌝ }
 {
-    chunk(words, start, i, chunk_len(len, i))
+    let n = chunk_len(len, i);
+    if start != 0 {
+        return chunk(words, start, i, n);
+    }
+    if i % 64 + 64 != n {
+        return chunk(words, start, i, n);
+    }
+    words[(i / 64) as usize]
 }
 
 // From a place that is not past the rank on, the place whose chunk holds it.
