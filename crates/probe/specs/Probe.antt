@@ -99,7 +99,7 @@ does d m = cond (ready (m .answers)) (record { out = d .out; answers = over (d .
 abbrev pub wordTold : Refusal → ℕ → Told
 wordTold r word = record { refusal = r .number; operand = r .operand; count = 0; route = 0; word = word; done = 0; ranks = 0; kept = 0; bytes = 0; density = noDensity }
 
--- an answer, and a state's three numbers
+-- an answer, a state's three numbers, and how many bytes were written
 abbrev pub stateTold : Answer → ℕ → ℕ → ℕ → ℕ → Told
 stateTold a done ranks kept bytes =
     record {

@@ -72,11 +72,13 @@ Blocks of 1,048,576 rows, both masks from bit 0 on, scattered at random. \"Rank 
 What is over the bound, and why: on routes 1 to 3 the crate hands a shared mask on, where ours checks both operands and writes words. A
 long list (routes 4 and 5 from a density of 0.25 or so on, routes 7 and 8 with a rank mask of 0.5) is lent as a list, and ours looks at each
 entry, to check it and to lay it; the crate's mask has the bits of its list since before the clock started, and where the list is long the
-crate goes by these. \"made\" has their making on the clock.
+crate goes by these. At a self density of 0.99 nearly every word has at most two holes, for which the deposit is short: there the call and
+the checks weigh, under an emulator more than on a CPU. \"made\" has their making on the clock.
 ";
 const UNALIGNED: &str = "The same with words of self from bit 13 on and words of the rank mask from bit 37 on.\n";
 const OPERATIONS: &str = "\
-Two masks in words of 1,048,576 rows at density 0.5. The crate's loops here are the stand-in's, and it has no BMI2 path.
+Two masks in words of 1,048,576 rows at density 0.5. The crate's loops here are the stand-in's, and it has no BMI2 path. Where both masks begin
+on a word, ours is a loop of SSE2 vectors, which an emulator takes one by one, each for the time of several instructions.
 ";
 const WORDS: &str = "\
 `boltamber_deposit` and `boltamber_select` of the C library, over 16,384 random inputs, against the crate's `Portable` deposit with its
