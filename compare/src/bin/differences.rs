@@ -36,20 +36,27 @@ fn main() -> ExitCode {
     ExitCode::from(u8::from(bad))
 }
 
-fn words() -> [Difference; 3] {
+fn words() -> [Difference; 4] {
     let word = |answer: Result<_, String>| {
         told(answer.map(|answer| Told::<u64> { answer, out: vec![] }), |t| format!("word {}", t.answer.cells[WORD]))
     };
     let mut lent = Lent::new(&[1]);
     [
         Difference {
-            input: "deposit of source 4 into mask 7, claimed count 2",
+            input: "deposit of source 0 into mask 0, claimed count 1",
             ours: "refusal 4",
-            ours_gives: word(ours::deposit(0, 4, 7, 2)),
+            ours_gives: word(ours::deposit(0, 0, 0, 1)),
+            theirs: "word 0",
+            theirs_gives: format!("word {}", private::claiming_deposit(0, 0, 1)),
+        },
+        Difference {
+            input: "deposit of source 4 into mask 7, claimed count 0",
+            ours: "refusal 4",
+            ours_gives: word(ours::deposit(0, 4, 7, 0)),
             theirs: "word 0, where PDEP gives 4",
             theirs_gives: format!(
                 "word {}, where PDEP gives {}",
-                private::claiming_deposit(4, 7, 2),
+                private::claiming_deposit(4, 7, 0),
                 private::loop_deposit(4, 7)
             ),
         },
@@ -90,11 +97,11 @@ fn masks() -> [Difference; 5] {
             theirs_gives: counted(&all(1_048_577)),
         },
         Difference {
-            input: "words 0 of length 1, claimed count 1",
+            input: "no words, length 0, claimed count 1",
             ours: "refusal 4",
-            ours_gives: told(ours::to_words(&in_words(1, &[0], 1), &[0]), density),
+            ours_gives: told(ours::to_words(&in_words(0, &[], 1), &[]), density),
             theirs: "count 0",
-            theirs_gives: counted(&in_words(1, &[0], 1)),
+            theirs_gives: counted(&in_words(0, &[], 1)),
         },
         Difference {
             input: "the list 0, 0 of length 1",
