@@ -72,8 +72,8 @@ Blocks of 1,048,576 rows, both masks from bit 0 on, scattered at random. \"Rank 
 What is over the bound, and why: on routes 1 to 3 the crate hands a shared mask on, where ours checks both operands and writes words. A
 long list (routes 4 and 5 from a density of 0.25 or so on, routes 7 and 8 with a rank mask of 0.5) is lent as a list, and ours looks at each
 entry, to check it and to lay it; the crate's mask has the bits of its list since before the clock started, and where the list is long the
-crate goes by these. At a self density of 0.99 nearly every word has at most two holes, for which the deposit is short: there the call and
-the checks weigh, under an emulator more than on a CPU. \"made\" has their making on the clock.
+crate goes by these; \"made\" has their making on the clock. At a self density of 0.99 nearly every word has at most two holes, for which the
+deposit is short: there the call and the checks weigh, under an emulator more than on a CPU.
 ";
 const UNALIGNED: &str = "The same with words of self from bit 13 on and words of the rank mask from bit 37 on.\n";
 const OPERATIONS: &str = "\
