@@ -5,7 +5,7 @@ use Prim.Native.Nat.{ℕ, zero, suc, _≤_, _<_}
 use native.Mathlib.Nat.{le-of-suc-le-suc}
 use mathlib.Core.Path.{_≡_, refl, sym, ap, _∙_}
 use mathlib.Core.Logic.{_↔_, _≢_, _⊎_, inl, inr}
-use mathlib.Core.Bool.{Bool, true, false, not, _&&_, _||_}
+use mathlib.Core.Bool.{Bool, true, false, not, _&&_, _||_, false≢true}
 use mathlib.Core.List.{List, [], _∷_, _++_, map}
 use native.Mathlib.Decide.{ℕ-discrete, decLe}
 use native.Mathlib.Omega.{arith}
@@ -20,7 +20,7 @@ use Rattle.rows.proofs.TableLaws.{told-exactly, accepts-exactly}
 use Rattle.mask.specs.declared.Form.{Form}
 use Rattle.mask.specs.Operand.{rowsOf, lengthOf, isList, setChecks}
 use Rattle.mask.proofs.OperandLaws.{accepted-length}
-use Rattle.mask.proofs.Writes.{bitAt, row, Writes, writes, unset, in-both}
+use Rattle.mask.proofs.Writes.{bitAt, row, Writes, writes, in-both}
 use Rattle.mask.proofs.Theorems.{Wrong, Bare, operand-refuses, operand-numbered, first-parts, first-left, first-right, InParts, refuses-parts, numbered-append, answered-told, nothing-done, never, number, names, same}
 use Rattle.bitops.specs.SetOps.{andNot, pairChecks, notChecks, combined, combinedOut, negated, negatedOut}
 use Rattle.bitops.proofs.BothLaws.{both-length, both-at}
@@ -56,16 +56,16 @@ in-either true y = (λ e. inl refl, λ p. refl)
 in-either false y = (λ e. inr e, either)
   where
     either : (false ≡ true) ⊎ (y ≡ true) → y ≡ true
-    either (inl e) = unset e
+    either (inl e) = absurd (false≢true e)
     either (inr e) = e
 
 not-in : (x : Bool) → (not x ≡ true) ↔ (x ≡ false)
-not-in true = (λ e. unset e, λ e. sym e)
+not-in true = (λ e. absurd (false≢true e), λ e. sym e)
 not-in false = (λ e. refl, λ e. refl)
 
 in-first : (x y : Bool) → (andNot x y ≡ true) ↔ ((x ≡ true) × (y ≡ false))
 in-first true y = (λ e. (refl, not-in y .0 e), λ p. not-in y .1 (p .1))
-in-first false y = (λ e. unset e, λ p. p .0)
+in-first false y = (λ e. absurd (false≢true e), λ p. p .0)
 
 not-at : (xs : List Bool) (i : ℕ) → i < length xs → getD (map not xs) i false ≡ not (getD xs i false)
 not-at [] i h = absurd (omega arith)

@@ -11,7 +11,7 @@ use Rattle.rows.specs.Table.{Line, need, first, inOrder, ifFine}
 use Rattle.mask.specs.declared.Answer.{Answer}
 use Rattle.mask.specs.declared.Form.{Form}
 use Rattle.mask.specs.Operand.{rowsOf, lengthOf, setChecks}
-use Rattle.mask.specs.Answer.{answered}
+use Rattle.mask.specs.Answer.{answered, noRoute}
 use Rattle.bitops.specs.declared.op.Operation.{Operation}
 use Rattle.bitops.specs.declared.op.Operation.the-variants.{And, Or, AndNot, Not}
 
@@ -47,7 +47,7 @@ notChecks a aws aes room =
 -- ---- two operands, by g row by row
 
 unfoldable pub combined : (Bool → Bool → Bool) → Form → List ℕ → List ℕ → Form → List ℕ → List ℕ → List ℕ → Answer
-combined g a aws aes b bws bes out = answered (first (pairChecks a aws aes b bws bes (length out))) (both g (rowsOf a aws aes) (rowsOf b bws bes)) 0
+combined g a aws aes b bws bes out = answered (first (pairChecks a aws aes b bws bes (length out))) (both g (rowsOf a aws aes) (rowsOf b bws bes)) noRoute
 
 unfoldable pub combinedOut : (Bool → Bool → Bool) → Form → List ℕ → List ℕ → Form → List ℕ → List ℕ → List ℕ → List ℕ
 combinedOut g a aws aes b bws bes out = ifFine (first (pairChecks a aws aes b bws bes (length out))) (written (lengthOf a) (both g (rowsOf a aws aes) (rowsOf b bws bes)) out) out
@@ -55,7 +55,7 @@ combinedOut g a aws aes b bws bes out = ifFine (first (pairChecks a aws aes b bw
 -- ---- not
 
 unfoldable pub negated : Form → List ℕ → List ℕ → List ℕ → Answer
-negated a aws aes out = answered (first (notChecks a aws aes (length out))) (map not (rowsOf a aws aes)) 0
+negated a aws aes out = answered (first (notChecks a aws aes (length out))) (map not (rowsOf a aws aes)) noRoute
 
 unfoldable pub negatedOut : Form → List ℕ → List ℕ → List ℕ → List ℕ
 negatedOut a aws aes out = ifFine (first (notChecks a aws aes (length out))) (written (lengthOf a) (map not (rowsOf a aws aes)) out) out

@@ -22,6 +22,7 @@ use lent::inner::put;
 use lent::inner::whole_word;
 use mask::Answer;
 use mask::Form;
+use mask::inner::NO_ROUTE;
 use mask::inner::accepted;
 use mask::inner::length_of;
 use mask::inner::refused;
@@ -145,7 +146,7 @@ pub fn answer(
         × (now (out .exit) ≡ written (lengthOf a) (both (rowOf op) (rowsOf a (now (awords .entry)) []) (rowsOf b (now (bwords .entry)) [])) (now (out .entry))) ⌝ }
 {
     let count = write(op, a, awords, b, bwords, out);
-    accepted(count, 0, length_of(a))
+    accepted(count, NO_ROUTE, length_of(a))
 }
 
 // An operation on two operands, checked.

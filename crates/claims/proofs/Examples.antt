@@ -4,13 +4,13 @@
 use Prim.Native.Nat.{ℕ, _+_, _-_, _^_}
 use mathlib.Core.Path.{_≡_, refl}
 use mathlib.Core.List.{List, [], _∷_, _++_, map}
-use native.Mathlib.Decide.{ℕ-discrete, decLt, decLe}
+use mathlib.Core.Bool.{false}
+use native.Mathlib.Decide.{ℕ-discrete, decLe}
+use lib.IntN.{negsuc}
+use lib.Ieee.{Float, fin, round}
 use Rattle.rows.specs.Word.{bitsOf, wordOf}
-use Rattle.rows.specs.Pdep.{pdepLoop, pdep}
 use Rattle.rows.specs.Table.{first, inOrder, noRefusal}
-use Rattle.word.specs.Answer.{deposited, selected}
 use Rattle.word.proofs.Examples as word-examples
-use Rattle.lent.specs.Read.{rankRead}
 use Rattle.lent.proofs.Examples as lent-examples
 use Rattle.mask.specs.declared.Answer.{Answer}
 use Rattle.mask.specs.declared.Form.{Form}
@@ -19,6 +19,10 @@ use Rattle.mask.specs.Answer.{densityOf}
 use Rattle.intersect_by_rank.specs.Route.{routeOf, published}
 use Rattle.intersect_by_rank.specs.Compose.{composed, composedOut}
 use Rattle.composer.specs.Stream.{Pair, lent, pairOf, stateOf, fresh, judged, run}
+
+-- 2 of 8 rows, and 1 of 4: 1 * 2 ^ -2
+abbrev pub quarter : Float
+quarter = fin false 1 (negsuc 1)
 
 -- 01101011 composed with 10010 is 01000010. The output had all ones, and a second word that stays
 
@@ -30,7 +34,7 @@ before = (2 ^ 64 - 1) ∷ 7 ∷ []
 
 abbrev pub Holds : Case → Type 0
 Holds (gives s sws ses r rws res n) =
-    (composed published s sws ses r rws res before ≡ record { refusal = noRefusal; summary = record { count = 2; route = n; density = densityOf 2 8 } })
+    (composed published s sws ses r rws res before ≡ record { refusal = noRefusal; summary = record { count = 2; route = n; density = quarter } })
     × (composedOut s sws ses r rws res before ≡ 66 ∷ 7 ∷ [])
 
 abbrev pub masks : List Case
@@ -46,11 +50,11 @@ masks =
 pub data Fed : Type 0 where
   feeds : (one two : Pair) (first second : ℕ) → Fed
 
-abbrev pub answers : ℕ → ℕ → ℕ → Answer
-answers n route len = record { refusal = noRefusal; summary = record { count = n; route = route; density = densityOf n len } }
+abbrev pub keepsOne : ℕ → Answer
+keepsOne route = record { refusal = noRefusal; summary = record { count = 1; route = route; density = quarter } }
 
 abbrev pub FeedsHold : Fed → Type 0
-FeedsHold (feeds one two n m) = run fresh before (one ∷ two ∷ []) ≡ record { answers = answers 1 n 4 ∷ answers 1 m 4 ∷ []; state = stateOf 8 5 2; out = (2 ^ 64 - 256 + 66) ∷ 7 ∷ [] }
+FeedsHold (feeds one two n m) = run fresh before (one ∷ two ∷ []) ≡ record { answers = keepsOne n ∷ keepsOne m ∷ []; state = stateOf 8 5 2; out = (2 ^ 64 - 256 + 66) ∷ 7 ∷ [] }
 
 abbrev pub pieces : List Fed
 pieces =
@@ -81,6 +85,28 @@ AllTrue (e ∷ es) = True e × AllTrue es
 abbrev pub document : List Example
 document = map word word-examples.cases ++ map read lent-examples.cases ++ map composition masks ++ map stream pieces
 
+all-append : (xs ys : List Example) → AllTrue xs → AllTrue ys → AllTrue (xs ++ ys)
+all-append [] ys a b = b
+all-append (x ∷ xs) ys a b = (a .0, all-append xs ys (a .1) b)
+
+words-true : (cs : List word-examples.Case) → word-examples.Every cs → AllTrue (map word cs)
+words-true [] h = tt
+words-true (c ∷ cs) h = (h .0, words-true cs (h .1))
+
+reads-true : (cs : List lent-examples.Case) → lent-examples.Every cs → AllTrue (map read cs)
+reads-true [] h = tt
+reads-true (c ∷ cs) h = (h .0, reads-true cs (h .1))
+
+masks-true : AllTrue (map composition masks)
+unfolding densityOf round composed composedOut routeOf first inOrder bitsOf wordOf ℕ-discrete decLe
+masks-true = ((refl, refl), ((refl, refl), ((refl, refl), ((refl, refl), tt))))
+
+pieces-true : AllTrue (map stream pieces)
+unfolding densityOf round judged composed composedOut routeOf first inOrder bitsOf wordOf ℕ-discrete decLe
+pieces-true = (refl, (refl, (refl, tt)))
+
 pub examples : AllTrue document
-unfolding deposited selected pdep pdepLoop rankRead judged composed composedOut routeOf first inOrder bitsOf wordOf ℕ-discrete decLt decLe
-examples = (refl, (refl, (refl, (refl, (refl, (refl, (refl, (refl, (refl, (refl, (refl, (refl, (refl, (refl, (refl, ((refl, refl), ((refl, refl), ((refl, refl), ((refl, refl), (refl, (refl, (refl, tt))))))))))))))))))))))
+examples =
+    all-append (map word word-examples.cases) _ (words-true word-examples.cases word-examples.examples)
+    (all-append (map read lent-examples.cases) _ (reads-true lent-examples.cases lent-examples.examples)
+    (all-append (map composition masks) (map stream pieces) masks-true pieces-true))

@@ -31,7 +31,7 @@ use Rattle.composer.proofs.feed.Kinds as feed-kinds
 use Rattle.composer.proofs.feed.Reads as feed
 use Rattle.text.proofs.answer.Kinds as answer-kinds
 use Rattle.text.proofs.answer.Reads as answer
-use Rattle.probe.specs.Probe.{Answers, Memory}
+use Rattle.probe.specs.Probe.{AnswerCells, Memory}
 use Rattle.probe.proofs.probe_deposit.Kinds as probe-deposit-kinds
 use Rattle.probe.proofs.probe_deposit.Reads as probe-deposit
 use Rattle.probe.proofs.probe_select.Kinds as probe-select-kinds
@@ -91,28 +91,28 @@ pub text-answer-one : OneAnswer 2 answer-kinds.ps answer-kinds.r answer.Pre answ
 text-answer-one κs a p x y v w hv hw = (hv .0 ∙ sym (hw .0), ap (λ (l : List ℕ). (tt, (l, tt))) (hv .1 ∙ sym (hw .1)))
 
 pub probe-probe-deposit-one : OneAnswer 2 probe-deposit-kinds.ps probe-deposit-kinds.r probe-deposit.Pre probe-deposit.Post
-probe-probe-deposit-one κs a p x y v w hv hw = (refl, ap (λ (m : Answers). (tt, (tt, (tt, (tt, (m .ans, (m .den, tt))))))) (hv ∙ sym hw))
+probe-probe-deposit-one κs a p x y v w hv hw = (refl, ap (λ (m : AnswerCells). (tt, (tt, (tt, (tt, (m .ans, (m .den, tt))))))) (hv ∙ sym hw))
 
 pub probe-probe-select-one : OneAnswer 2 probe-select-kinds.ps probe-select-kinds.r probe-select.Pre probe-select.Post
-probe-probe-select-one κs a p x y v w hv hw = (refl, ap (λ (m : Answers). (tt, (tt, (m .ans, (m .den, tt))))) (hv ∙ sym hw))
+probe-probe-select-one κs a p x y v w hv hw = (refl, ap (λ (m : AnswerCells). (tt, (tt, (m .ans, (m .den, tt))))) (hv ∙ sym hw))
 
 pub probe-probe-rank-read-one : OneAnswer 3 probe-rank-read-kinds.ps probe-rank-read-kinds.r probe-rank-read.Pre probe-rank-read.Post
-probe-probe-rank-read-one κs a p x y v w hv hw = (refl, ap (λ (m : Answers). (tt, (tt, (tt, (m .ans, (m .den, tt)))))) (hv ∙ sym hw))
+probe-probe-rank-read-one κs a p x y v w hv hw = (refl, ap (λ (m : AnswerCells). (tt, (tt, (tt, (m .ans, (m .den, tt)))))) (hv ∙ sym hw))
 
 pub probe-probe-to-words-one : OneAnswer 5 probe-to-words-kinds.ps probe-to-words-kinds.r probe-to-words.Pre probe-to-words.Post
-probe-probe-to-words-one κs a p x y v w hv hw = (refl, ap (λ (m : Memory). (tt, (tt, (tt, (tt, (tt, (tt, (m .out, (m .answers .ans, (m .answers .den, tt)))))))))) (hv ∙ sym hw))
+probe-probe-to-words-one κs a p x y v w hv hw = (refl, ap (λ (m : Memory). (tt, (tt, (tt, (tt, (tt, (tt, (m .out, (m .cells .ans, (m .cells .den, tt)))))))))) (hv ∙ sym hw))
 
 pub probe-probe-to-list-one : OneAnswer 5 probe-to-list-kinds.ps probe-to-list-kinds.r probe-to-list.Pre probe-to-list.Post
-probe-probe-to-list-one κs a p x y v w hv hw = (refl, ap (λ (m : Memory). (tt, (tt, (tt, (tt, (tt, (tt, (m .out, (m .answers .ans, (m .answers .den, tt)))))))))) (hv ∙ sym hw))
+probe-probe-to-list-one κs a p x y v w hv hw = (refl, ap (λ (m : Memory). (tt, (tt, (tt, (tt, (tt, (tt, (m .out, (m .cells .ans, (m .cells .den, tt)))))))))) (hv ∙ sym hw))
 
 pub probe-probe-compose-one : OneAnswer 7 probe-compose-kinds.ps probe-compose-kinds.r probe-compose.Pre probe-compose.Post
-probe-probe-compose-one κs a p x y v w hv hw = (refl, ap (λ (m : Memory). (tt, (tt, (tt, (tt, (tt, (tt, (tt, (tt, (tt, (tt, (tt, (tt, (m .out, (m .answers .ans, (m .answers .den, tt)))))))))))))))) (hv ∙ sym hw))
+probe-probe-compose-one κs a p x y v w hv hw = (refl, ap (λ (m : Memory). (tt, (tt, (tt, (tt, (tt, (tt, (tt, (tt, (tt, (tt, (tt, (tt, (m .out, (m .cells .ans, (m .cells .den, tt)))))))))))))))) (hv ∙ sym hw))
 
 pub probe-probe-set-one : OneAnswer 7 probe-set-kinds.ps probe-set-kinds.r probe-set.Pre probe-set.Post
-probe-probe-set-one κs a p x y v w hv hw = (refl, ap (λ (m : Memory). (tt, (tt, (tt, (tt, (tt, (tt, (tt, (tt, (tt, (tt, (tt, (tt, (tt, (m .out, (m .answers .ans, (m .answers .den, tt))))))))))))))))) (hv ∙ sym hw))
+probe-probe-set-one κs a p x y v w hv hw = (refl, ap (λ (m : Memory). (tt, (tt, (tt, (tt, (tt, (tt, (tt, (tt, (tt, (tt, (tt, (tt, (tt, (m .out, (m .cells .ans, (m .cells .den, tt))))))))))))))))) (hv ∙ sym hw))
 
 pub probe-probe-feed-one : OneAnswer 7 probe-feed-kinds.ps probe-feed-kinds.r probe-feed.Pre probe-feed.Post
-probe-probe-feed-one κs a p x y v w hv hw = (refl, ap (λ (m : Memory). (tt, (tt, (tt, (tt, (tt, (tt, (tt, (tt, (tt, (tt, (tt, (tt, (tt, (tt, (tt, (m .out, (m .answers .ans, (m .answers .den, tt))))))))))))))))))) (hv ∙ sym hw))
+probe-probe-feed-one κs a p x y v w hv hw = (refl, ap (λ (m : Memory). (tt, (tt, (tt, (tt, (tt, (tt, (tt, (tt, (tt, (tt, (tt, (tt, (tt, (tt, (tt, (m .out, (m .cells .ans, (m .cells .den, tt))))))))))))))))))) (hv ∙ sym hw))
 
 pub probe-probe-program-one : OneAnswer 4 probe-program-kinds.ps probe-program-kinds.r probe-program.Pre probe-program.Post
-probe-probe-program-one κs a p x y v w hv hw = (refl, ap (λ (m : Memory). (tt, (m .out, (m .answers .ans, (m .answers .den, tt))))) (hv ∙ sym hw))
+probe-probe-program-one κs a p x y v w hv hw = (refl, ap (λ (m : Memory). (tt, (m .out, (m .cells .ans, (m .cells .den, tt))))) (hv ∙ sym hw))

@@ -1,14 +1,14 @@
 -- Document 01's program, of whatever the contract of `text::answer` allows: x is what it gives and `after` what then stands in the
--- output. Where that is long enough, two masks are answered by their composition and its lines, anything else by 13 and its lines; and
--- where it is shorter than the text, by 8. By the theorems about the text. Assumes nothing.
+-- output. Where that has room for the text, two masks are answered by their composition and its lines, anything else by 13 and its lines,
+-- and the bytes after the lines stay; where it is shorter than the text, by 8. By the theorems about the text. Assumes nothing.
 use mathlib.Core.Path.{_≡_, refl, sym, ap, _∙_}
 use mathlib.Core.Bool.{Bool}
-use mathlib.Core.List.{List, []}
+use mathlib.Core.List.{List, [], _++_}
 use mathlib.Core.Logic.{_↔_, _≢_}
 use Prim.Native.Nat.{ℕ, _≤_, _<_}
 use native.Mathlib.Decide.{decLe}
 use lib.ListN.{length, take, drop}
-use lib.Seq.{take-at}
+use lib.Seq.{take-at, drop-at}
 use contract.Lifetimes.{Lfts}
 use borrow.Fn.Kinds.{Dens, resT, endedOf}
 use denote.Ref.{now}
@@ -20,10 +20,10 @@ use Rattle.rows.specs.Table.{refusal}
 use Rattle.rows.proofs.TableLaws.{chosen}
 use Rattle.mask.specs.Answer.{answered}
 use Rattle.text.specs.declared.Written.{Written}
-use Rattle.text.specs.Text.{WellFormed, lines, answers, told, withText, toldOut}
+use Rattle.text.specs.Text.{WellFormed, lines, answerFor, textOf, withText, writtenFor, textOut}
 use Rattle.text.proofs.ToldLaws.{no-room}
 use Rattle.text.proofs.AnswerLaws.{routeTaken}
-use Rattle.text.proofs.Theorems.{only-these, always-room, eight-exactly, ill-formed-answered, ill-formed-told, paired-answered, paired-told, unpaired-answered, unpaired-told}
+use Rattle.text.proofs.Theorems.{only-these, eight-exactly, ill-formed-answered, ill-formed-told, paired-answered, paired-told, unpaired-answered, unpaired-told}
 use Rattle.text.proofs.answer.Kinds as kinds
 use Rattle.text.proofs.answer.Reads as reads
 
@@ -40,20 +40,31 @@ module _ (κs : Lfts 2) (a : Dens κs kinds.ps) (x : resT kinds.r κs .Denot) (v
   abbrev after : List ℕ
   after = v .1 .0
 
+  -- 8,228 bytes are room for every text
+  pub always-room : 8228 ≤ length out → length (textOf input) ≤ length out
+  always-room h = omega (arith, only-these input .short)
+
   -- the answer is the input's, and the bytes that it says it wrote are the text of it
-  module _ (room : 8228 ≤ length out) where
-    gives-whole : written ≡ withText (answers input) (told input)
-    gives-whole = allowed .0 ∙ always-room input (length out) room
+  module _ (room : length (textOf input) ≤ length out) where
+    gives-whole : written ≡ withText (answerFor input) (textOf input)
+    unfolding writtenFor
+    gives-whole = allowed .0 ∙ chosen (decLe (length (textOf input)) (length out)) _ _ room
 
-    writes-text : take (written .len) after ≡ told input
-    unfolding toldOut
-    writes-text =
-        let t = only-these input .short in
-        let n = ap (λ (w : Written). w .len) gives-whole in
-        let o = allowed .1 ∙ chosen (decLe (length (told input)) (length out)) _ _ (omega arith) in
-        rw (o, n) (take-at (told input) (drop (length (told input)) out) (length (told input)) refl)
+    leaves : after ≡ textOf input ++ drop (length (textOf input)) out
+    unfolding textOut
+    leaves = allowed .1 ∙ chosen (decLe (length (textOf input)) (length out)) _ _ room
 
-    gives-answer : written .answer ≡ answers input
+    text-long : written .len ≡ length (textOf input)
+    text-long = ap (λ (w : Written). w .len) gives-whole
+
+    writes-text : take (written .len) after ≡ textOf input
+    writes-text = rw (leaves, text-long) (take-at (textOf input) (drop (length (textOf input)) out) (length (textOf input)) refl)
+
+    -- the bytes after the text stay
+    pub later-bytes-stay : drop (written .len) after ≡ drop (written .len) out
+    later-bytes-stay = rw (leaves, text-long) (drop-at (textOf input) (drop (length (textOf input)) out) (length (textOf input)) refl)
+
+    gives-answer : written .answer ≡ answerFor input
     gives-answer = ap (λ (w : Written). w .answer) gives-whole
 
     -- two masks that go together: 0, the table's route, the count and the rows of their composition
@@ -71,11 +82,11 @@ module _ (κs : Lfts 2) (a : Dens κs kinds.ps) (x : resT kinds.r κs .Denot) (v
     anything-else-is-13 h = (gives-answer ∙ ill-formed-answered input h, writes-text ∙ ill-formed-told input h)
 
   -- an output that is shorter than the text, and no other: 8, no text, and the output as it was
-  pub shorter-is-8 : (written .answer .refusal .number ≡ 8) ↔ (length out < length (told input))
+  pub shorter-is-8 : (written .answer .refusal .number ≡ 8) ↔ (length out < length (textOf input))
   shorter-is-8 = (λ e. eight-exactly input (length out) .0 (sym (ap eight (allowed .0)) ∙ e), λ h. ap eight (allowed .0) ∙ eight-exactly input (length out) .1 h)
     where
       eight : Written → ℕ
       eight w = w .answer .refusal .number
 
-  pub shorter-is-untouched : length out < length (told input) → (written ≡ withText (answered (Refused (refusal 8 0)) [] 0) []) × (after ≡ out)
+  pub shorter-is-untouched : length out < length (textOf input) → (written ≡ withText (answered (Refused (refusal 8 0)) [] 0) []) × (after ≡ out)
   shorter-is-untouched h = let n = no-room input out h in (allowed .0 ∙ n .0, allowed .1 ∙ n .1)

@@ -1,7 +1,7 @@
 -- Demand 3: feeds run from the fresh state are one composition, forward and back. By recursion over the feeds: a piece more is laid
 -- where the ones before end, and `compose` of joined pieces is the pieces' composed, joined. Assumes nothing.
 use Prim.Native.Nat.{ℕ, zero, suc, _+_, _*_, _≤_}
-use native.Mathlib.Nat.{zero-add, add-zero, add-assoc, le-of-suc-le-suc}
+use native.Mathlib.Nat.{zero-add, add-zero, add-assoc}
 use native.Mathlib.Omega.{arith}
 use mathlib.Core.Path.{_≡_, refl, sym, ap, ap₂, subst, _∙_}
 use mathlib.Core.Bool.{Bool}
@@ -11,12 +11,13 @@ use lib.Seq.{take-at, drop-at}
 use Rattle.rows.specs.declared.Verdict.{Verdict}
 use Rattle.rows.specs.declared.Verdict.the-variants.{Fine, Refused}
 use Rattle.rows.specs.Rows.{count, compose, splice}
-use Rattle.rows.specs.Words.{fit, bitsOfAll}
+use Rattle.rows.specs.Words.{bitsOfAll}
 use Rattle.rows.specs.Laid.{wordsFor, laid}
 use Rattle.rows.specs.Table.{refusal}
 use Rattle.rows.proofs.RowLaws.{compose-length, compose-append, count-append, count-le-length}
 use Rattle.rows.proofs.SpliceLaws.{splice-nil, splice-append, splice-eq}
 use Rattle.rows.proofs.WordsLaws.{bitsOfAll-length, wordsOf-bits}
+use Rattle.rows.proofs.FitLaws.{all-fit}
 use Rattle.rows.proofs.LaidLaws.{laid-bits, laid-length, wordsOf-length}
 use Rattle.rows.proofs.WrittenLaws.{written-rows}
 use Rattle.mask.specs.declared.Answer.{Answer}
@@ -131,13 +132,8 @@ pub converse : Converse
 converse w out ps ws wr j = whole w out (run fresh out ps) ws wr (rw (j .selves, j .ranks) (ran ps fresh out))
 
 -- in words: a mask's own words have its rows
-take-fit : (n : ℕ) (bs : List Bool) → length bs ≤ n → take (length bs) (fit n bs) ≡ bs
-take-fit n [] h = refl
-take-fit zero (b ∷ bs) h = absurd (omega arith)
-take-fit (suc n) (b ∷ bs) h = ap (λ (l : List Bool). b ∷ l) (take-fit n bs (le-of-suc-le-suc h))
-
 inWords-rows : (s : List Bool) → rows (inWords s) ≡ s
-inWords-rows s = rw (wordsOf-bits 64 (wordsFor (length s)) s) (take-fit (wordsFor (length s) * 64) s (omega arith))
+inWords-rows s = rw (wordsOf-bits 64 (wordsFor (length s)) s) (all-fit (wordsFor (length s) * 64) s (omega arith))
 
 inWords-formed : (s : List Bool) → length s ≤ limit → WellFormed (inWords s)
 inWords-formed s h = (h, (omega arith, (omega (arith, wordsOf-length 64 (wordsFor (length s)) s, zero-add (length s)), (ap count (sym (inWords-rows s)), tt))))

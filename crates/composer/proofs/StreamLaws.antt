@@ -21,7 +21,7 @@ use Rattle.intersect_by_rank.specs.Compose.{Paired, bothChecks}
 use Rattle.intersect_by_rank.proofs.ComposeLaws.{both-met, result-length, result-count}
 use Rattle.intersect_by_rank.proofs.Theorems.{both-numbered}
 use Rattle.composer.specs.declared.State.{State}
-use Rattle.composer.specs.Stream.{Pair, rows, long, kept, stateChecks, lengthChecks, feedChecks, moved, judged}
+use Rattle.composer.specs.Stream.{Pair, rows, long, kept, stateChecks, pieceChecks, feedChecks, moved, judged}
 
 -- refusal 10's bound
 abbrev pub Within : State → Type 0
@@ -68,21 +68,21 @@ module _ (st : State) (p : Pair) where
   abbrev pub opening : Verdict
   opening = ifFine (first (stateChecks st)) (first (bothChecks (p .self .form) (p .self .words) (p .self .listed) (p .rank .form) (p .rank .words) (p .rank .listed))) (first (stateChecks st))
 
-  judged-parts : (room : ℕ) → judged st p room ≡ ifFine opening (first (lengthChecks (lengthOf (p .rank .form)) (countOf (p .self .form) (p .self .listed)) (st .done .0 + long p) room)) opening
+  judged-parts : (room : ℕ) → judged st p room ≡ ifFine opening (first (pieceChecks (lengthOf (p .rank .form)) (countOf (p .self .form) (p .self .listed)) (st .done .0 + long p) room)) opening
   unfolding judged
   judged-parts room =
       let both = bothChecks (p .self .form) (p .self .words) (p .self .listed) (p .rank .form) (p .rank .words) (p .rank .listed) in
-      let lengths = lengthChecks (lengthOf (p .rank .form)) (countOf (p .self .form) (p .self .listed)) (st .done .0 + long p) room in
+      let lengths = pieceChecks (lengthOf (p .rank .form)) (countOf (p .self .form) (p .self .listed)) (st .done .0 + long p) room in
       parts-first (stateChecks st) both (lengths ∷ [])
       ∙ ap (λ (v : Verdict). ifFine (first (stateChecks st)) v (first (stateChecks st))) (parts-first both lengths [] ∙ ap (λ (v : Verdict). ifFine (first both) v (first both)) (parts-last lengths))
       ∙ join (first (stateChecks st)) (first both) (first lengths)
 
   -- a refusal of either is told, and else what the lengths say
   pub opening-refuses : (room : ℕ) (x : Refusal) → opening ≡ Refused x → judged st p room ≡ Refused x
-  opening-refuses room x e = judged-parts room ∙ ap (λ (v : Verdict). ifFine v (first (lengthChecks (lengthOf (p .rank .form)) (countOf (p .self .form) (p .self .listed)) (st .done .0 + long p) room)) v) e
+  opening-refuses room x e = judged-parts room ∙ ap (λ (v : Verdict). ifFine v (first (pieceChecks (lengthOf (p .rank .form)) (countOf (p .self .form) (p .self .listed)) (st .done .0 + long p) room)) v) e
 
-  pub opening-passes : (room : ℕ) → opening ≡ Fine → judged st p room ≡ first (lengthChecks (lengthOf (p .rank .form)) (countOf (p .self .form) (p .self .listed)) (st .done .0 + long p) room)
-  opening-passes room e = judged-parts room ∙ ap (λ (v : Verdict). ifFine v (first (lengthChecks (lengthOf (p .rank .form)) (countOf (p .self .form) (p .self .listed)) (st .done .0 + long p) room)) v) e
+  pub opening-passes : (room : ℕ) → opening ≡ Fine → judged st p room ≡ first (pieceChecks (lengthOf (p .rank .form)) (countOf (p .self .form) (p .self .listed)) (st .done .0 + long p) room)
+  opening-passes room e = judged-parts room ∙ ap (λ (v : Verdict). ifFine v (first (pieceChecks (lengthOf (p .rank .form)) (countOf (p .self .form) (p .self .listed)) (st .done .0 + long p) room)) v) e
 
   -- where neither refuses, the sum of done and the piece's length is small
   pub opening-small : opening ≡ Fine → st .done .0 + long p ≤ limit + limit
@@ -135,7 +135,7 @@ feed-numbered st p room = (
     omega arith,
     (
       omega arith,
-      numbered-append (bothChecks (p .self .form) (p .self .words) (p .self .listed) (p .rank .form) (p .rank .words) (p .rank .listed)) (lengthChecks (lengthOf (p .rank .form)) (countOf (p .self .form) (p .self .listed)) (st .done .0 + long p) room) (both-numbered (p .self .form) (p .self .words) (p .self .listed) (p .rank .form) (p .rank .words) (p .rank .listed))
+      numbered-append (bothChecks (p .self .form) (p .self .words) (p .self .listed) (p .rank .form) (p .rank .words) (p .rank .listed)) (pieceChecks (lengthOf (p .rank .form)) (countOf (p .self .form) (p .self .listed)) (st .done .0 + long p) room) (both-numbered (p .self .form) (p .self .words) (p .self .listed) (p .rank .form) (p .rank .words) (p .rank .listed))
           (omega arith, (omega arith, (omega arith, tt))),
     ),
   ),

@@ -30,7 +30,7 @@ use Rattle.intersect_by_rank.proofs.ComposeLaws.{both-met}
 use Rattle.intersect_by_rank.proofs.Theorems.{OperandRefuses, both-refuses}
 use Rattle.composer.specs.declared.State.{State}
 use Rattle.composer.specs.declared.Fed.{Fed}
-use Rattle.composer.specs.Stream.{Pair, rows, long, kept, routed, stateOf, stateChecks, lengthChecks, feedChecks, judged, fed, fedBy, fedOut}
+use Rattle.composer.specs.Stream.{Pair, rows, long, kept, routed, stateOf, stateChecks, pieceChecks, feedChecks, judged, fed, fedBy, fedOut}
 use Rattle.composer.proofs.StreamLaws.{Within, Accepts, feed-takes, refused-number, self-length, kept-length, moved-within}
 
 module _ (st : State) (p : Pair) where
@@ -41,7 +41,7 @@ module _ (st : State) (p : Pair) where
   end = st .done .0 + long p
 
   abbrev lengths : ℕ → List Line
-  lengths room = lengthChecks (lengthOf (p .rank .form)) (countOf (p .self .form) (p .self .listed)) end room
+  lengths room = pieceChecks (lengthOf (p .rank .form)) (countOf (p .self .form) (p .self .listed)) end room
 
   -- ---- demand 1: 10, then self's number and the rank mask's, then 7, 11, 8
 

@@ -66,8 +66,8 @@ stateChecks st =
     ∷ []
 
 -- 7, the rank piece's length is not the self piece's count; 11, done plus the piece's length is over the limit; 8
-abbrev pub lengthChecks : ℕ → ℕ → ℕ → ℕ → List Line
-lengthChecks ranks set end room =
+abbrev pub pieceChecks : ℕ → ℕ → ℕ → ℕ → List Line
+pieceChecks ranks set end room =
     need (ℕ-discrete ranks set) 7 0
     ∷ need (decLe end limit) 11 0
     ∷ need (decLe (wordsFor end) room) 8 0
@@ -79,7 +79,7 @@ feedChecks st p room =
     inOrder
     (stateChecks st
     ∷ bothChecks (p .self .form) (p .self .words) (p .self .listed) (p .rank .form) (p .rank .words) (p .rank .listed)
-    ∷ lengthChecks (lengthOf (p .rank .form)) (countOf (p .self .form) (p .self .listed)) (st .done .0 + long p) room
+    ∷ pieceChecks (lengthOf (p .rank .form)) (countOf (p .self .form) (p .self .listed)) (st .done .0 + long p) room
     ∷ [])
 
 -- the state after the pair: its rows, their set rows and the result's are added

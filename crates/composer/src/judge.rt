@@ -2,7 +2,7 @@
 ghost use mathlib.Core.Path.{_≡_};
 ghost use denote.Ref.{now};
 ghost use Rattle.rows.specs.Table.{first};
-ghost use Rattle.composer.specs.Stream.{lent, pairOf, stateChecks, lengthChecks, judged};
+ghost use Rattle.composer.specs.Stream.{lent, pairOf, stateChecks, pieceChecks, judged};
 use super::Composer;
 use super::State;
 use intersect_by_rank::inner::judge_both;
@@ -28,7 +28,7 @@ fn judge_state(state: State) -> Verdict
 
 // The rank piece is as long as the self piece has set rows; and where the piece would end is within the limit, and within the output.
 fn judge_lengths(ranks: u64, set: u64, end: u64, room: u64) -> Verdict
-    ensures { λ v. ⌜ v ≡ first (lengthChecks ranks set end room) ⌝ }
+    ensures { λ v. ⌜ v ≡ first (pieceChecks ranks set end room) ⌝ }
 {
     let matched = equal(ranks, set);
     let limit = at_most(11, end, Composer::ROW_LIMIT);

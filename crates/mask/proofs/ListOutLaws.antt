@@ -15,19 +15,13 @@ use Rattle.rows.specs.Rows.{count, splice}
 use Rattle.rows.specs.Word.{bitsOf, wordOf}
 use Rattle.rows.specs.Lists.{setRows}
 use Rattle.rows.proofs.RowLaws.{count-append}
-use Rattle.rows.proofs.SpliceLaws.{over-nil, splice-append, splice-eq}
+use Rattle.rows.proofs.SpliceLaws.{splice-one, splice-append, splice-eq}
 use Rattle.rows.proofs.PartLaws.{rows-append, rows-word}
 use Rattle.rows.proofs.ListLaws.{rows-count}
 use Rattle.rows.proofs.ClearLaws.{rows-low}
 use Rattle.mask.proofs.ChunkLaws.{chunk-next}
 
 -- ---- entries one after the other
-
-splice-one : (p : ℕ) (xs : List ℕ) (y : ℕ) → splice p xs (y ∷ []) ≡ set xs p y
-splice-one zero [] y = refl
-splice-one zero (x ∷ xs) y = ap (λ (l : List ℕ). y ∷ l) (over-nil xs)
-splice-one (suc p) [] y = refl
-splice-one (suc p) (x ∷ xs) y = ap (λ (l : List ℕ). x ∷ l) (splice-one p xs y)
 
 pub copy-turn : (out rows : List ℕ) (i : ℕ) → i < length rows → set (splice 0 out (take i rows)) i (getD rows i 0) ≡ splice 0 out (take (suc i) rows)
 copy-turn out rows i h =

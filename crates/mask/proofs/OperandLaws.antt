@@ -4,7 +4,7 @@
 use Prim.Native.Nat.{ℕ, zero, suc, _-_, _≤_, _<_}
 use mathlib.Core.Path.{_≡_, refl, sym, ap, _∙_}
 use mathlib.Core.Logic.{_↔_}
-use mathlib.Core.Bool.{Bool, true, false, _&&_}
+use mathlib.Core.Bool.{Bool, true, false, _&&_, false≢true}
 use mathlib.Core.List.{List, [], _∷_}
 use native.Mathlib.Omega.{arith}
 use lib.Dec.{T, ltb, ltb→lt}
@@ -83,32 +83,29 @@ accepted-limit (None n) ws es m = m .0
 accepted-limit (Words start len claimed) ws es m = m .0
 accepted-limit (Listed len) ws es m = m .0
 
-never {ℓ} : {X : Type ℓ} → false ≡ true → X
-never e = let z : _≡_ {A = ℕ} 0 1 = cc in absurd (omega arith)
-
 pub accepted-list : (f : Form) (ws es : List ℕ) → isList f ≡ true → Accepted f ws es → Ascending 0 (lengthOf f) es
-accepted-list (All n) ws es e m = never e
-accepted-list (None n) ws es e m = never e
-accepted-list (Words start len claimed) ws es e m = never e
+accepted-list (All n) ws es e m = absurd (false≢true e)
+accepted-list (None n) ws es e m = absurd (false≢true e)
+accepted-list (Words start len claimed) ws es e m = absurd (false≢true e)
 accepted-list (Listed len) ws es e m = ascending len es (m .1 .0) (m .1 .1 .0)
 
 pub list-rows : (f : Form) (ws es : List ℕ) → isList f ≡ true → rowsOf f ws es ≡ listed (lengthOf f) es
-list-rows (All n) ws es e = never e
-list-rows (None n) ws es e = never e
-list-rows (Words start len claimed) ws es e = never e
+list-rows (All n) ws es e = absurd (false≢true e)
+list-rows (None n) ws es e = absurd (false≢true e)
+list-rows (Words start len claimed) ws es e = absurd (false≢true e)
 list-rows (Listed len) ws es e = refl
 
 pub list-count : (f : Form) (es : List ℕ) → isList f ≡ true → countOf f es ≡ length es
-list-count (All n) es e = never e
-list-count (None n) es e = never e
-list-count (Words start len claimed) es e = never e
+list-count (All n) es e = absurd (false≢true e)
+list-count (None n) es e = absurd (false≢true e)
+list-count (Words start len claimed) es e = absurd (false≢true e)
 list-count (Listed len) es e = refl
 
 pub accepted-flat : (f : Form) (ws es : List ℕ) → isList f ≡ false → Accepted f ws es → Flat f ws
 accepted-flat (All n) ws es e m = m .0
 accepted-flat (None n) ws es e m = m .0
 accepted-flat (Words start len claimed) ws es e m = (m .0, m .1 .0, omega (arith, m .1 .1 .0))
-accepted-flat (Listed len) ws es e m = never (sym e)
+accepted-flat (Listed len) ws es e m = absurd (false≢true (sym e))
 
 pub accepted-length : (f : Form) (ws es : List ℕ) → Accepted f ws es → length (rowsOf f ws es) ≡ lengthOf f
 accepted-length (All n) ws es m = length-replicate n true

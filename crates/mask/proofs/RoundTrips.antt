@@ -1,15 +1,16 @@
--- Conversions keep length and rows: what was written as words, read as words, is the same mask, and what was written as a
--- list, read as a list; the tail is 0 and what stands after is as it was. By the laws of whole words and of lists of rows.
+-- What an accepted conversion answers and leaves: the mask's own count, route 0 and its density; what was written as words, read as
+-- words, is the same mask, and what was written as a list, read as a list; the tail is 0 and what stands after is as it was. By the
+-- laws of whole words and of lists of rows.
 -- Assumes nothing.
-use Prim.Native.Nat.{ℕ, suc, _*_, _≤_, _<_}
+use Prim.Native.Nat.{ℕ, suc, _≤_}
 use native.Mathlib.Nat.{zero-add}
-use mathlib.Core.Path.{_≡_, sym, ap, _∙_}
+use mathlib.Core.Path.{_≡_, refl, sym, ap, _∙_}
 use mathlib.Core.Bool.{Bool, true, false, _&&_}
 use mathlib.Core.List.{List, [], _∷_, _++_}
 use native.Mathlib.Decide.{decLe}
 use native.Mathlib.Omega.{arith}
 use lib.Dec.{T, ltb, lt→ltb}
-use lib.ListN.{length, take, drop, getD}
+use lib.ListN.{length, take, drop}
 use lib.Seq.{take-at, drop-at}
 use Rattle.rows.specs.declared.Verdict.{Verdict}
 use Rattle.rows.specs.declared.Verdict.the-variants.{Fine}
@@ -20,12 +21,14 @@ use Rattle.rows.specs.Laid.{wordsFor, written}
 use Rattle.rows.specs.Table.{need, first, ifFine}
 use Rattle.rows.proofs.TableLaws.{fine-exactly, met-append}
 use Rattle.rows.proofs.ListLaws.{rows-count, rows-ascending, listed-rows}
-use Rattle.rows.proofs.WrittenLaws.{written-rows, written-tail, written-later, written-length}
+use Rattle.rows.proofs.WrittenLaws.{written-rows, written-length}
 use Rattle.mask.specs.declared.Form.{Form}
 use Rattle.mask.specs.declared.Form.the-variants.{Words, List as Listed}
 use Rattle.mask.specs.Operand.{climbs, lastBelow, rowsOf, lengthOf, countOf, operandChecks, Accepted}
-use Rattle.mask.specs.Convert.{toWordsOut, toListOut}
+use Rattle.mask.specs.Answer.{densityOf}
+use Rattle.mask.specs.Convert.{toWordsChecks, toWords, toWordsOut, toList, toListOut}
 use Rattle.mask.proofs.OperandLaws.{accepted-as, accepted-length, accepted-count, accepted-limit}
+use Rattle.mask.proofs.Writes.{row, Writes, writes, Lists}
 
 T-both : (a b : Bool) → T a → T b → T (a && b)
 T-both true b s t = t
@@ -64,12 +67,11 @@ module _ (f : Form) (ws es out : List ℕ) (well : Accepted f ws es) where
         let size : length (toWordsOut f ws es out) ≡ length out = ap length to-words-out ∙ written-length (lengthOf f) rows out long room in
         ((accepted-limit f ws es well, (omega arith, (omega (arith, zero-add (lengthOf f)), (sym (ap count back ∙ accepted-count f ws es well), tt)))), back)
 
-    -- bits at or past the length are 0 in the last word, and later words stay
-    pub to-words-tail : (i : ℕ) → lengthOf f ≤ i → i < wordsFor (lengthOf f) * 64 → getD (bitsOfAll 64 (toWordsOut f ws es out)) i false ≡ false
-    to-words-tail i low high = ap (λ (o : List ℕ). getD (bitsOfAll 64 o) i false) to-words-out ∙ written-tail (lengthOf f) rows out (accepted-length f ws es well) i low high
-
-    pub to-words-later : drop (wordsFor (lengthOf f)) (toWordsOut f ws es out) ≡ drop (wordsFor (lengthOf f)) out
-    to-words-later = ap (drop (wordsFor (lengthOf f))) to-words-out ∙ written-later (lengthOf f) rows out (accepted-length f ws es well)
+    -- its rows bit by bit, their own count, route 0, their density, the tail and the later words
+    pub to-words-writes : Writes (lengthOf f) (row f ws es) 0 (toWords f ws es out) (toWordsOut f ws es out) out
+    unfolding toWords toWordsOut
+    to-words-writes =
+        writes (first (toWordsChecks f ws es out)) (fine (wordsFor (lengthOf f)) room) (lengthOf f) rows 0 out (accepted-length f ws es well) (row f ws es) (λ i h. refl)
 
   module _ (room : countOf f es ≤ length out) where
     entries : List ℕ
@@ -93,6 +95,19 @@ module _ (f : Form) (ws es out : List ℕ) (well : Accepted f ws es) where
         rw (written-entries, ← long)
         (let p = passes (length rows) (setRows 0 rows) (rw (← long) at up) in ((omega (arith, accepted-limit f ws es well), (p .0, (p .1, tt))), listed-rows 0 (length rows) rows (zero-add (length rows))))
 
-    -- later entries stay
-    pub to-list-later : drop (countOf f es) (toListOut f ws es out) ≡ drop (countOf f es) out
-    to-list-later = ap (drop (countOf f es)) to-list-out ∙ drop-at (setRows 0 rows) (drop (countOf f es) out) (countOf f es) size
+    later-entries : drop (countOf f es) (toListOut f ws es out) ≡ drop (countOf f es) out
+    later-entries = ap (drop (countOf f es)) to-list-out ∙ drop-at (setRows 0 rows) (drop (countOf f es) out) (countOf f es) size
+
+    -- its set rows as entries, as many as it counts, route 0, the density and the later entries
+    pub to-list-lists : Lists (lengthOf f) rows (toList f ws es out) (toListOut f ws es out) out
+    unfolding toList
+    to-list-lists =
+        rw (fine (countOf f es) room)
+        (record {
+          accepted = refl;
+          counted = refl;
+          entries = ap (λ (n : ℕ). take n (toListOut f ws es out)) (accepted-count f ws es well) ∙ written-entries;
+          route = refl;
+          dense = ap (densityOf (count rows)) (accepted-length f ws es well);
+          later = ap (λ (n : ℕ). drop n (toListOut f ws es out)) (accepted-count f ws es well) ∙ later-entries ∙ ap (λ (n : ℕ). drop n out) (sym (accepted-count f ws es well));
+        })

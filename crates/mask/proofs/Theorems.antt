@@ -186,14 +186,14 @@ pub nothing-done : {X : Type 0} (v : Verdict) (rows : List Bool) (route : ℕ) (
 nothing-done Fine rows route to from h = absurd (h refl)
 nothing-done (Refused r) rows route to from h = (refl, (refl, refl, refl))
 
-module _ (f : Form) (ws es : List ℕ) (needed room : ℕ) (rows : List Bool) where
+module _ (f : Form) (ws es : List ℕ) (needed room : ℕ) (rows : List Bool) (route : ℕ) where
   abbrev checks : List Line
   checks = operandChecks 1 f ws es ++ need (decLe needed room) 8 0 ∷ []
 
-  refuses : (n k : ℕ) → zero < n → (answered (first checks) rows 0 .refusal ≡ refusal n k) ↔ Refuses f ws es needed room n k
+  refuses : (n k : ℕ) → zero < n → (answered (first checks) rows route .refusal ≡ refusal n k) ↔ Refuses f ws es needed room n k
   refuses n k p =
       let t = told-exactly checks (refusal n k) p in
-      let q = answered-told (first checks) rows 0 in
+      let q = answered-told (first checks) rows route in
       (λ e. to (first-parts (operandChecks 1 f ws es) (need (decLe needed room) 8 0 ∷ []) (Refused (refusal n k)) (t .0 (sym q ∙ e))), λ w. q ∙ t .1 (from w))
     where
       to : (Met (operandChecks 1 f ws es) × First (need (decLe needed room) 8 0 ∷ []) (Refused (refusal n k))) ⊎ (First (operandChecks 1 f ws es) (Refused (refusal n k)) × (Refused (refusal n k) ≢ Fine))
@@ -206,10 +206,10 @@ module _ (f : Form) (ws es : List ℕ) (needed room : ℕ) (rows : List Bool) wh
       from (inl w) = first-left (operandChecks 1 f ws es) (need (decLe needed room) 8 0 ∷ []) (refusal n k) (operand-refuses 1 k n f ws es .1 w)
       from (inr (e, q, m, l)) = first-right (operandChecks 1 f ws es) (need (decLe needed room) 8 0 ∷ []) (Refused (refusal n k)) (accepted-as 1 f ws es .1 m) (inr (λ h. omega arith, same e q))
 
-  accepts : (answered (first checks) rows 0 .refusal .number ≡ 0) ↔ (Accepted f ws es × (needed ≤ room))
+  accepts : (answered (first checks) rows route .refusal .number ≡ 0) ↔ (Accepted f ws es × (needed ≤ room))
   accepts =
       let a = accepts-exactly checks (numbered-append (operandChecks 1 f ws es) (need (decLe needed room) 8 0 ∷ []) (operand-numbered 1 f ws es) (omega arith, tt)) in
-      let q = ap (λ (r : Refusal). r .number) (answered-told (first checks) rows 0) in
+      let q = ap (λ (r : Refusal). r .number) (answered-told (first checks) rows route) in
       let m = met-append (operandChecks 1 f ws es) (need (decLe needed room) 8 0 ∷ []) in
       (λ e. (let p = m .0 (a .0 (sym q ∙ e)) in (accepted-as 1 f ws es .0 (p .0), p .1 .0)), λ p. q ∙ a .1 (m .1 (accepted-as 1 f ws es .1 (p .0), (p .1, tt))))
 
@@ -217,26 +217,26 @@ module _ (f : Form) (ws es out : List ℕ) where
   -- each number exactly when, and with it the operand: 1 to 6 name operand 1, 8 names none
   pub to-words-refuses : (n k : ℕ) → zero < n → (toWords f ws es out .refusal ≡ refusal n k) ↔ Refuses f ws es (wordsFor (lengthOf f)) (length out) n k
   unfolding toWords
-  to-words-refuses = refuses f ws es (wordsFor (lengthOf f)) (length out) _
+  to-words-refuses = refuses f ws es (wordsFor (lengthOf f)) (length out) _ _
 
   pub to-list-refuses : (n k : ℕ) → zero < n → (toList f ws es out .refusal ≡ refusal n k) ↔ Refuses f ws es (countOf f es) (length out) n k
   unfolding toList
-  to-list-refuses = refuses f ws es (countOf f es) (length out) _
+  to-list-refuses = refuses f ws es (countOf f es) (length out) _ _
 
   -- and number 0, accepted, exactly otherwise
   pub to-words-accepts : (toWords f ws es out .refusal .number ≡ 0) ↔ (Accepted f ws es × (wordsFor (lengthOf f) ≤ length out))
   unfolding toWords
-  to-words-accepts = accepts f ws es (wordsFor (lengthOf f)) (length out) _
+  to-words-accepts = accepts f ws es (wordsFor (lengthOf f)) (length out) _ _
 
   pub to-list-accepts : (toList f ws es out .refusal .number ≡ 0) ↔ (Accepted f ws es × (countOf f es ≤ length out))
   unfolding toList
-  to-list-accepts = accepts f ws es (countOf f es) (length out) _
+  to-list-accepts = accepts f ws es (countOf f es) (length out) _ _
 
   -- a refusal changes nothing, and reports count 0, route 0 and density 0.0
   pub to-words-refused : toWords f ws es out .refusal .number ≢ 0 → (toWordsOut f ws es out ≡ out) × Bare (toWords f ws es out)
   unfolding toWords toWordsOut
-  to-words-refused = nothing-done (first (operandChecks 1 f ws es ++ need (decLe (wordsFor (lengthOf f)) (length out)) 8 0 ∷ [])) _ 0 _ out
+  to-words-refused = nothing-done (first (operandChecks 1 f ws es ++ need (decLe (wordsFor (lengthOf f)) (length out)) 8 0 ∷ [])) _ _ _ out
 
   pub to-list-refused : toList f ws es out .refusal .number ≢ 0 → (toListOut f ws es out ≡ out) × Bare (toList f ws es out)
   unfolding toList toListOut
-  to-list-refused = nothing-done (first (operandChecks 1 f ws es ++ need (decLe (countOf f es) (length out)) 8 0 ∷ [])) _ 0 _ out
+  to-list-refused = nothing-done (first (operandChecks 1 f ws es ++ need (decLe (countOf f es) (length out)) 8 0 ∷ [])) _ _ _ out

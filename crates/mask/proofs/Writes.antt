@@ -1,11 +1,10 @@
 -- What an accepted operation leaves, for any that writes its rows as whole words from the start: the answer's numbers, the rows
--- bit by bit, the last word's tail 0, later words as before. By the laws of whole words.
+-- bit by bit, the last word's tail 0, later words as before; and for one that writes them as a list. By the laws of whole words.
 -- Assumes nothing.
 use Prim.Native.Nat.{ℕ, _*_, _≤_, _<_}
-use native.Mathlib.Omega.{arith}
 use mathlib.Core.Path.{_≡_, refl, sym, ap, _∙_}
 use mathlib.Core.Logic.{_↔_}
-use mathlib.Core.Bool.{Bool, true, false, _&&_}
+use mathlib.Core.Bool.{Bool, true, false, _&&_, false≢true}
 use mathlib.Core.List.{List}
 use lib.ListN.{length, take, drop, getD}
 use lib.Seq.{getD-take}
@@ -13,6 +12,7 @@ use Rattle.rows.specs.declared.Verdict.{Verdict}
 use Rattle.rows.specs.declared.Verdict.the-variants.{Fine}
 use Rattle.rows.specs.Rows.{count}
 use Rattle.rows.specs.Words.{bitsOfAll}
+use Rattle.rows.specs.Lists.{setRows}
 use Rattle.rows.specs.Laid.{wordsFor, written}
 use Rattle.rows.specs.Table.{noRefusal, ifFine}
 use Rattle.rows.proofs.WrittenLaws.{written-rows, written-tail, written-later}
@@ -38,6 +38,15 @@ pub record Writes (n : ℕ) (rowAt : ℕ → Bool) (by : ℕ) (answer : Answer) 
   pub tail : (i : ℕ) → n ≤ i → i < wordsFor n * 64 → bitAt left i ≡ false
   pub later : drop (wordsFor n) left ≡ drop (wordsFor n) out
 
+-- accepted, with the set rows among these n as entries from the start on: as many as it counts, route 0, their density
+pub record Lists (n : ℕ) (rows : List Bool) (answer : Answer) (left out : List ℕ) : Type 0 where
+  pub accepted : answer .refusal ≡ noRefusal
+  pub counted : answer .summary .count ≡ count rows
+  pub entries : take (answer .summary .count) left ≡ setRows 0 rows
+  pub route : answer .summary .route ≡ 0
+  pub dense : answer .summary .density ≡ densityOf (answer .summary .count) n
+  pub later : drop (answer .summary .count) left ≡ drop (answer .summary .count) out
+
 pub writes : (v : Verdict) → v ≡ Fine → (n : ℕ) (rows : List Bool) (by : ℕ) (out : List ℕ) → length rows ≡ n → (rowAt : ℕ → Bool) → ((i : ℕ) → i < n → getD rows i false ≡ rowAt i)
     → Writes n rowAt by (answered v rows by) (ifFine v (written n rows out) out) out
 writes v e n rows by out long rowAt law =
@@ -54,9 +63,6 @@ writes v e n rows by out long rowAt law =
 
 -- ---- what is said of a row by a Bool, as a proposition
 
-pub unset {ℓ} : {X : Type ℓ} → false ≡ true → X
-unset e = absurd (let z : _≡_ {A = ℕ} 0 1 = cc in omega arith)
-
 pub in-both : (x y : Bool) → ((x && y) ≡ true) ↔ ((x ≡ true) × (y ≡ true))
 in-both true y = (λ e. (refl, e), λ p. p .1)
-in-both false y = (λ e. unset e, λ p. p .0)
+in-both false y = (λ e. absurd (false≢true e), λ p. p .0)

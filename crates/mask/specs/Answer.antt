@@ -21,6 +21,10 @@ noDensity = fin false 0 (pos 0)
 unfoldable pub densityOf : ℕ → ℕ → Float
 densityOf n len = choose (ℕ-discrete len 0) noDensity (round binary64 false n len)
 
+-- the route that is told outside composition
+abbrev pub noRoute : ℕ
+noRoute = 0
+
 -- the answer whose result is these rows, by this route
 abbrev pub answered : Verdict → List Bool → ℕ → Answer
 answered Fine rows route = record { refusal = noRefusal; summary = record { count = count rows; route = route; density = densityOf (count rows) (length rows) } }

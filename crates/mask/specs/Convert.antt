@@ -10,7 +10,7 @@ use Rattle.rows.specs.Table.{Line, need, first, ifFine}
 use Rattle.mask.specs.declared.Answer.{Answer}
 use Rattle.mask.specs.declared.Form.{Form}
 use Rattle.mask.specs.Operand.{rowsOf, lengthOf, countOf, operandChecks}
-use Rattle.mask.specs.Answer.{answered}
+use Rattle.mask.specs.Answer.{answered, noRoute}
 
 -- the output is shorter than the answer: 8
 abbrev pub toWordsChecks : Form → List ℕ → List ℕ → List ℕ → List Line
@@ -20,13 +20,13 @@ abbrev pub toListChecks : Form → List ℕ → List ℕ → List ℕ → List L
 toListChecks f ws es out = operandChecks 1 f ws es ++ need (decLe (countOf f es) (length out)) 8 0 ∷ []
 
 unfoldable pub toWords : Form → List ℕ → List ℕ → List ℕ → Answer
-toWords f ws es out = answered (first (toWordsChecks f ws es out)) (rowsOf f ws es) 0
+toWords f ws es out = answered (first (toWordsChecks f ws es out)) (rowsOf f ws es) noRoute
 
 unfoldable pub toWordsOut : Form → List ℕ → List ℕ → List ℕ → List ℕ
 toWordsOut f ws es out = ifFine (first (toWordsChecks f ws es out)) (written (lengthOf f) (rowsOf f ws es) out) out
 
 unfoldable pub toList : Form → List ℕ → List ℕ → List ℕ → Answer
-toList f ws es out = answered (first (toListChecks f ws es out)) (rowsOf f ws es) 0
+toList f ws es out = answered (first (toListChecks f ws es out)) (rowsOf f ws es) noRoute
 
 -- later entries stay
 unfoldable pub toListOut : Form → List ℕ → List ℕ → List ℕ → List ℕ

@@ -23,6 +23,9 @@ use super::lay::lay_list;
 use rows::Refusal;
 use rows::Verdict;
 
+// The route that is told outside composition.
+pub const NO_ROUTE: u8 = 0;
+
 // All checks of one operand, in document 01's order.
 pub fn check(operand: u8, form: Form, words: &[u64], rows: &[u32]) -> Verdict
     ensures { λ r. ⌜ r ≡ first (operandChecks operand form (now (words .entry)) (now (rows .entry))) ⌝ }

@@ -52,7 +52,11 @@ pub fn to_words(form: Form, words: &[u64], rows: &[u32], out: &mut [u64]) -> Ans
         Verdict::Refused(refusal) => inner::refused(refusal),
         Verdict::Fine => {
             inner::write_rows(form, words, rows, out);
-            inner::accepted(inner::count_of(form, rows), 0, inner::length_of(form))
+            inner::accepted(
+                inner::count_of(form, rows),
+                inner::NO_ROUTE,
+                inner::length_of(form),
+            )
         }
     }
 }
@@ -67,7 +71,7 @@ pub fn to_list(form: Form, words: &[u64], rows: &[u32], out: &mut [u32]) -> Answ
         Verdict::Refused(refusal) => inner::refused(refusal),
         Verdict::Fine => {
             list::write_list(form, words, rows, out);
-            inner::accepted(needed, 0, inner::length_of(form))
+            inner::accepted(needed, inner::NO_ROUTE, inner::length_of(form))
         }
     }
 }

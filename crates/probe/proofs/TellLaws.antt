@@ -11,7 +11,7 @@ use lib.Dec.{leb}
 use lib.ListN.{length, take, drop, getD, set}
 use borrow.Author.Tests.{leb-true}
 use Rattle.probe.specs.declared.tell.Told.{Told}
-use Rattle.probe.specs.Probe.{Answers, Memory, Done, ended, enough, ready, over, tells, does}
+use Rattle.probe.specs.Probe.{AnswerCells, Memory, Done, ended, enough, ready, over, tells, does}
 
 pub lay-next : (i : ℕ) (xs l : List ℕ) → i < length xs → i < length l → set (take i xs ++ drop i l) i (getD xs i 0) ≡ take (suc i) xs ++ drop (suc i) l
 lay-next i [] l h k = absurd (omega arith)
@@ -35,8 +35,8 @@ enough-room nans nden e =
     (leb-true 16 nans (t .0), leb-true 1 nden (t .1))
 
 -- what is told is written, and the output is as the call left it
-pub tells-over : (t u : Told) (l m : Answers) → ready l ≡ true → t ≡ u → m ≡ over t l → m ≡ tells u l
+pub tells-over : (t u : Told) (l m : AnswerCells) → ready l ≡ true → t ≡ u → m ≡ over t l → m ≡ tells u l
 tells-over t u l m r e h = rw r (h ∙ ap (λ (x : Told). over x l) e)
 
-pub does-over : (d : Done) (t : Told) (out : List ℕ) (m : Memory) (l : Answers) → ready (m .answers) ≡ true → ended t out ≡ d → l ≡ over t (m .answers) → record { out = out; answers = l } ≡ does d m
+pub does-over : (d : Done) (t : Told) (out : List ℕ) (m : Memory) (l : AnswerCells) → ready (m .cells) ≡ true → ended t out ≡ d → l ≡ over t (m .cells) → record { out = out; cells = l } ≡ does d m
 does-over d t out m l r e h = rw (r, h, ← e) refl

@@ -19,45 +19,45 @@ use Rattle.composer.specs.Stream.{Pair, lent, pairOf, judged, fedBy, outBy}
 use Rattle.probe.specs.declared.form.Given.{Given}
 use Rattle.probe.specs.declared.form.Given.the-variants.{Good, Bad}
 use Rattle.probe.specs.declared.tell.Told.{Told}
-use Rattle.probe.specs.Probe.{Answers, cells, enough, ready, tells, Memory, Done, does, fedTold, formOf, ifGood, ifBoth, toWordsDone, toListDone, composeDone, setsDone, feedDone}
+use Rattle.probe.specs.Probe.{AnswerCells, cells, enough, ready, tells, Memory, Done, does, fedTold, formOf, ifGood, ifBoth, toWordsDone, toListDone, composeDone, setsDone, feedDone}
 
 -- ---- where `ans` has fewer than 16 cells or `den` fewer than 1, the call does nothing at all
 
-abbrev pub Short : Answers → Type 0
+abbrev pub Short : AnswerCells → Type 0
 Short l = (length (l .ans) < 16) ⊎ (length (l .den) < 1)
 
 and-false : (b : Bool) → b && false ≡ false
 and-false true = refl
 and-false false = refl
 
-not-ready : (l : Answers) → Short l → ready l ≡ false
+not-ready : (l : AnswerCells) → Short l → ready l ≡ false
 unfolding enough
 not-ready l (inl h) = rw (lt-leb 16 (length (l .ans)) h)
 not-ready l (inr h) = rw (lt-leb 1 (length (l .den)) h) (and-false (leb 16 (length (l .ans))))
 
-pub tells-nothing : (t : Told) (l : Answers) → Short l → tells t l ≡ l
+pub tells-nothing : (t : Told) (l : AnswerCells) → Short l → tells t l ≡ l
 tells-nothing t l h = rw (not-ready l h)
 
-pub does-nothing : (d : Done) (m : Memory) → Short (m .answers) → does d m ≡ m
-does-nothing d m h = rw (not-ready (m .answers) h)
+pub does-nothing : (d : Done) (m : Memory) → Short (m .cells) → does d m ≡ m
+does-nothing d m h = rw (not-ready (m .cells) h)
 
 -- ---- else all cells are written; cells past the 16th, and `den` past its first, stay
 
-pub record Written (t : Told) (before after : Answers) : Type 0 where
+pub record Leaves (t : Told) (before after : AnswerCells) : Type 0 where
   pub told : take 16 (after .ans) ≡ cells t
   pub density : take 1 (after .den) ≡ t .density ∷ []
   pub rest : drop 16 (after .ans) ≡ drop 16 (before .ans)
   pub others : drop 1 (after .den) ≡ drop 1 (before .den)
 
-has-room : (l : Answers) → 16 ≤ length (l .ans) → 1 ≤ length (l .den) → ready l ≡ true
+has-room : (l : AnswerCells) → 16 ≤ length (l .ans) → 1 ≤ length (l .den) → ready l ≡ true
 unfolding enough
 has-room l h k = rw (le-leb 16 (length (l .ans)) h, le-leb 1 (length (l .den)) k)
 
-pub tells-written : (t : Told) (l : Answers) → 16 ≤ length (l .ans) → 1 ≤ length (l .den) → Written t l (tells t l)
+pub tells-written : (t : Told) (l : AnswerCells) → 16 ≤ length (l .ans) → 1 ≤ length (l .den) → Leaves t l (tells t l)
 tells-written t l h k = rw (has-room l h k) record { told = refl; density = refl; rest = refl; others = refl }
 
-pub does-written : (d : Done) (m : Memory) → 16 ≤ length (m .answers .ans) → 1 ≤ length (m .answers .den) → Written (d .told) (m .answers) (does d m .answers) × (does d m .out ≡ d .out)
-does-written d m h k = rw (has-room (m .answers) h k) (record { told = refl; density = refl; rest = refl; others = refl }, refl)
+pub does-written : (d : Done) (m : Memory) → 16 ≤ length (m .cells .ans) → 1 ≤ length (m .cells .den) → Leaves (d .told) (m .cells) (does d m .cells) × (does d m .out ≡ d .out)
+does-written d m h k = rw (has-room (m .cells) h k) (record { told = refl; density = refl; rest = refl; others = refl }, refl)
 
 -- ---- a form that is none of the four, in either operand: 99 in cell 0, 0 in all others, density 0.0, and no other memory changes
 

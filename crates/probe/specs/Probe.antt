@@ -23,19 +23,19 @@ use Rattle.composer.specs.declared.State.{State}
 use Rattle.composer.specs.declared.Fed.{Fed}
 use Rattle.composer.specs.Stream.{lent, pairOf, fed, fedOut}
 use Rattle.text.specs.declared.Written.{Written}
-use Rattle.text.specs.Text.{tells as textTells, toldOut}
+use Rattle.text.specs.Text.{writtenFor, textOut}
 use Rattle.probe.specs.declared.form.Given.{Given}
 use Rattle.probe.specs.declared.form.Given.the-variants.{Good, Bad}
 use Rattle.probe.specs.declared.tell.Told.{Told}
 
 -- ---- the answer, into `ans` and `den`
 
-pub record Answers : Type 0 where
+pub record AnswerCells : Type 0 where
   pub ans : List ℕ
   pub den : List Float
 
-abbrev pub answers : List ℕ → List Float → Answers
-answers ans den = record { ans = ans; den = den }
+abbrev pub answerCells : List ℕ → List Float → AnswerCells
+answerCells ans den = record { ans = ans; den = den }
 
 -- 0 refusal, 1 operand, 2 count, 3 route, 4 word or position, 5 done, 6 ranks, 7 kept, 8 to 14 are 0, 15 bytes
 abbrev pub cells : Told → List ℕ
@@ -62,25 +62,25 @@ cells t =
 unfoldable pub enough : ℕ → ℕ → Bool
 enough nans nden = leb 16 nans && leb 1 nden
 
-abbrev pub ready : Answers → Bool
+abbrev pub ready : AnswerCells → Bool
 ready l = enough (length (l .ans)) (length (l .den))
 
 -- all 16 cells are written, and the density; cells past the 16th, and `den` past its first, stay
-abbrev pub over : Told → Answers → Answers
-over t l = answers (cells t ++ drop 16 (l .ans)) (t .density ∷ drop 1 (l .den))
+abbrev pub over : Told → AnswerCells → AnswerCells
+over t l = answerCells (cells t ++ drop 16 (l .ans)) (t .density ∷ drop 1 (l .den))
 
 -- a call with no output: where `ans` or `den` is too short it does nothing at all
-abbrev pub tells : Told → Answers → Answers
+abbrev pub tells : Told → AnswerCells → AnswerCells
 tells t l = cond (ready l) (over t l) l
 
 -- ---- a call with an output
 
 pub record Memory : Type 0 where
   pub out : List ℕ
-  pub answers : Answers
+  pub cells : AnswerCells
 
 abbrev pub memory : List ℕ → List ℕ → List Float → Memory
-memory out ans den = record { out = out; answers = answers ans den }
+memory out ans den = record { out = out; cells = answerCells ans den }
 
 -- what the call tells, and the output as it leaves it
 pub record Done : Type 0 where
@@ -91,7 +91,7 @@ abbrev pub ended : Told → List ℕ → Done
 ended t out = record { told = t; out = out }
 
 abbrev pub does : Done → Memory → Memory
-does d m = cond (ready (m .answers)) (record { out = d .out; answers = over (d .told) (m .answers) }) m
+does d m = cond (ready (m .cells)) (record { out = d .out; cells = over (d .told) (m .cells) }) m
 
 -- ---- what is told: a cell that a call does not speak of is 0
 
@@ -190,4 +190,4 @@ feedDone st a aws aes b bws bes out =
 
 -- the program: its lines into the output; where that is too short for them 8, and nothing is written
 abbrev pub programDone : List ℕ → List ℕ → Done
-programDone input out = ended (writtenTold (textTells input (length out))) (toldOut input out)
+programDone input out = ended (writtenTold (writtenFor input (length out))) (textOut input out)

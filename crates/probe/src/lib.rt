@@ -3,7 +3,7 @@
 ghost use mathlib.Core.Path.{_≡_};
 ghost use denote.Ref.{now};
 ghost use Rattle.composer.specs.Stream.{stateOf};
-ghost use Rattle.probe.specs.Probe.{answers, tells, memory, does, formOf, depositTold, selectTold, readTold, toWordsDone, toListDone, composeDone, setsDone, feedDone, programDone};
+ghost use Rattle.probe.specs.Probe.{answerCells, tells, memory, does, formOf, depositTold, selectTold, readTold, toWordsDone, toListDone, composeDone, setsDone, feedDone, programDone};
 use form::form_of;
 use tell::ready;
 use tell::tell;
@@ -22,7 +22,7 @@ pub extern "C" fn probe_deposit(
     ans: &mut [u64],
     den: &mut [f64],
 )
-    ensures { λ _. ⌜ answers (now (ans .exit)) (now (den .exit)) ≡ tells (depositTold source mask claimed) (answers (now (ans .entry)) (now (den .entry))) ⌝ }
+    ensures { λ _. ⌜ answerCells (now (ans .exit)) (now (den .exit)) ≡ tells (depositTold source mask claimed) (answerCells (now (ans .entry)) (now (den .entry))) ⌝ }
 {
     if !ready(ans.len(), den.len()) {
         return;
@@ -33,7 +33,7 @@ pub extern "C" fn probe_deposit(
 // Word select.
 #[no_mangle]
 pub extern "C" fn probe_select(word: u64, rank: u64, ans: &mut [u64], den: &mut [f64])
-    ensures { λ _. ⌜ answers (now (ans .exit)) (now (den .exit)) ≡ tells (selectTold word rank) (answers (now (ans .entry)) (now (den .entry))) ⌝ }
+    ensures { λ _. ⌜ answerCells (now (ans .exit)) (now (den .exit)) ≡ tells (selectTold word rank) (answerCells (now (ans .entry)) (now (den .entry))) ⌝ }
 {
     if !ready(ans.len(), den.len()) {
         return;
@@ -50,7 +50,7 @@ pub extern "C" fn probe_rank_read(
     ans: &mut [u64],
     den: &mut [f64],
 )
-    ensures { λ _. ⌜ answers (now (ans .exit)) (now (den .exit)) ≡ tells (readTold (now (words .entry)) start offset) (answers (now (ans .entry)) (now (den .entry))) ⌝ }
+    ensures { λ _. ⌜ answerCells (now (ans .exit)) (now (den .exit)) ≡ tells (readTold (now (words .entry)) start offset) (answerCells (now (ans .entry)) (now (den .entry))) ⌝ }
 {
     if !ready(ans.len(), den.len()) {
         return;

@@ -4,7 +4,7 @@ ghost use mathlib.Core.List.{_++_};
 ghost use Prim.Native.Nat.{_≤_, _<_};
 ghost use lib.ListN.{length, drop};
 ghost use denote.Ref.{now};
-ghost use Rattle.probe.specs.Probe.{answers, enough, over, wordTold, badTold, stateTold, answerTold, fedTold, writtenTold};
+ghost use Rattle.probe.specs.Probe.{answerCells, enough, over, wordTold, badTold, stateTold, answerTold, fedTold, writtenTold};
 use composer::Fed;
 use mask::Answer;
 use rows::Refusal;
@@ -124,7 +124,7 @@ fn lay(cells: &[u64], ans: &mut [u64])
 
 pub fn tell(told: Told, ans: &mut [u64], den: &mut [f64])
     requires { ⌜ (16 ≤ length (now ans)) × (0 < length (now den)) ⌝ }
-    ensures { λ _. ⌜ answers (now (ans .exit)) (now (den .exit)) ≡ over told (answers (now (ans .entry)) (now (den .entry))) ⌝ }
+    ensures { λ _. ⌜ answerCells (now (ans .exit)) (now (den .exit)) ≡ over told (answerCells (now (ans .entry)) (now (den .entry))) ⌝ }
 {
     let cells = [
         told.refusal,

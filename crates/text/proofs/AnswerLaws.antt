@@ -66,8 +66,8 @@ module _ (self rank : List Bool) (self-short : length self ≤ 8192) (rank-short
   pub answer-unpaired : length rank ≢ count self → answerTo self rank ≡ answered (Refused (refusal 7 0)) [] 0
   answer-unpaired h =
       let out : List ℕ = replicate (wordsFor (length self)) 0 in
-      let told = composed-refuses (formOf self) (wordsIn self) [] (formOf rank) (wordsIn rank) [] published out 7 0 (omega arith) .1 (inr (inl (refl, refl, accepted self self-short, accepted rank rank-short, h))) in
-      bare-answer (answerTo self rank) (refusal 7 0) told (composed-refused (formOf self) (wordsIn self) [] (formOf rank) (wordsIn rank) [] published out (λ z. omega (arith, ap (λ (r : Refusal). r .number) told)) .1)
+      let textOf = composed-refuses (formOf self) (wordsIn self) [] (formOf rank) (wordsIn rank) [] published out 7 0 (omega arith) .1 (inr (inl (refl, refl, accepted self self-short, accepted rank rank-short, h))) in
+      bare-answer (answerTo self rank) (refusal 7 0) textOf (composed-refused (formOf self) (wordsIn self) [] (formOf rank) (wordsIn rank) [] published out (λ z. omega (arith, ap (λ (r : Refusal). r .number) textOf)) .1)
 
 -- ---- its lines
 

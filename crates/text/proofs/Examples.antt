@@ -9,27 +9,27 @@ use Rattle.rows.specs.Word.{bitsOf, wordOf}
 use Rattle.rows.specs.Table.{first, inOrder}
 use Rattle.intersect_by_rank.specs.Route.{routeOf}
 use Rattle.intersect_by_rank.specs.Compose.{composed}
-use Rattle.text.specs.Text.{ascii, rowsIn, decSame, parsed, decimalIn, decimal, lines, linesOf, answers, told}
+use Rattle.text.specs.Text.{ascii, rowsIn, decSame, parsed, decimalIn, decimal, lines, linesOf, answerFor, textOf}
 
 -- an input, and the text
 pub data Case : Type 0 where
-  tells : (input text : List ℕ) → Case
+  writtenFor : (input text : List ℕ) → Case
 
 abbrev pub Every : List Case → Type 0
 Every [] = Unit {0}
-Every (tells input text ∷ cs) = (told input ≡ text) × Every cs
+Every (writtenFor input text ∷ cs) = (textOf input ≡ text) × Every cs
 
 abbrev pub cases : List Case
 cases =
-    tells (ascii "self=01101011\nrank=10010\n") (ascii "refusal=0\nroute=9\ncount=2\nbits=01000010\n")
-    ∷ tells (ascii "self=\nrank=\n") (ascii "refusal=0\nroute=3\ncount=0\nbits=\n")
-    ∷ tells (ascii "self=01101011\nrank=1001\n") (ascii "refusal=7\nroute=0\ncount=0\nbits=\n")
-    ∷ tells (ascii "self=01101011\nrank=10010\n\n") (ascii "refusal=13\nroute=0\ncount=0\nbits=\n")
-    ∷ tells (ascii "rank=10010\nself=01101011\n") (ascii "refusal=13\nroute=0\ncount=0\nbits=\n")
-    ∷ tells (ascii "self=0\nrank=") (ascii "refusal=13\nroute=0\ncount=0\nbits=\n")
-    ∷ tells (ascii "") (ascii "refusal=13\nroute=0\ncount=0\nbits=\n")
+    writtenFor (ascii "self=01101011\nrank=10010\n") (ascii "refusal=0\nroute=9\ncount=2\nbits=01000010\n")
+    ∷ writtenFor (ascii "self=\nrank=\n") (ascii "refusal=0\nroute=3\ncount=0\nbits=\n")
+    ∷ writtenFor (ascii "self=01101011\nrank=1001\n") (ascii "refusal=7\nroute=0\ncount=0\nbits=\n")
+    ∷ writtenFor (ascii "self=01101011\nrank=10010\n\n") (ascii "refusal=13\nroute=0\ncount=0\nbits=\n")
+    ∷ writtenFor (ascii "rank=10010\nself=01101011\n") (ascii "refusal=13\nroute=0\ncount=0\nbits=\n")
+    ∷ writtenFor (ascii "self=0\nrank=") (ascii "refusal=13\nroute=0\ncount=0\nbits=\n")
+    ∷ writtenFor (ascii "") (ascii "refusal=13\nroute=0\ncount=0\nbits=\n")
     ∷ []
 
 pub examples : Every cases
-unfolding told answers parsed rowsIn decSame ℕ-discrete decLe lines linesOf decimal decimalIn composed routeOf first inOrder bitsOf wordOf
+unfolding textOf answerFor parsed rowsIn decSame ℕ-discrete decLe lines linesOf decimal decimalIn composed routeOf first inOrder bitsOf wordOf
 examples = (refl, (refl, (refl, (refl, (refl, (refl, (refl, tt)))))))

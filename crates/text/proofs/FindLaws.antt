@@ -3,7 +3,7 @@
 use Prim.Native.Nat.{ℕ, zero, suc, _+_, _≤_, _<_}
 use native.Mathlib.Nat.{le-of-suc-le-suc}
 use mathlib.Core.Path.{_≡_, refl, ap₂}
-use mathlib.Core.Bool.{Bool, true, false, _||_, _&&_, cond}
+use mathlib.Core.Bool.{Bool, true, false, _||_, _&&_, cond, and-false}
 use mathlib.Core.List.{List, [], _∷_, _++_}
 use native.Mathlib.Omega.{arith}
 use lib.Dec.{eqb}
@@ -18,11 +18,7 @@ use Rattle.text.specs.Parts.{begins}
 pub begins-short : (key text : List ℕ) → length text < length key → begins key text ≡ false
 begins-short [] text h = absurd (omega arith)
 begins-short (k ∷ key) [] h = refl
-begins-short (k ∷ key) (t ∷ text) h = rw (begins-short key text (le-of-suc-le-suc h)) (never (eqb t k))
-  where
-    never : (b : Bool) → (b && false) ≡ false
-    never true = refl
-    never false = refl
+begins-short (k ∷ key) (t ∷ text) h = rw (begins-short key text (le-of-suc-le-suc h)) (and-false (eqb t k))
 
 pub begins-next : (key text : List ℕ) (i j : ℕ) → i < length key → j < length text
     → begins (drop i key) (drop j text) ≡ (eqb (getD text j 0) (getD key i 0) && begins (drop (suc i) key) (drop (suc j) text))

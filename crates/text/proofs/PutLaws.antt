@@ -17,7 +17,7 @@ use Rattle.rows.specs.Rows.{splice}
 use Rattle.rows.specs.Word.{wordOf}
 use Rattle.rows.specs.Words.{fit, bitsOfAll, view}
 use Rattle.rows.specs.Table.{choose}
-use Rattle.rows.proofs.SpliceLaws.{over-nil, splice-append}
+use Rattle.rows.proofs.SpliceLaws.{splice-one, splice-append}
 use Rattle.rows.proofs.WordLaws.{wordOf-lt}
 use Rattle.rows.proofs.WordsLaws.{fit-length}
 use Rattle.rows.proofs.FitLaws.{view-step}
@@ -26,12 +26,6 @@ use Rattle.text.specs.Text.{digitOf, digits, line, bitsKey, decimalIn, d
 use Rattle.text.proofs.SaidLaws.{digits-length}
 
 -- ---- one byte more
-
-splice-one : (p : ℕ) (xs : List ℕ) (y : ℕ) → splice p xs (y ∷ []) ≡ set xs p y
-splice-one zero [] y = refl
-splice-one zero (x ∷ xs) y = ap (λ (l : List ℕ). y ∷ l) (over-nil xs)
-splice-one (suc p) [] y = refl
-splice-one (suc p) (x ∷ xs) y = ap (λ (l : List ℕ). x ∷ l) (splice-one p xs y)
 
 pub one-more : (at i y : ℕ) (out done : List ℕ) → length done ≡ i → set (splice at out done) (at + i) y ≡ splice at out (done ++ y ∷ [])
 one-more at i y out done e = sym (splice-one (at + i) (splice at out done) y) ∙ ap (λ (k : ℕ). splice (at + k) (splice at out done) (y ∷ [])) (sym e) ∙ splice-append at out done (y ∷ [])

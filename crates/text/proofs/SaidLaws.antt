@@ -3,7 +3,7 @@
 -- Assumes nothing.
 use Prim.Native.Nat.{ℕ, suc, _+_, _≤_, _<_}
 use mathlib.Core.Path.{_≡_, refl, sym, ap, ap₂, _∙_}
-use mathlib.Core.Bool.{Bool, true, false}
+use mathlib.Core.Bool.{Bool, true, false, true≢false}
 use mathlib.Core.List.{List, [], _∷_, _++_, append-assoc}
 use native.Mathlib.Omega.{arith}
 use lib.ListN.{length, drop, length-drop, length-append, drop-of-length-le}
@@ -103,22 +103,19 @@ unfolding foundIn
 masks input w = chosen (decWell input (selfIn input) (rankIn input)) _ _ w
 
 -- each way to be malformed, for the lengths n and m of the two masks as they are counted
-never : {b : Bool} → b ≡ true → b ≡ false → ⊥
-never p q = let z : _≡_ {A = ℕ} 0 1 = cc in omega arith
-
 pub rank-counted : (input : List ℕ) (n m : ℕ) → n ≡ length (selfIn input) → m ≡ length (rowsIn (drop (11 + n) input)) → m ≡ length (rankIn input)
 rank-counted input n m p q = q ∙ ap (λ (k : ℕ). length (rowsIn (drop (11 + k) input))) p
 
 module _ (input : List ℕ) where
   pub no-first-key : begins selfKey input ≡ false → foundIn input ≡ Malformed
-  no-first-key h = malformed input (λ w. never (first-key input (selfIn input) (rankIn input) (w .said)) h)
+  no-first-key h = malformed input (λ w. true≢false (sym (first-key input (selfIn input) (rankIn input) (w .said)) ∙ h))
 
   module _ (n : ℕ) (p : n ≡ length (selfIn input)) where
     pub self-long : 8192 < n → foundIn input ≡ Malformed
     self-long h = malformed input (λ w. omega (arith, w .self-short))
 
     pub no-second-key : begins (10 ∷ rankKey) (drop (5 + n) input) ≡ false → foundIn input ≡ Malformed
-    no-second-key h = malformed input (λ w. never (second-key input (selfIn input) (rankIn input) (w .said)) (ap (λ (k : ℕ). begins (10 ∷ rankKey) (drop (5 + k) input)) (sym p) ∙ h))
+    no-second-key h = malformed input (λ w. true≢false (sym (second-key input (selfIn input) (rankIn input) (w .said)) ∙ ap (λ (k : ℕ). begins (10 ∷ rankKey) (drop (5 + k) input)) (sym p) ∙ h))
 
     module _ (m : ℕ) (q : m ≡ length (rankIn input)) where
       pub rank-long : 8192 < m → foundIn input ≡ Malformed
@@ -126,7 +123,7 @@ module _ (input : List ℕ) where
 
       pub no-newline : begins (10 ∷ []) (drop (11 + n + m) input) ≡ false → foundIn input ≡ Malformed
       no-newline h =
-          malformed input (λ w. never (last-newline input (selfIn input) (rankIn input) (w .said)) (ap₂ (λ (k l : ℕ). begins (10 ∷ []) (drop (11 + k + l) input)) (sym p) (sym q) ∙ h))
+          malformed input (λ w. true≢false (sym (last-newline input (selfIn input) (rankIn input) (w .said)) ∙ ap₂ (λ (k l : ℕ). begins (10 ∷ []) (drop (11 + k + l) input)) (sym p) (sym q) ∙ h))
 
       pub other-length : (length input ≡ 12 + n + m → ⊥) → foundIn input ≡ Malformed
       other-length h = malformed input (λ w. h (omega (arith, said-length input (selfIn input) (rankIn input) (w .said))))

@@ -20,10 +20,10 @@ use Rattle.mask.specs.declared.Answer.{Answer}
 use Rattle.mask.specs.Answer.{answered}
 use Rattle.intersect_by_rank.specs.Route.{published, routeOf}
 use Rattle.text.specs.declared.Written.{Written}
-use Rattle.text.specs.Text.{ascii, says, WellFormed, selfIn, rankIn, decWell, parsed, decimalIn, decimal, lines, linesOf, formOf, answerTo, answers, told, withText, shorter, tells}
+use Rattle.text.specs.Text.{ascii, says, WellFormed, selfIn, rankIn, decWell, parsed, decimalIn, decimal, lines, linesOf, formOf, answerTo, answerFor, textOf, withText, shorter, writtenFor}
 use Rattle.text.specs.Parts.{begins}
 use Rattle.text.proofs.SaidLaws.{self-said, rank-said, said-length}
-use Rattle.text.proofs.ToldLaws.{answers-parsed, told-parsed, answers-ill, told-ill}
+use Rattle.text.proofs.ToldLaws.{answer-parsed, text-parsed, answer-ill, text-ill}
 use Rattle.text.proofs.AnswerLaws.{routeTaken, answer-paired, answer-unpaired, lines-paired, lines-refused, decimal-short, lines-length, route-small}
 
 -- ---- which inputs are well formed
@@ -54,44 +54,48 @@ parsed-exactly input self rank = (to (decWell input (selfIn input) (rankIn input
 
 -- ---- what is answered, and what is told
 
-ill-told : (input : List ℕ) → ¬ WellFormed input (selfIn input) (rankIn input) → told input ≡ lines 13 0 0 []
-ill-told input h = told-ill input h ∙ lines-refused 13 [] (λ z. omega arith)
+ill-told : (input : List ℕ) → ¬ WellFormed input (selfIn input) (rankIn input) → textOf input ≡ lines 13 0 0 []
+ill-told input h = text-ill input h ∙ lines-refused 13 [] (λ z. omega arith)
 
 -- two masks: what composition answers to them, and its four lines
 module _ (input : List ℕ) (self rank : List Bool) (w : WellFormed input self rank) where
-  pub well-formed-answered : answers input ≡ answerTo self rank
-  well-formed-answered = answers-parsed input (some (self, rank)) (parsed-exactly input self rank .1 w)
+  pub well-formed-answered : answerFor input ≡ answerTo self rank
+  well-formed-answered = answer-parsed input (some (self, rank)) (parsed-exactly input self rank .1 w)
 
-  pub well-formed-told : told input ≡ linesOf (answerTo self rank) (compose self rank)
-  well-formed-told = told-parsed input (some (self, rank)) (parsed-exactly input self rank .1 w)
+  pub well-formed-told : textOf input ≡ linesOf (answerTo self rank) (compose self rank)
+  well-formed-told = text-parsed input (some (self, rank)) (parsed-exactly input self rank .1 w)
 
   -- where the rank mask is as long as self has set rows: 0, the table's route, the rank mask's count and the composition's rows
-  pub paired-answered : length rank ≡ count self → answers input ≡ answered Fine (compose self rank) (routeTaken self rank)
+  pub paired-answered : length rank ≡ count self → answerFor input ≡ answered Fine (compose self rank) (routeTaken self rank)
   paired-answered e = well-formed-answered ∙ answer-paired self rank (w .self-short) (w .rank-short) e
 
-  pub paired-told : length rank ≡ count self → told input ≡ lines 0 (routeTaken self rank) (count rank) (compose self rank)
+  pub paired-told : length rank ≡ count self → textOf input ≡ lines 0 (routeTaken self rank) (count rank) (compose self rank)
   paired-told e = well-formed-told ∙ ap (λ (a : Answer). linesOf a (compose self rank)) (answer-paired self rank (w .self-short) (w .rank-short) e) ∙ lines-paired self rank (routeTaken self rank) e
 
   -- and else 7
-  pub unpaired-answered : length rank ≢ count self → answers input ≡ answered (Refused (refusal 7 0)) [] 0
+  pub unpaired-answered : length rank ≢ count self → answerFor input ≡ answered (Refused (refusal 7 0)) [] 0
   unpaired-answered h = well-formed-answered ∙ answer-unpaired self rank (w .self-short) (w .rank-short) h
 
-  pub unpaired-told : length rank ≢ count self → told input ≡ lines 7 0 0 []
+  pub unpaired-told : length rank ≢ count self → textOf input ≡ lines 7 0 0 []
   unpaired-told h = well-formed-told ∙ ap (λ (a : Answer). linesOf a (compose self rank)) (answer-unpaired self rank (w .self-short) (w .rank-short) h) ∙ lines-refused 7 (compose self rank) (λ z. omega arith)
 
 -- anything else: 13
 module _ (input : List ℕ) (h : (self rank : List Bool) → ¬ WellFormed input self rank) where
-  pub ill-formed-answered : answers input ≡ answered (Refused (refusal 13 0)) [] 0
-  ill-formed-answered = answers-ill input (h (selfIn input) (rankIn input))
+  pub ill-formed-answered : answerFor input ≡ answered (Refused (refusal 13 0)) [] 0
+  ill-formed-answered = answer-ill input (h (selfIn input) (rankIn input))
 
-  pub ill-formed-told : told input ≡ lines 13 0 0 []
+  pub ill-formed-told : textOf input ≡ lines 13 0 0 []
   ill-formed-told = ill-told input (h (selfIn input) (rankIn input))
+
+-- no bytes at all: 13
+pub nothing-is-13 : textOf [] ≡ lines 13 0 0 []
+nothing-is-13 = ill-formed-told [] (λ self rank w. omega (arith, said-length [] self rank (w .said)))
 
 -- only 0, 7 and 13 are answered, and told: the first line is one of three. And all lines have at most 8,228 bytes
 pub record Told (input : List ℕ) : Type 0 where
-  pub number : (answers input .refusal .number ≡ 0) ⊎ (answers input .refusal .number ≡ 7) ⊎ (answers input .refusal .number ≡ 13)
-  pub first-line : (begins (ascii "refusal=0\n") (told input) ≡ true) ⊎ (begins (ascii "refusal=7\n") (told input) ≡ true) ⊎ (begins (ascii "refusal=13\n") (told input) ≡ true)
-  pub short : length (told input) ≤ 8228
+  pub number : (answerFor input .refusal .number ≡ 0) ⊎ (answerFor input .refusal .number ≡ 7) ⊎ (answerFor input .refusal .number ≡ 13)
+  pub first-line : (begins (ascii "refusal=0\n") (textOf input) ≡ true) ⊎ (begins (ascii "refusal=7\n") (textOf input) ≡ true) ⊎ (begins (ascii "refusal=13\n") (textOf input) ≡ true)
+  pub short : length (textOf input) ≤ 8228
 
 first-lines : (route set : ℕ) (rows : List Bool)
     → (begins (ascii "refusal=0\n") (lines 0 route set rows) ≡ true) × (begins (ascii "refusal=7\n") (lines 7 route set rows) ≡ true) × (begins (ascii "refusal=13\n") (lines 13 route set rows) ≡ true)
@@ -131,7 +135,7 @@ only-these input = go (decWell input (selfIn input) (rankIn input)) (ℕ-discret
         record { number = inr (inl (ap numberIn (unpaired-answered input (selfIn input) (rankIn input) w h))); first-line = inr (inl (ap (begins (ascii "refusal=7\n")) t ∙ first-lines 0 0 [] .1)); short = omega (arith, ap length t, lines-length 7 0 0 [], one 7 (omega arith), one 0 (omega arith)) }
     go (no h) e =
         let t = ill-told input h in
-        record { number = inr (inr (ap numberIn (answers-ill input h))); first-line = inr (inr (ap (begins (ascii "refusal=13\n")) t ∙ first-lines 0 0 [] .2)); short = omega (arith, ap length t, lines-length 13 0 0 [], decimal-short 1 13 (omega arith), one 0 (omega arith)) }
+        record { number = inr (inr (ap numberIn (answer-ill input h))); first-line = inr (inr (ap (begins (ascii "refusal=13\n")) t ∙ first-lines 0 0 [] .2)); short = omega (arith, ap length t, lines-length 13 0 0 [], decimal-short 1 13 (omega arith), one 0 (omega arith)) }
 
 -- ---- a long input
 
@@ -140,42 +144,42 @@ pub too-long : (input : List ℕ) → 16396 < length input → (self rank : List
 too-long input h self rank w = omega (arith, said-length input self rank (w .said), w .self-short, w .rank-short)
 
 -- so the first 16,397 bytes tell what the whole tells
-pub told-cut : (input : List ℕ) → told (take 16397 input) ≡ told input
-told-cut input = go (decLe (length input) 16397)
+pub text-cut : (input : List ℕ) → textOf (take 16397 input) ≡ textOf input
+text-cut input = go (decLe (length input) 16397)
   where
-    go : Dec (length input ≤ 16397) → told (take 16397 input) ≡ told input
-    go (yes h) = ap told (take-all 16397 input h)
+    go : Dec (length input ≤ 16397) → textOf (take 16397 input) ≡ textOf input
+    go (yes h) = ap textOf (take-all 16397 input h)
     go (no h) = ill-formed-told (take 16397 input) (too-long (take 16397 input) (omega (arith, length-take 16397 input))) ∙ sym (ill-formed-told input (too-long input (omega arith)))
 
 -- ---- what is written has room
 
-pub tells-within : (input : List ℕ) (room : ℕ) (w : Written) → w ≡ tells input room → w .len ≤ room
-unfolding tells
-tells-within input room w e = go (decLe (length (told input)) room) e
+pub written-within : (input : List ℕ) (room : ℕ) (w : Written) → w ≡ writtenFor input room → w .len ≤ room
+unfolding writtenFor
+written-within input room w e = go (decLe (length (textOf input)) room) e
   where
-    go : (d : Dec (length (told input) ≤ room)) → w ≡ choose d (withText (answers input) (told input)) shorter → w .len ≤ room
+    go : (d : Dec (length (textOf input) ≤ room)) → w ≡ choose d (withText (answerFor input) (textOf input)) shorter → w .len ≤ room
     go (yes h) q = omega (arith, ap (λ (x : Written). x .len) q)
     go (no h) q = omega (arith, ap (λ (x : Written). x .len) q)
 
 -- an output of 8,228 bytes is never too short
-pub always-room : (input : List ℕ) (room : ℕ) → 8228 ≤ room → tells input room ≡ withText (answers input) (told input)
-unfolding tells
-always-room input room h = chosen (decLe (length (told input)) room) _ _ (omega (arith, only-these input .short))
+pub always-room : (input : List ℕ) (room : ℕ) → 8228 ≤ room → writtenFor input room ≡ withText (answerFor input) (textOf input)
+unfolding writtenFor
+always-room input room h = chosen (decLe (length (textOf input)) room) _ _ (omega (arith, only-these input .short))
 
 -- and a shorter one is where 8 is answered
-pub eight-exactly : (input : List ℕ) (room : ℕ) → (tells input room .answer .refusal .number ≡ 8) ↔ (room < length (told input))
-unfolding tells
-eight-exactly input room = (to (decLe (length (told input)) room), from)
+pub eight-exactly : (input : List ℕ) (room : ℕ) → (writtenFor input room .answer .refusal .number ≡ 8) ↔ (room < length (textOf input))
+unfolding writtenFor
+eight-exactly input room = (to (decLe (length (textOf input)) room), from)
   where
-    to : (d : Dec (length (told input) ≤ room)) → choose {X = Written} d (withText (answers input) (told input)) shorter .answer .refusal .number ≡ 8
-        → room < length (told input)
+    to : (d : Dec (length (textOf input) ≤ room)) → choose {X = Written} d (withText (answerFor input) (textOf input)) shorter .answer .refusal .number ≡ 8
+        → room < length (textOf input)
     to (no h) e = omega arith
     to (yes h) e = other (only-these input .number)
       where
-        other : (answers input .refusal .number ≡ 0) ⊎ (answers input .refusal .number ≡ 7) ⊎ (answers input .refusal .number ≡ 13) → room < length (told input)
+        other : (answerFor input .refusal .number ≡ 0) ⊎ (answerFor input .refusal .number ≡ 7) ⊎ (answerFor input .refusal .number ≡ 13) → room < length (textOf input)
         other (inl z) = absurd (omega (arith, e, z))
         other (inr (inl z)) = absurd (omega (arith, e, z))
         other (inr (inr z)) = absurd (omega (arith, e, z))
 
-    from : room < length (told input) → choose {X = Written} (decLe (length (told input)) room) (withText (answers input) (told input)) shorter .answer .refusal .number ≡ 8
-    from h = ap (λ (w : Written). w .answer .refusal .number) (passed-over {X = Written} (decLe (length (told input)) room) _ _ (λ k. omega arith))
+    from : room < length (textOf input) → choose {X = Written} (decLe (length (textOf input)) room) (withText (answerFor input) (textOf input)) shorter .answer .refusal .number ≡ 8
+    from h = ap (λ (w : Written). w .answer .refusal .number) (passed-over {X = Written} (decLe (length (textOf input)) room) _ _ (λ k. omega arith))

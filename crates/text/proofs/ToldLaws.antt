@@ -15,8 +15,8 @@ use Rattle.rows.specs.Rows.{count, compose, splice}
 use Rattle.rows.specs.Words.{bitsOfAll, view, wordsOf}
 use Rattle.rows.specs.Laid.{wordsFor, written}
 use Rattle.rows.specs.Table.{choose}
-use Rattle.rows.proofs.WordsLaws.{fit-all, wordsOf-bits}
-use Rattle.rows.proofs.FitLaws.{take-fit}
+use Rattle.rows.proofs.WordsLaws.{wordsOf-bits}
+use Rattle.rows.proofs.FitLaws.{all-fit}
 use Rattle.rows.proofs.LaidLaws.{wordsOf-length}
 use Rattle.rows.proofs.SpliceLaws.{splice-eq}
 use Rattle.rows.proofs.WrittenLaws.{written-rows}
@@ -29,7 +29,7 @@ use Rattle.intersect_by_rank.specs.Compose.{result, composed, composedOut}
 use Rattle.intersect_by_rank.proofs.ComposeLaws.{compose-fine, compose-accepted, result-length}
 use Rattle.intersect_by_rank.proofs.Theorems.{composed-accepts}
 use Rattle.text.specs.declared.find.Found.the-variants.{Masks, Malformed}
-use Rattle.text.specs.Text.{WellFormed, rowsIn, selfIn, rankIn, decWell, parsed, lines, linesOf, wordsIn, answerOf, resultOf, answers, told, withText, shorter, tells, toldOut}
+use Rattle.text.specs.Text.{WellFormed, rowsIn, selfIn, rankIn, decWell, parsed, lines, linesOf, wordsIn, answerOf, resultOf, answerFor, textOf, withText, shorter, writtenFor, textOut}
 use Rattle.text.specs.Parts.{foundIn, answerWords, toldWords}
 
 -- ---- the composition of words
@@ -78,7 +78,7 @@ module _ (sws : List ℕ) (s : ℕ) (rws : List ℕ) (r : ℕ) (out : List ℕ) 
 pub words-view : (rows : List Bool) → view 0 (length rows) (wordsIn rows) ≡ rows
 words-view rows =
     let k = wordsFor (length rows) in
-    ap (take (length rows)) (wordsOf-bits 64 k rows) ∙ take-fit (length rows) (k * 64) rows (omega arith) ∙ fit-all (length rows) rows refl
+    ap (take (length rows)) (wordsOf-bits 64 k rows) ∙ all-fit (k * 64) rows (omega arith)
 
 pub words-front : (rows : List Bool) (n : ℕ) (out : List ℕ) → n ≡ length rows → take (wordsFor n) (written n rows out) ≡ wordsIn rows
 words-front rows n out e =
@@ -117,20 +117,20 @@ abbrev toldOf : Option (List Bool × List Bool) → List ℕ
 toldOf p = linesOf (answerOf p) (resultOf p)
 
 module _ (input : List ℕ) (p : Option (List Bool × List Bool)) (e : parsed input ≡ p) where
-  pub answers-parsed : answers input ≡ answerOf p
-  unfolding answers
-  answers-parsed = ap answerOf e
+  pub answer-parsed : answerFor input ≡ answerOf p
+  unfolding answerFor
+  answer-parsed = ap answerOf e
 
-  pub told-parsed : told input ≡ linesOf (answerOf p) (resultOf p)
-  unfolding told answers
-  told-parsed = ap toldOf e
+  pub text-parsed : textOf input ≡ linesOf (answerOf p) (resultOf p)
+  unfolding textOf answerFor
+  text-parsed = ap toldOf e
 
 module _ (input : List ℕ) (h : ¬ WellFormed input (selfIn input) (rankIn input)) where
-  pub answers-ill : answers input ≡ answerOf none
-  answers-ill = answers-parsed input none (parsed-ill input h)
+  pub answer-ill : answerFor input ≡ answerOf none
+  answer-ill = answer-parsed input none (parsed-ill input h)
 
-  pub told-ill : told input ≡ linesOf (answerOf none) []
-  told-ill = told-parsed input none (parsed-ill input h)
+  pub text-ill : textOf input ≡ linesOf (answerOf none) []
+  text-ill = text-parsed input none (parsed-ill input h)
 
 pub found-ill : (input : List ℕ) → foundIn input ≡ Malformed → ¬ WellFormed input (selfIn input) (rankIn input)
 unfolding foundIn
@@ -153,15 +153,15 @@ module _ (input : List ℕ) (s r : ℕ) (e : foundIn input ≡ Masks s r) where
   abbrev answerBy : ℕ → ℕ → List Bool → List Bool → Answer
   answerBy k l self rank = composed published (Words 0 k (count self)) sws [] (Words 0 l (count rank)) rws [] (replicate (wordsFor k) 0)
 
-  answers-masks : answerWords sws s rws r (replicate (wordsFor s) 0) ≡ answers input
+  answers-masks : answerWords sws s rws r (replicate (wordsFor s) 0) ≡ answerFor input
   unfolding answerWords
-  answers-masks = masks-said answerBy ∙ sym (answers-parsed input (some (selfIn input, rankIn input)) (parsed-well input (found-masks input s r e .well)))
+  answers-masks = masks-said answerBy ∙ sym (answer-parsed input (some (selfIn input, rankIn input)) (parsed-well input (found-masks input s r e .well)))
 
-  told-masks : toldWords sws s rws r (replicate (wordsFor s) 0) ≡ told input
+  told-masks : toldWords sws s rws r (replicate (wordsFor s) 0) ≡ textOf input
   unfolding toldWords answerWords
   told-masks =
       masks-said (λ (k l : ℕ) (self rank : List Bool). linesOf (answerBy k l self rank) (compose self rank))
-      ∙ sym (told-parsed input (some (selfIn input, rankIn input)) (parsed-well input (found-masks input s r e .well)))
+      ∙ sym (text-parsed input (some (selfIn input, rankIn input)) (parsed-well input (found-masks input s r e .well)))
 
   -- the same with the words that the digits were packed into, cut to those that have rows
   module _ (k l : ℕ) (p : k ≡ wordsFor s) (q : l ≡ wordsFor r) (ss rs from to : List ℕ) (x : ss ≡ written s (rowsIn (drop 5 input)) from) (y : rs ≡ written r (rowsIn (drop (11 + s) input)) to) where
@@ -175,8 +175,8 @@ module _ (input : List ℕ) (s r : ℕ) (e : foundIn input ≡ Masks s r) where
         ap₂ (λ (a b : List ℕ). f a b (take k (replicate 128 0))) self-words rank-words
         ∙ ap (f sws rws) (ap (λ (n : ℕ). take n (replicate 128 0)) p ∙ zeros-front (wordsFor s) 128 few)
 
-    pub tells-packed : (answerWords (take k ss) s (take l rs) r (take k (replicate 128 0)) ≡ answers input) × (toldWords (take k ss) s (take l rs) r (take k (replicate 128 0)) ≡ told input)
-    tells-packed = (packed (λ (a b out : List ℕ). answerWords a s b r out) ∙ answers-masks, packed (λ (a b out : List ℕ). toldWords a s b r out) ∙ told-masks)
+    pub packed-answered : (answerWords (take k ss) s (take l rs) r (take k (replicate 128 0)) ≡ answerFor input) × (toldWords (take k ss) s (take l rs) r (take k (replicate 128 0)) ≡ textOf input)
+    packed-answered = (packed (λ (a b out : List ℕ). answerWords a s b r out) ∙ answers-masks, packed (λ (a b out : List ℕ). toldWords a s b r out) ∙ told-masks)
 
 -- ---- where it is written
 
@@ -184,13 +184,13 @@ pub text-front : (text from : List ℕ) (n : ℕ) → n ≡ length text → n �
 text-front text from n e h = ap (take n) (splice-eq 0 from text (omega arith)) ∙ take-at text (drop (0 + length text) from) n (sym e)
 
 module _ (input out : List ℕ) where
-  pub no-room : length out < length (told input) → (tells input (length out) ≡ shorter) × (toldOut input out ≡ out)
-  unfolding tells toldOut
-  no-room h = (passed-over (decLe (length (told input)) (length out)) _ _ (λ k. omega arith), passed-over (decLe (length (told input)) (length out)) _ _ (λ k. omega arith))
+  pub no-room : length out < length (textOf input) → (writtenFor input (length out) ≡ shorter) × (textOut input out ≡ out)
+  unfolding writtenFor textOut
+  no-room h = (passed-over (decLe (length (textOf input)) (length out)) _ _ (λ k. omega arith), passed-over (decLe (length (textOf input)) (length out)) _ _ (λ k. omega arith))
 
-  pub room : length (told input) ≤ length out → (tells input (length out) ≡ withText (answers input) (told input)) × (toldOut input out ≡ splice 0 out (told input))
-  unfolding tells toldOut
+  pub room : length (textOf input) ≤ length out → (writtenFor input (length out) ≡ withText (answerFor input) (textOf input)) × (textOut input out ≡ splice 0 out (textOf input))
+  unfolding writtenFor textOut
   room h = (
-    chosen (decLe (length (told input)) (length out)) _ _ h,
-    chosen (decLe (length (told input)) (length out)) _ _ h ∙ sym (splice-eq 0 out (told input) (omega arith) ∙ ap (λ (k : ℕ). told input ++ drop k out) (zero-add (length (told input)))),
+    chosen (decLe (length (textOf input)) (length out)) _ _ h,
+    chosen (decLe (length (textOf input)) (length out)) _ _ h ∙ sym (splice-eq 0 out (textOf input) (omega arith) ∙ ap (λ (k : ℕ). textOf input ++ drop k out) (zero-add (length (textOf input)))),
   )

@@ -155,11 +155,11 @@ resultOf none = []
 resultOf (some (self, rank)) = compose self rank
 
 -- the answer to an input, and the text of its lines
-unfoldable pub answers : List ℕ → Answer
-answers input = answerOf (parsed input)
+unfoldable pub answerFor : List ℕ → Answer
+answerFor input = answerOf (parsed input)
 
-unfoldable pub told : List ℕ → List ℕ
-told input = linesOf (answers input) (resultOf (parsed input))
+unfoldable pub textOf : List ℕ → List ℕ
+textOf input = linesOf (answerFor input) (resultOf (parsed input))
 
 -- ---- where it is written: 8 where the output is shorter than the text, and then nothing is written
 
@@ -169,9 +169,9 @@ withText a text = record { answer = a; len = length text }
 abbrev pub shorter : Written
 shorter = withText (answered (Refused (refusal 8 0)) [] 0) []
 
-unfoldable pub tells : List ℕ → ℕ → Written
-tells input room = choose (decLe (length (told input)) room) (withText (answers input) (told input)) shorter
+unfoldable pub writtenFor : List ℕ → ℕ → Written
+writtenFor input room = choose (decLe (length (textOf input)) room) (withText (answerFor input) (textOf input)) shorter
 
 -- the text from the start on, later bytes as they were
-unfoldable pub toldOut : List ℕ → List ℕ → List ℕ
-toldOut input out = choose (decLe (length (told input)) (length out)) (told input ++ drop (length (told input)) out) out
+unfoldable pub textOut : List ℕ → List ℕ → List ℕ
+textOut input out = choose (decLe (length (textOf input)) (length out)) (textOf input ++ drop (length (textOf input)) out) out

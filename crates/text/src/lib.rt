@@ -2,7 +2,7 @@
 ghost use mathlib.Core.Path.{_≡_};
 ghost use lib.ListN.{length};
 ghost use denote.Ref.{now};
-ghost use Rattle.text.specs.Text.{tells, toldOut};
+ghost use Rattle.text.specs.Text.{writtenFor, textOut};
 use mask::Answer;
 use mask::inner::refused;
 use rows::Refusal;
@@ -20,7 +20,7 @@ pub struct Written {
 
 // The text for any input, from the start of out on; later bytes as they were.
 pub fn answer(input: &[u8], out: &mut [u8]) -> Written
-    ensures { λ w. ⌜ (w ≡ tells (now (input .entry)) (length (now (out .entry)))) × (now (out .exit) ≡ toldOut (now (input .entry)) (now (out .entry))) ⌝ }
+    ensures { λ w. ⌜ (w ≡ writtenFor (now (input .entry)) (length (now (out .entry)))) × (now (out .exit) ≡ textOut (now (input .entry)) (now (out .entry))) ⌝ }
 {
     // three numbers of 20 digits and 8,192 bits would be 8,281 bytes, more than there ever are
     let mut text = [0u8; 8281];

@@ -6,7 +6,7 @@ ghost use denote.Ref.{now};
 ghost use Rattle.rows.specs.Rows.{count, splice};
 ghost use Rattle.rows.specs.Words.{view};
 ghost use Rattle.rows.specs.Laid.{wordsFor, written};
-ghost use Rattle.text.specs.Text.{rowsIn, answers, told, withText};
+ghost use Rattle.text.specs.Text.{rowsIn, answerFor, textOf, withText};
 ghost use Rattle.text.specs.Parts.{answerWords, toldWords, foundIn};
 use super::Written;
 use super::find::Found;
@@ -80,8 +80,8 @@ fn tell_words(
 // The composition of the two masks that were found, told.
 fn tell_masks(input: &[u8], s: usize, r: usize, out: &mut [u8]) -> Written
     requires { ⌜ (foundIn (now input) ≡ Found.Masks s r) × (8281 ≤ length (now out)) ⌝ }
-    ensures { λ w. ⌜ (w ≡ withText (answers (now (input .entry))) (told (now (input .entry))))
-        × (now (out .exit) ≡ splice 0 (now (out .entry)) (told (now (input .entry))))
+    ensures { λ w. ⌜ (w ≡ withText (answerFor (now (input .entry))) (textOf (now (input .entry))))
+        × (now (out .exit) ≡ splice 0 (now (out .entry)) (textOf (now (input .entry))))
         × (w .len ≤ 8281) ⌝ }
 {
     let mut swords = [0u64; 128];
@@ -98,7 +98,7 @@ fn tell_masks(input: &[u8], s: usize, r: usize, out: &mut [u8]) -> Written
 // The text, from the start of out on.
 pub fn tell(input: &[u8], out: &mut [u8]) -> Written
     requires { ⌜ 8281 ≤ length (now out) ⌝ }
-    ensures { λ w. ⌜ (w ≡ withText (answers (now (input .entry))) (told (now (input .entry)))) × (take (w .len) (now (out .exit)) ≡ told (now (input .entry))) × (w .len ≤ 8281) ⌝ }
+    ensures { λ w. ⌜ (w ≡ withText (answerFor (now (input .entry))) (textOf (now (input .entry)))) × (take (w .len) (now (out .exit)) ≡ textOf (now (input .entry))) × (w .len ≤ 8281) ⌝ }
 {
     match find(input) {
         Found::Malformed => {

@@ -92,13 +92,13 @@ fn run_named(name: &[u8]) -> Finding
     // as many bytes as the program reads
     let mut input = [0u8; 16397];
     let got = read_file(name, &mut input);
-    if !got.there {
+    if got.failed {
         return Finding::NoInput;
     }
     // a byte more than the longest text has, so that a longer file differs
     let mut text = [0u8; 8229];
     let answer = read_answer(name, &mut text);
-    if !answer.there {
+    if answer.failed {
         return Finding::NoAnswer;
     }
     let n = got.len;

@@ -4,26 +4,23 @@ ghost use lib.ListN.{length};
 ghost use denote.Ref.{now};
 ghost use Rattle.io.specs.Counts.{Counts};
 use super::bytes::put;
+use super::input::Got;
+use super::input::read_all;
 
-// Whether there is such a file, and how many bytes were read.
-pub struct Got {
-    pub there: bool,
-    pub len: usize,
-}
-
+// The whole file of this name, or a failure where it cannot be read.
 pub fn read_file(name: &[u8], out: &mut [u8]) -> Got
     ensures { λ g. ⌜ Counts (g .len) (now (out .exit)) ⌝ }
 {
     let fd = os::open_read(name);
     if fd < 0 {
         return Got {
-            there: false,
+            failed: true,
             len: 0,
         };
     }
-    let len = io::read_full(fd, out);
+    let got = read_all(fd, out);
     libc::close(fd);
-    Got { there: true, len }
+    got
 }
 
 // The file that has the answer to the case of this name.

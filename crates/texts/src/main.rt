@@ -12,6 +12,7 @@ use libc::STDOUT_FILENO;
 mod bytes;
 mod case;
 mod files;
+mod input;
 
 // How many cases agreed, and whether these are all.
 struct Tally {
@@ -39,8 +40,8 @@ fn print_finding(name: &[u8], finding: Finding) {
     match finding {
         Finding::Agrees => io::write_all(STDOUT_FILENO, b": agrees\n"),
         Finding::BadName => io::write_all(STDOUT_FILENO, b": no name of 1 to 32 bytes\n"),
-        Finding::NoInput => io::write_all(STDOUT_FILENO, b": the input is missing\n"),
-        Finding::NoAnswer => io::write_all(STDOUT_FILENO, b": the answer is missing\n"),
+        Finding::NoInput => io::write_all(STDOUT_FILENO, b": the input cannot be read\n"),
+        Finding::NoAnswer => io::write_all(STDOUT_FILENO, b": the answer cannot be read\n"),
         Finding::TextDiffers => io::write_all(STDOUT_FILENO, b": the text differs\n"),
         Finding::EightDiffers => io::write_all(
             STDOUT_FILENO,
@@ -93,8 +94,8 @@ fn run_table(table: &[u8], room: usize) {
 fn main() {
     let mut table = [0u8; 4096];
     let got = read_file(b"names", &mut table);
-    if !got.there {
-        io::write_all(STDOUT_FILENO, b"names: missing\n");
+    if got.failed {
+        io::write_all(STDOUT_FILENO, b"names: cannot be read\n");
         return;
     }
     let len = got.len;

@@ -7,7 +7,7 @@ use native.Mathlib.Numerals.{one-add}
 use native.Mathlib.Nat.{zero-add, add-zero, pow-suc, div-one, max-zero, zero-mul, suc-add, mod-one, mul-assoc}
 use native.Mathlib.Omega.{arith}
 use lib.Arith.{bin-ind}
-use lib.Pow.{shr-shr}
+use lib.Pow.{pow-pos, shr-shr}
 use lib.Bits.{bitAnd, bitOr, or-step, or-zero-r}
 use lib.Count.{ones, onesIn, ones-step}
 use mathlib.Core.Bool.{Bool}
@@ -50,6 +50,15 @@ dealt-no-source zero m = refl
 dealt-no-source (suc w) m =
     let ih : dealt w 0 (m / 2) ≡ 0 = dealt-no-source w (m / 2) in
     ⊎-elim (λ (x : m % 2 ≡ 0). omega (arith, dealt-even w 0 m x)) (λ (x : m % 2 ≡ 1). omega (arith, dealt-odd w 0 m x)) (digit m)
+
+-- every digit of the mask set
+pub dealt-all : (w s : ℕ) → s < 2 ^ w → dealt w s (2 ^ w - 1) ≡ s
+unfolding dealt
+dealt-all zero s h = omega arith
+dealt-all (suc w) s h =
+    let p : 2 ^ suc w ≡ 2 ^ w * 2 = pow-suc 2 w in
+    let rest : (2 ^ suc w - 1) / 2 ≡ 2 ^ w - 1 = omega (arith, pow-pos w) in
+    omega (arith, dealt-odd w s (2 ^ suc w - 1) (omega (arith, pow-pos w)), ap (dealt w (s / 2)) rest, dealt-all w (s / 2) (omega arith))
 
 pub dealt-lt : (w s m : ℕ) → dealt w s m < 2 ^ w
 unfolding dealt

@@ -4,15 +4,15 @@ use mathlib.Core.Path.{sym}
 use native.Mathlib.Omega.{arith}
 use lib.Seq.{length-take-le}
 use borrow.Author.Needs.{needs}
-use Rattle.text.proofs.Theorems.{tells-within}
+use Rattle.text.proofs.Theorems.{written-within}
 use Rattle.intersect.proofs.main.Statement.{statement}
 use Rattle.intersect.proofs.main.Tie as tie
 
-slice-aggregate-read-full : tie.Need-slice-aggregate-read-full
-slice-aggregate-read-full c = search needs
+slice-aggregate-read-all : tie.Need-slice-aggregate-read-all
+slice-aggregate-read-all c = search needs
 
-read-full-requires : tie.Need-read-full-requires
-read-full-requires c κs = search needs
+read-all-requires : tie.Need-read-all-requires
+read-all-requires c κs = search needs
 
 array-share-prefix-input : tie.Need-array-share-prefix-input
 array-share-prefix-input c = search needs
@@ -29,12 +29,12 @@ answer-requires c κs = search needs
 array-share-prefix-out : tie.Need-array-share-prefix-out
 array-share-prefix-out c =
     let a = c .before .answer in
-    omega (arith, tells-within _ _ (a .result) (a .ensures .0), a .kept .1 .0)
+    omega (arith, written-within _ _ (a .result) (a .ensures .0), a .kept .1 .0)
 
 slice-aggregate-write-all : tie.Need-slice-aggregate-write-all
 slice-aggregate-write-all c =
     let a = c .before .before .answer in
-    sym (length-take-le (a .result .len) (a .last .1 .0) (omega (arith, tells-within _ _ (a .result) (a .ensures .0), a .kept .1 .0)))
+    sym (length-take-le (a .result .len) (a .last .1 .0) (omega (arith, written-within _ _ (a .result) (a .ensures .0), a .kept .1 .0)))
 
 write-all-requires : tie.Need-write-all-requires
 write-all-requires c κs = search needs
@@ -46,8 +46,8 @@ pub main-spec : {M : Type 1} → statement M
 main-spec =
     tie.close
     (tie.spec
-    slice-aggregate-read-full
-    read-full-requires
+    slice-aggregate-read-all
+    read-all-requires
     array-share-prefix-input
     slice-aggregate-answer
     slice-aggregate-answer-2

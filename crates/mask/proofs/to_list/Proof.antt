@@ -13,7 +13,7 @@ use Rattle.rows.specs.Rows.{count}
 use Rattle.rows.specs.Lists.{setRows}
 use Rattle.rows.specs.Table.{need, first, noRefusal, ifFine}
 use Rattle.mask.specs.Operand.{rowsOf, countOf, operandChecks}
-use Rattle.mask.specs.Answer.{densityOf, answered}
+use Rattle.mask.specs.Answer.{densityOf, noRoute, answered}
 use Rattle.mask.specs.Convert.{toListChecks, toList, toListOut}
 use Rattle.mask.proofs.OperandLaws.{accepted-length, accepted-count, accepted-limit, accepted-few}
 use Rattle.mask.proofs.ConvertLaws.{judged-fine}
@@ -75,7 +75,7 @@ returns c =
     let told : c .before .before .before .before .judge .result ≡ Refused (c .before .before .refusal .given .0 .0) = c .before .before .refusal .given .1 in
     let e : first (toListChecks f ws es out) ≡ Refused (c .before .before .refusal .given .0 .0) =
     ap (λ (n : ℕ). first (operandChecks 1 f ws es ++ need (decLe n (length out)) 8 0 ∷ [])) (sym (c .before .before .before .before .before .count-of .ensures)) ∙ sym (c .before .before .before .before .judge .ensures) ∙ told in
-    (c .refused .ensures ∙ sym (ap (λ (v : Verdict). answered v (rowsOf f ws es) 0) e), sym (ap (λ (v : Verdict). ifFine v (setRows 0 (rowsOf f ws es) ++ drop (countOf f es) out) out) e))
+    (c .refused .ensures ∙ sym (ap (λ (v : Verdict). answered v (rowsOf f ws es) noRoute) e), sym (ap (λ (v : Verdict). ifFine v (setRows 0 (rowsOf f ws es) ++ drop (countOf f es) out) out) e))
 
 same-length : tie.Need-same-length
 same-length c = search needs
@@ -93,9 +93,9 @@ returns-2 c =
     ap (λ (n : ℕ). first (operandChecks 1 f ws es ++ need (decLe n (length out)) 8 0 ∷ [])) (sym (c .before .before .before .before .before .before .before .before .before .count-of .ensures)) ∙ sym (c .before .before .before .before .before .before .before .before .judge .ensures) ∙ told in
     let m = judged-fine f ws es (countOf f es) (length out) e .0 in (
       c .accepted .ensures
-          ∙ ap₂ (λ (n l : ℕ). record { refusal = noRefusal; summary = record { count = n; route = 0; density = densityOf n l } })
+          ∙ ap₂ (λ (n l : ℕ). record { refusal = noRefusal; summary = record { count = n; route = noRoute; density = densityOf n l } })
           (c .before .before .before .before .before .before .before .before .before .count-of .ensures ∙ sym (accepted-count f ws es m)) (c .before .length-of .ensures ∙ sym (accepted-length f ws es m))
-          ∙ sym (ap (λ (v : Verdict). answered v (rowsOf f ws es) 0) e),
+          ∙ sym (ap (λ (v : Verdict). answered v (rowsOf f ws es) noRoute) e),
       c .before .before .before .before .write-list .ensures ∙ sym (ap (λ (v : Verdict). ifFine v (setRows 0 (rowsOf f ws es) ++ drop (countOf f es) out) out) e),
     )
 

@@ -4,7 +4,7 @@ use mathlib.Core.Path.{sym, _∙_}
 use denote.Ref.{now}
 use borrow.Author.Needs.{needs}
 use borrow.Author.Tests.{not-true, not-false}
-use Rattle.probe.specs.Probe.{answers}
+use Rattle.probe.specs.Probe.{answerCells}
 use Rattle.probe.proofs.TellLaws.{enough-room, tells-over}
 use Rattle.probe.proofs.probe_select.Statement.{statement}
 use Rattle.probe.proofs.probe_select.Tie as tie
@@ -31,7 +31,7 @@ returns-2 : tie.Need-returns-2
 returns-2 c =
     let a = c .before .before .before .before .before .before .before .before .before .before .before .before .args in
     let room = sym (c .before .before .before .before .before .before .before .before .before .ready .ensures) ∙ not-false _ (c .before .before .before .before .before .before .before .before .if1 .left) in
-    tells-over _ _ (answers (now (a .ans)) (now (a .den))) _ room (c .before .before .before .before .before .before .before .select .ensures) (c .before .before .before .before .tell .ensures)
+    tells-over _ _ (answerCells (now (a .ans)) (now (a .den))) _ room (c .before .before .before .before .before .before .before .select .ensures) (c .before .before .before .before .tell .ensures)
 
 pub probe-select-spec : {M : Type 1} → statement M
 probe-select-spec =

@@ -10,7 +10,7 @@ use borrow.Author.Needs.{needs}
 use Rattle.rows.specs.Rows.{splice}
 use Rattle.mask.specs.declared.Answer.{Answer}
 use Rattle.text.specs.declared.Written.{Written}
-use Rattle.text.specs.Text.{told, withText}
+use Rattle.text.specs.Text.{textOf, withText}
 use Rattle.text.proofs.ToldLaws.{no-room, room}
 use Rattle.text.proofs.answer.Statement.{statement}
 use Rattle.text.proofs.answer.Tie as tie
@@ -28,7 +28,7 @@ returns : tie.Need-returns
 returns c =
     let a = c .before .before .before .before .before .before .before .args in
     let t = c .before .before .before .tell in
-    let len : t .result .len ≡ length (told (now (a .input))) = ap (λ (w : Written). w .len) (t .ensures .0) in
+    let len : t .result .len ≡ length (textOf (now (a .input))) = ap (λ (w : Written). w .len) (t .ensures .0) in
     let n = no-room (now (a .input)) (now (a .out)) (omega (arith, len, c .before .if1 .taken)) in
     (ap (λ (x : Answer). withText x []) (c .refused .ensures) ∙ sym (n .0), sym (n .1))
 
@@ -53,7 +53,7 @@ returns-2 : tie.Need-returns-2
 returns-2 c =
     let a = c .before .before .before .before .before .before .before .before .before .before .before .args in
     let t = c .before .before .before .before .before .before .before .tell in
-    let len : t .result .len ≡ length (told (now (a .input))) = ap (λ (w : Written). w .len) (t .ensures .0) in
+    let len : t .result .len ≡ length (textOf (now (a .input))) = ap (λ (w : Written). w .len) (t .ensures .0) in
     let n = room (now (a .input)) (now (a .out)) (omega (arith, len, c .before .before .before .before .before .if1 .left)) in
     (t .ensures .0 ∙ sym (n .0), c .before .before .put-bytes .ensures .1 ∙ ap (splice 0 (now (a .out))) (t .ensures .1) ∙ sym (n .1))
 

@@ -11,7 +11,7 @@ use Rattle.rows.specs.Word.{bitsOf}
 use Rattle.rows.specs.Lists.{select}
 use Rattle.rows.specs.Table.{refusal, noRefusal}
 use Rattle.rows.proofs.WordLaws.{count-bits}
-use Rattle.rows.proofs.TableLaws.{tells}
+use Rattle.rows.proofs.TableLaws.{first-is}
 use Rattle.word.specs.Answer.{selectChecks, selectedBy, selected}
 use Rattle.word.proofs.select.Statement.{statement}
 use Rattle.word.proofs.select.Tie as tie
@@ -24,7 +24,7 @@ unfolding selected
 returns c =
     let n : ℕ = c .before .args .word in
     let e : count (bitsOf 64 n) ≡ ones n = count-bits 64 n (c .before .fits .word .fits) in
-    sym (ap (λ v. selectedBy v (select (bitsOf 64 n) (c .before .args .rank))) (tells (selectChecks n (c .before .args .rank)) (Refused (refusal 9 0)) (inr (λ h. omega arith, refl))))
+    sym (ap (λ v. selectedBy v (select (bitsOf 64 n) (c .before .args .rank))) (first-is (selectChecks n (c .before .args .rank)) (Refused (refusal 9 0)) (inr (λ h. omega arith, refl))))
 
 cast-select-bit-position : tie.Need-cast-select-bit-position
 cast-select-bit-position c = omega (arith, ones-le 64 (c .before .args .word) (c .before .fits .word .fits))
@@ -41,7 +41,7 @@ returns-2 c =
     let n : ℕ = c .before .before .args .word in
     let e : count (bitsOf 64 n) ≡ ones n = count-bits 64 n (c .before .before .fits .word .fits) in
     ap (λ (p : ℕ). record { refusal = noRefusal; position = p }) (c .select-bit-position .ensures)
-    ∙ sym (ap (λ v. selectedBy v (select (bitsOf 64 n) (c .before .before .args .rank))) (tells (selectChecks n (c .before .before .args .rank)) Fine (inl (omega arith, refl))))
+    ∙ sym (ap (λ v. selectedBy v (select (bitsOf 64 n) (c .before .before .args .rank))) (first-is (selectChecks n (c .before .before .args .rank)) Fine (inl (omega arith, refl))))
 
 pub select-spec : {M : Type 1} → statement M
 select-spec =

@@ -6,7 +6,7 @@ use native.Mathlib.Omega.{arith}
 use denote.Ref.{now}
 use Rattle.rows.specs.declared.Verdict.the-variants.{Fine, Refused}
 use Rattle.rows.specs.Table.{refusal}
-use Rattle.rows.proofs.TableLaws.{tells, is-true, is-false}
+use Rattle.rows.proofs.TableLaws.{first-is, is-true, is-false}
 use borrow.Author.Tests.{not-true, not-false}
 use Rattle.mask.specs.Operand.{listChecks}
 use borrow.Author.Needs.{needs}
@@ -19,7 +19,7 @@ refuse-requires c κs = search needs
 returns : tie.Need-returns
 returns c =
     let a = c .before .before .before .args in
-    c .refuse .ensures ∙ sym (tells (listChecks (a .operand) (a .length) (now (a .rows))) (Refused (refusal 1 (a .operand))) (inr (λ h. omega arith, refl)))
+    c .refuse .ensures ∙ sym (first-is (listChecks (a .operand) (a .length) (now (a .rows))) (Refused (refusal 1 (a .operand))) (inr (λ h. omega arith, refl)))
 
 ascends-requires : tie.Need-ascends-requires
 ascends-requires c κs = search needs
@@ -31,7 +31,7 @@ returns-2 : tie.Need-returns-2
 returns-2 c =
     let a = c .before .before .before .before .before .args in
     let falls = is-false (sym (c .before .before .ascends .ensures) ∙ not-true _ (c .before .if2 .taken)) in
-    c .refuse2 .ensures ∙ sym (tells (listChecks (a .operand) (a .length) (now (a .rows))) (Refused (refusal 5 (a .operand))) (inl (omega arith, inr (falls, refl))))
+    c .refuse2 .ensures ∙ sym (first-is (listChecks (a .operand) (a .length) (now (a .rows))) (Refused (refusal 5 (a .operand))) (inl (omega arith, inr (falls, refl))))
 
 last-below-requires : tie.Need-last-below-requires
 last-below-requires c κs = search needs
@@ -44,14 +44,14 @@ returns-3 c =
     let a = c .before .before .before .before .before .before .before .args in
     let climbing = is-true (sym (c .before .before .before .before .ascends .ensures) ∙ not-false _ (c .before .before .before .if2 .left)) in
     let passing = is-false (sym (c .before .before .last-below .ensures) ∙ not-true _ (c .before .if3 .taken)) in
-    c .refuse3 .ensures ∙ sym (tells (listChecks (a .operand) (a .length) (now (a .rows))) (Refused (refusal 6 (a .operand))) (inl (omega arith, inl (climbing, inr (passing, refl)))))
+    c .refuse3 .ensures ∙ sym (first-is (listChecks (a .operand) (a .length) (now (a .rows))) (Refused (refusal 6 (a .operand))) (inl (omega arith, inl (climbing, inr (passing, refl)))))
 
 returns-4 : tie.Need-returns-4
 returns-4 c =
     let a = c .before .before .before .before .before .before .args in
     let climbing = is-true (sym (c .before .before .before .ascends .ensures) ∙ not-false _ (c .before .before .if2 .left)) in
     let below = is-true (sym (c .before .last-below .ensures) ∙ not-false _ (c .if3 .left)) in
-    sym (tells (listChecks (a .operand) (a .length) (now (a .rows))) Fine (inl (omega arith, inl (climbing, inl (below, refl)))))
+    sym (first-is (listChecks (a .operand) (a .length) (now (a .rows))) Fine (inl (omega arith, inl (climbing, inl (below, refl)))))
 
 pub check-list-spec : {M : Type 1} → statement M
 check-list-spec =

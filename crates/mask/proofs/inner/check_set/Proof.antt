@@ -5,7 +5,7 @@ use mathlib.Core.Logic.{inr}
 use denote.Ref.{now}
 use Rattle.rows.specs.declared.Verdict.the-variants.{Refused}
 use Rattle.rows.specs.Table.{refusal}
-use Rattle.rows.proofs.TableLaws.{tells, met-skips, is-true, is-false}
+use Rattle.rows.proofs.TableLaws.{first-is, met-skips, is-true, is-false}
 use mathlib.Core.Bool.{not}
 use Rattle.rows.specs.Table.{need, decT}
 use Rattle.mask.specs.Operand.{isList, setChecks, operandChecks}
@@ -23,7 +23,7 @@ returns : tie.Need-returns
 returns c =
     let a = c .before .before .before .before .before .args in
     let refusing = is-false (ap not (sym (c .before .before .is-list .ensures) ∙ c .before .if1 .taken)) in
-    c .refuse .ensures ∙ sym (tells (setChecks (a .operand) (a .form) (now (a .words)) (now (a .rows))) (Refused (refusal 12 (a .operand))) (inr (refusing, refl)))
+    c .refuse .ensures ∙ sym (first-is (setChecks (a .operand) (a .form) (now (a .words)) (now (a .rows))) (Refused (refusal 12 (a .operand))) (inr (refusing, refl)))
 
 check-requires : tie.Need-check-requires
 check-requires c κs = search needs

@@ -12,7 +12,7 @@ use Rattle.rows.specs.Word.{bitsOf}
 use Rattle.rows.specs.Pdep.{pdep}
 use Rattle.rows.specs.Table.{refusal, noRefusal}
 use Rattle.rows.proofs.WordLaws.{count-bits}
-use Rattle.rows.proofs.TableLaws.{tells}
+use Rattle.rows.proofs.TableLaws.{first-is}
 use Rattle.word.specs.Answer.{depositChecks, depositedBy, deposited}
 use Rattle.probe.proofs.call.deposit_by_loop.Statement.{statement}
 use Rattle.probe.proofs.call.deposit_by_loop.Tie as tie
@@ -25,7 +25,7 @@ unfolding deposited
 returns c =
     let m : ℕ = c .before .args .mask in
     let e : count (bitsOf 64 m) ≡ ones m = count-bits 64 m (c .before .fits .mask .fits) in
-    sym (ap (λ v. depositedBy v (pdep 64 (c .before .args .source) m)) (tells (depositChecks m (c .before .args .claimed)) (Refused (refusal 4 0)) (inr (λ h. omega arith, refl))))
+    sym (ap (λ v. depositedBy v (pdep 64 (c .before .args .source) m)) (first-is (depositChecks m (c .before .args .claimed)) (Refused (refusal 4 0)) (inr (λ h. omega arith, refl))))
 
 cast-deposit-portable-loop : tie.Need-cast-deposit-portable-loop
 cast-deposit-portable-loop c = omega (arith, ones-le 64 (c .before .args .mask) (c .before .fits .mask .fits))
@@ -39,7 +39,7 @@ returns-2 c =
     let m : ℕ = c .before .before .args .mask in
     let e : count (bitsOf 64 m) ≡ ones m = count-bits 64 m (c .before .before .fits .mask .fits) in
     ap (λ (w : ℕ). record { refusal = noRefusal; word = w }) (c .deposit-portable-loop .ensures)
-    ∙ sym (ap (λ v. depositedBy v (pdep 64 (c .before .before .args .source) m)) (tells (depositChecks m (c .before .before .args .claimed)) Fine (inl (omega arith, refl))))
+    ∙ sym (ap (λ v. depositedBy v (pdep 64 (c .before .before .args .source) m)) (first-is (depositChecks m (c .before .before .args .claimed)) Fine (inl (omega arith, refl))))
 
 pub deposit-by-loop-spec : {M : Type 1} → statement M
 deposit-by-loop-spec = tie.close (tie.spec cast-if1 returns cast-deposit-portable-loop deposit-portable-loop-requires returns-2)

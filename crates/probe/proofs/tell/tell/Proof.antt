@@ -3,7 +3,7 @@
 use mathlib.Core.Path.{ap₂}
 use denote.Ref.{now}
 use borrow.Author.Needs.{needs}
-use Rattle.probe.specs.Probe.{answers}
+use Rattle.probe.specs.Probe.{answerCells}
 use Rattle.probe.proofs.TellLaws.{set-first}
 use Rattle.probe.proofs.tell.tell.Statement.{statement}
 use Rattle.probe.proofs.tell.tell.Tie as tie
@@ -26,7 +26,7 @@ same-length-2 c = search needs
 returns : tie.Need-returns
 returns c =
     let s = c .before .before .before .before .before .before .before in
-    ap₂ answers (c .before .before .lay .ensures) (set-first (now (s .args .den)) (s .args .told .density) (s .pre .1))
+    ap₂ answerCells (c .before .before .lay .ensures) (set-first (now (s .args .den)) (s .args .told .density) (s .pre .1))
 
 pub tell-spec : {M : Type 1} → statement M
 tell-spec =

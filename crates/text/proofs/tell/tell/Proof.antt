@@ -9,8 +9,8 @@ use borrow.Author.Needs.{needs}
 use Rattle.rows.specs.Rows.{splice}
 use Rattle.mask.specs.declared.Answer.{Answer}
 use Rattle.text.specs.declared.Written.{Written}
-use Rattle.text.specs.Text.{linesOf, answers, told, withText}
-use Rattle.text.proofs.ToldLaws.{answers-ill, told-ill, found-ill, text-front}
+use Rattle.text.specs.Text.{linesOf, answerFor, textOf, withText}
+use Rattle.text.proofs.ToldLaws.{answer-ill, text-ill, found-ill, text-front}
 use Rattle.text.proofs.tell.tell.Statement.{statement}
 use Rattle.text.proofs.tell.tell.Tie as tie
 
@@ -46,11 +46,11 @@ returns c =
     let p = c .before .before .put-answer in
     let ill = found-ill input (sym (c .before .before .before .before .before .before .before .before .find .ensures) ∙ c .before .before .before .before .before .before .enum-told .given .1) in
     let thirteen = c .before .before .before .before .before .refused .ensures in
-    let text = ap (λ (a : Answer). linesOf a []) thirteen ∙ sym (told-ill input ill) in
-    let whole : p .result ≡ withText (answers input) (told input) = p .ensures .0 ∙ ap₂ withText (thirteen ∙ sym (answers-ill input ill)) text in
-    let n : p .result .len ≡ length (told input) = ap (λ (w : Written). w .len) whole in (
+    let text = ap (λ (a : Answer). linesOf a []) thirteen ∙ sym (text-ill input ill) in
+    let whole : p .result ≡ withText (answerFor input) (textOf input) = p .ensures .0 ∙ ap₂ withText (thirteen ∙ sym (answer-ill input ill)) text in
+    let n : p .result .len ≡ length (textOf input) = ap (λ (w : Written). w .len) whole in (
       whole,
-      ap (take (p .result .len)) (p .ensures .1 ∙ ap (splice 0 out) text) ∙ text-front (told input) out (p .result .len) n (omega (arith, p .ensures .2, z .pre)),
+      ap (take (p .result .len)) (p .ensures .1 ∙ ap (splice 0 out) text) ∙ text-front (textOf input) out (p .result .len) n (omega (arith, p .ensures .2, z .pre)),
       omega (arith, p .ensures .2),
     )
 
@@ -63,8 +63,8 @@ returns-2 c =
     let input = now (z .args .input) in
     let out = now (z .args .out) in
     let t = c .before .before .tell-masks in
-    let n : t .result .len ≡ length (told input) = ap (λ (w : Written). w .len) (t .ensures .0) in
-    (t .ensures .0, ap (take (t .result .len)) (t .ensures .1) ∙ text-front (told input) out (t .result .len) n (omega (arith, t .ensures .2, z .pre)), t .ensures .2)
+    let n : t .result .len ≡ length (textOf input) = ap (λ (w : Written). w .len) (t .ensures .0) in
+    (t .ensures .0, ap (take (t .result .len)) (t .ensures .1) ∙ text-front (textOf input) out (t .result .len) n (omega (arith, t .ensures .2, z .pre)), t .ensures .2)
 
 pub tell-spec : {M : Type 1} → statement M
 tell-spec =

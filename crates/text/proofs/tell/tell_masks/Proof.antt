@@ -12,7 +12,7 @@ use Rattle.rows.specs.Rows.{splice}
 use Rattle.rows.specs.Laid.{wordsFor}
 use Rattle.text.specs.Text.{rowsIn, selfIn, rankIn, withText}
 use Rattle.text.proofs.SaidLaws.{said-length}
-use Rattle.text.proofs.ToldLaws.{found-masks, tells-packed}
+use Rattle.text.proofs.ToldLaws.{found-masks, packed-answered}
 use Rattle.text.proofs.tell.tell_masks.Statement.{statement}
 use Rattle.text.proofs.tell.tell_masks.Tie as tie
 
@@ -146,7 +146,7 @@ returns c =
     let input = now (z .args .input) in
     let t = c .before .before .before .tell-words in
     let zeros : List ℕ = replicate 128 0 in
-    let e = tells-packed input s r (z .pre .0) (c .before .before .before .before .before .before .before .before .before .words-for .result) (c .before .before .before .before .before .before .before .before .words-for2 .result) (c .before .before .before .before .before .before .before .before .before .words-for .ensures) (c .before .before .before .before .before .before .before .before .words-for2 .ensures)
+    let e = packed-answered input s r (z .pre .0) (c .before .before .before .before .before .before .before .before .before .words-for .result) (c .before .before .before .before .before .before .before .before .words-for2 .result) (c .before .before .before .before .before .before .before .before .before .words-for .ensures) (c .before .before .before .before .before .before .before .before .words-for2 .ensures)
     (c .before .before .before .before .before .before .before .before .before .before .before .before .before .before .pack .last .1 .1 .1 .0) (c .before .before .before .before .before .before .before .before .before .before .before .pack2 .last .1 .1 .1 .0) zeros zeros (c .before .before .before .before .before .before .before .before .before .before .before .before .before .before .pack .ensures) (c .before .before .before .before .before .before .before .before .before .before .before .pack2 .ensures) in
     (t .ensures .0 ∙ ap₂ withText (e .0) (e .1), t .ensures .1 ∙ ap (splice 0 (now (z .args .out))) (e .1), t .ensures .2)
 

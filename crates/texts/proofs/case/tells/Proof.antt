@@ -4,7 +4,7 @@ use mathlib.Core.Path.{sym}
 use native.Mathlib.Omega.{arith}
 use lib.Seq.{length-take-le}
 use borrow.Author.Needs.{needs}
-use Rattle.text.proofs.Theorems.{tells-within}
+use Rattle.text.proofs.Theorems.{written-within}
 use Rattle.texts.proofs.case.tells.Statement.{statement}
 use Rattle.texts.proofs.case.tells.Tie as tie
 
@@ -17,12 +17,12 @@ answer-requires c κs = search needs
 array-share-prefix-out : tie.Need-array-share-prefix-out
 array-share-prefix-out c =
     let a = c .before .answer in
-    omega (arith, tells-within _ _ (a .result) (a .ensures .0), a .kept .1 .0)
+    omega (arith, written-within _ _ (a .result) (a .ensures .0), a .kept .1 .0)
 
 slice-aggregate-same : tie.Need-slice-aggregate-same
 slice-aggregate-same c =
     let a = c .before .before .answer in
-    sym (length-take-le (a .result .len) (a .last .1 .0) (omega (arith, tells-within _ _ (a .result) (a .ensures .0), a .kept .1 .0)))
+    sym (length-take-le (a .result .len) (a .last .1 .0) (omega (arith, written-within _ _ (a .result) (a .ensures .0), a .kept .1 .0)))
 
 same-requires : tie.Need-same-requires
 same-requires c κs = search needs
@@ -33,12 +33,12 @@ returns c = search needs
 sub-untouched : tie.Need-sub-untouched
 sub-untouched c =
     let a = c .before .before .before .before .answer in
-    omega (arith, tells-within _ _ (a .result) (a .ensures .0), a .kept .1 .0)
+    omega (arith, written-within _ _ (a .result) (a .ensures .0), a .kept .1 .0)
 
 part-untouched-start : tie.Need-part-untouched-start
 part-untouched-start c =
     let a = c .before .before .before .before .before .answer in
-    omega (arith, tells-within _ _ (a .result) (a .ensures .0), a .kept .1 .0)
+    omega (arith, written-within _ _ (a .result) (a .ensures .0), a .kept .1 .0)
 
 part-untouched-end : tie.Need-part-untouched-end
 part-untouched-end c = search needs
