@@ -15,9 +15,9 @@ use Rattle.word.specs.Lanes.{each2, each, before, gathered, undo, undoFr
 use Rattle.word.proofs.DigitLaws.{digit, mod-digit}
 use Rattle.word.proofs.DealtLaws.{dealt, dealt-even, dealt-odd, dealt-split, ones-low, pdep-dealt}
 use Rattle.word.proofs.LaneLaws.{Bounded, each2-lt, each2-not, each2-and, each2-or, each2-ext, each2-fst, each2-snd, each2-only, each2-scale}
-use Rattle.word.proofs.NetworkLaws.{snd-bound, fst-bound, and-bound, packedAt-bound}
+use Rattle.word.proofs.NetworkLaws.{snd-bound, fst-bound, and-bound, packedAt-bound, landedAt-lt}
 use Rattle.word.proofs.GatherLaws.{unit, incl, incl-is, excl-is, excl-before, room-counts, lows, lows-lt, gathered-lows}
-use Rattle.word.proofs.ByteLaw.{byte-passes, byte-law}
+use Rattle.word.proofs.ByteLaw.{byte-law}
 
 -- ---- a stage undone, byte by byte
 module _ (j k : ℕ) (e : j + k ≡ 8) (l : ℕ → ℕ) (hl : (b : ℕ) → b < 256 → l b < 2 ^ j) (f : ℕ → ℕ → ℕ) (hf : Bounded f) where
@@ -67,35 +67,26 @@ module _ (x m : ℕ) (hx : x < 2 ^ 64) (hm : m < 2 ^ 64) where
   unfolding f₀
   f₀-bound = and-bound (λ a b. a) (λ a b. packedAt 3 b) fst-bound
 
-  h₀ : (b : ℕ) → b < 256 → landedAt 0 b < 2 ^ 7
-  h₀ b h = byte-passes b h .low₀
-
-  h₁ : (b : ℕ) → b < 256 → landedAt 1 b < 2 ^ 6
-  h₁ b h = byte-passes b h .low₁
-
-  h₂ : (b : ℕ) → b < 256 → landedAt 2 b < 2 ^ 4
-  h₂ b h = byte-passes b h .low₂
-
   f₁ : ℕ → ℕ → ℕ
   f₁ a b = undo 8 4 (landedAt 2 b) (f₀ a b)
 
   f₁-bound : Bounded f₁
   unfolding f₁
-  f₁-bound = undo-bound 4 4 refl (landedAt 2) h₂ f₀ f₀-bound
+  f₁-bound = undo-bound 4 4 refl (landedAt 2) (landedAt-lt 2 4 refl) f₀ f₀-bound
 
   f₂ : ℕ → ℕ → ℕ
   f₂ a b = undo 8 2 (landedAt 1 b) (f₁ a b)
 
   f₂-bound : Bounded f₂
   unfolding f₂
-  f₂-bound = undo-bound 6 2 refl (landedAt 1) h₁ f₁ f₁-bound
+  f₂-bound = undo-bound 6 2 refl (landedAt 1) (landedAt-lt 1 6 refl) f₁ f₁-bound
 
   f₃ : ℕ → ℕ → ℕ
   f₃ a b = undo 8 1 (landedAt 0 b) (f₂ a b)
 
   f₃-bound : Bounded f₃
   unfolding f₃
-  f₃-bound = undo-bound 7 1 refl (landedAt 0) h₀ f₂ f₂-bound
+  f₃-bound = undo-bound 7 1 refl (landedAt 0) (landedAt-lt 0 7 refl) f₂ f₂-bound
 
   start : bitAnd x (each (packedAt 3) 8 m) ≡ each2 f₀ 8 x m
   unfolding f₀
@@ -106,10 +97,10 @@ module _ (x m : ℕ) (hx : x < 2 ^ 64) (hm : m < 2 ^ 64) where
   unfolding f₀ f₁ f₂ f₃
   network-is =
       let e₁ : undo 64 4 (each (landedAt 2) 8 m) (bitAnd x (each (packedAt 3) 8 m)) ≡ each2 f₁ 8 x m =
-      ap (undo 64 4 (each (landedAt 2) 8 m)) start ∙ undo-is 4 4 refl (landedAt 2) h₂ f₀ f₀-bound x m in
+      ap (undo 64 4 (each (landedAt 2) 8 m)) start ∙ undo-is 4 4 refl (landedAt 2) (landedAt-lt 2 4 refl) f₀ f₀-bound x m in
       let e₂ : undo 64 2 (each (landedAt 1) 8 m) (undo 64 4 (each (landedAt 2) 8 m) (bitAnd x (each (packedAt 3) 8 m))) ≡ each2 f₂ 8 x m =
-      ap (undo 64 2 (each (landedAt 1) 8 m)) e₁ ∙ undo-is 6 2 refl (landedAt 1) h₁ f₁ f₁-bound x m in
-      ap (λ (v : ℕ). bitAnd (undo 64 1 (each (landedAt 0) 8 m) v) m) e₂ ∙ ap (λ (v : ℕ). bitAnd v m) (undo-is 7 1 refl (landedAt 0) h₀ f₂ f₂-bound x m)
+      ap (undo 64 2 (each (landedAt 1) 8 m)) e₁ ∙ undo-is 6 2 refl (landedAt 1) (landedAt-lt 1 6 refl) f₁ f₁-bound x m in
+      ap (λ (v : ℕ). bitAnd (undo 64 1 (each (landedAt 0) 8 m) v) m) e₂ ∙ ap (λ (v : ℕ). bitAnd v m) (undo-is 7 1 refl (landedAt 0) (landedAt-lt 0 7 refl) f₂ f₂-bound x m)
       ∙ ap (bitAnd (each2 f₃ 8 x m)) (sym (each2-snd 8 x m hm)) ∙ each2-and f₃ (λ a b. b) f₃-bound snd-bound 8 x m
       ∙ each2-ext (λ a b. bitAnd (f₃ a b) b) (λ a b. dealt 8 a b) (λ a b ha hb. byte-law a b hb) 8 x m
 

@@ -1,119 +1,129 @@
--- The counts of a word's bytes, all at once, as the code has them.
--- A computed test at each byte, and laws that carry it to every byte of a word. Assumes nothing.
+-- The counts of a word's bytes, all at once, as the code has them: of pairs of digits, of nibbles, of bytes.
+-- By recursion over the number of lanes, from lanes of k digits to lanes of k + k for any k; no sum passes its lane. Assumes nothing.
 use mathlib.Core.Path.{_≡_, refl, sym, ap, ap₂, _∙_}
-use mathlib.Core.Bool.{Bool}
 use Prim.Native.Nat.{ℕ, zero, suc, _+_, _-_, _*_, _/_, _%_, _^_, _≤_, _<_}
-use native.Mathlib.Nat.{le-trans, div-le-self}
+use native.Mathlib.Nat.{add-zero, add-mul, mul-assoc, mod-lt, mod-le, mod-eq-of-lt, div-add-mod', pow-suc}
 use native.Mathlib.Omega.{arith}
-use lib.Dec.{T, eqb, eqb→eq, ltb, ltb→lt}
-use lib.Bits.{bitAnd, and-block, and-mask, and-le-l, and-le-r}
-use lib.Count.{ones, onesIn}
-use Rattle.word.specs.Lanes.{each2, each}
-use Rattle.word.proofs.EveryBelow.{both, both-left, both-right, allBelow, at-below}
-use Rattle.word.proofs.LaneLaws.{Bounded, each2-snd, each2-add, each2-and, each2-shr, each2-const, each2-ext}
-use Rattle.word.proofs.NetworkLaws.{snd-bound}
+use lib.Arith.{digits-div, digits-mod}
+use lib.Pow.{pow-pos, pow-add, ones-lt, split, shr-shr, mod-pow-add}
+use lib.Bits.{bitAnd, and-block, and-mask, and-le-r, and-zero-r}
+use lib.Count.{ones, onesIn, ones-cat, ones-le}
+use Rattle.word.specs.Lanes.{each2, each, inEach}
+use Rattle.word.proofs.DealtLaws.{ones-low}
 
--- ---- on one byte
-abbrev pub K : ℕ
-K = 0x0101_0101_0101_0101
+-- in each of n lanes of k digits of x, the count of its set digits
+unfoldable counted : ℕ → ℕ → ℕ → ℕ
+counted k zero x = zero
+counted k (suc n) x = counted k n (x / 2 ^ k) * 2 ^ k + ones (x % 2 ^ k)
 
-pub pairs8 : ℕ → ℕ
-pairs8 b = b - bitAnd (b / 2) 0x55
+-- the mask of the lower lane in each of n pairs of lanes of k digits
+unfoldable lower : ℕ → ℕ → ℕ
+lower k zero = zero
+lower k (suc n) = (lower k n * 2 ^ k + 0) * 2 ^ k + (2 ^ k - 1)
 
-pub nibbles8 : ℕ → ℕ
-nibbles8 b = bitAnd (pairs8 b) 0x33 + bitAnd (pairs8 b / 4) 0x33
+abbrev twice : ℕ → ℕ
+twice zero = zero
+twice (suc n) = suc (suc (twice n))
 
-pub count8 : ℕ → ℕ
-count8 b = bitAnd (nibbles8 b + nibbles8 b / 16) 15
+-- ---- sums of numbers that are written by their digits to the base p
+add-lanes : (a b p u v : ℕ) → (a * p * p + u) + (b * p * p + v) ≡ (a + b) * p * p + (v + u)
+add-lanes a b p u v = omega (arith, ap (λ (n : ℕ). n * p) (add-mul a b p), add-mul (a * p) (b * p) p)
 
-test : ℕ → Bool
-test b = both (eqb (count8 b) (ones b)) (both (ltb (nibbles8 b % 16) 5) (ltb (nibbles8 b / 16) 5))
+add-shifted : (z p h l : ℕ) → (z * p + h) * p + l + (z * p + h) ≡ ((z + z / p) * p + (z % p + h)) * p + (h + l)
+add-shifted z p h l =
+    let e : (z + z / p) * p + (z % p + h) ≡ z * p + h + z = omega (arith, add-mul z (z / p) p, div-add-mod' z p) in
+    omega (arith, ap (λ (n : ℕ). n * p) e, add-mul (z * p + h) z p)
 
-passed : T (allBelow 256 test)
-unfolding test count8 nibbles8 pairs8 ones onesIn
-passed = tt
+-- a lane holds its own count
+holds : (k : ℕ) → k < 2 ^ k
+holds zero = omega arith
+holds (suc k) = omega (arith, holds k, pow-suc 2 k)
 
-here : (b : ℕ) → b < 256 → T (test b)
-here b h = at-below 256 test passed b h
+module _ (k : ℕ) where
+  -- the mask on one pair of lanes, u above v
+  kept : (z m u v : ℕ) → u < 2 ^ k → v < 2 ^ k → bitAnd ((z * 2 ^ k + u) * 2 ^ k + v) ((m * 2 ^ k + 0) * 2 ^ k + (2 ^ k - 1)) ≡ bitAnd z m * 2 ^ k * 2 ^ k + v
+  kept z m u v hu hv =
+      and-block k (z * 2 ^ k + u) (m * 2 ^ k + 0) v (2 ^ k - 1) hv (ones-lt k)
+      ∙ ap₂ (λ (p q : ℕ). p * 2 ^ k + q)
+      (and-block k z m u 0 hu (pow-pos k) ∙ ap (λ (p : ℕ). bitAnd z m * 2 ^ k + p) (and-zero-r u) ∙ add-zero (bitAnd z m * 2 ^ k))
+      (and-mask v k ∙ mod-eq-of-lt hv)
 
-count-right : (b : ℕ) → b < 256 → count8 b ≡ ones b
-unfolding test
-count-right b h = eqb→eq (count8 b) (ones b) (both-left (eqb (count8 b) (ones b)) (both (ltb (nibbles8 b % 16) 5) (ltb (nibbles8 b / 16) 5)) (here b h))
+  -- a lane of k + k digits has the counts of its two halves
+  halves : (n x : ℕ) → counted (k + k) (suc n) x ≡ counted (k + k) n (x / 2 ^ k / 2 ^ k) * 2 ^ k * 2 ^ k + (ones (x / 2 ^ k % 2 ^ k) + ones (x % 2 ^ k))
+  unfolding counted
+  halves n x =
+      ap₂ (λ (p q : ℕ). p + q)
+      (ap₂ (λ (y p : ℕ). counted (k + k) n y * p) (sym (shr-shr x k k)) (pow-add 2 k k) ∙ sym (mul-assoc (counted (k + k) n (x / 2 ^ k / 2 ^ k)) (2 ^ k) (2 ^ k)))
+      (ap ones (mod-pow-add x k k) ∙ ones-cat k (x / 2 ^ k % 2 ^ k) (x % 2 ^ k) (mod-lt x (pow-pos k)))
 
-rest : (b : ℕ) → b < 256 → T (both (ltb (nibbles8 b % 16) 5) (ltb (nibbles8 b / 16) 5))
-unfolding test
-rest b h = both-right (eqb (count8 b) (ones b)) (both (ltb (nibbles8 b % 16) 5) (ltb (nibbles8 b / 16) 5)) (here b h)
+  count-le : (x : ℕ) → ones (x % 2 ^ k) ≤ k
+  count-le x = ones-le k (x % 2 ^ k) (mod-lt x (pow-pos k))
 
-low-nibble : (b : ℕ) → b < 256 → nibbles8 b % 16 < 5
-low-nibble b h = ltb→lt (nibbles8 b % 16) 5 (both-left (ltb (nibbles8 b % 16) 5) (ltb (nibbles8 b / 16) 5) (rest b h))
+  count-lt : (x : ℕ) → ones (x % 2 ^ k) < 2 ^ k
+  count-lt x = omega (arith, count-le x, holds k)
 
-high-nibble : (b : ℕ) → b < 256 → nibbles8 b / 16 < 5
-high-nibble b h = ltb→lt (nibbles8 b / 16) 5 (both-right (ltb (nibbles8 b % 16) 5) (ltb (nibbles8 b / 16) 5) (rest b h))
+  lowest-le : (n x : ℕ) → counted k n x % 2 ^ k ≤ k
+  unfolding counted
+  lowest-le zero x = omega (arith, mod-le 0 (2 ^ k))
+  lowest-le (suc n) x = omega (arith, digits-mod (counted k n (x / 2 ^ k)) (count-lt x), count-le x)
 
--- ---- on the word
-pairs-bound : Bounded (λ a b. pairs8 b)
-unfolding pairs8
-pairs-bound a b ha hb = omega arith
+  -- each lane and its neighbour, added
+  neighbours : (n x : ℕ) → bitAnd (counted k (twice n) x) (lower k n) + bitAnd (counted k (twice n) x / 2 ^ k) (lower k n) ≡ counted (k + k) n x
+  unfolding counted lower
+  neighbours zero x = omega (arith, and-zero-r (0 / 2 ^ k))
+  neighbours (suc n) x =
+      let y : ℕ = x / 2 ^ k / 2 ^ k in
+      let z : ℕ = counted k (twice n) y in
+      let m : ℕ = lower k n in
+      let h : ℕ = ones (x / 2 ^ k % 2 ^ k) in
+      let l : ℕ = ones (x % 2 ^ k) in
+      ap₂ (λ (p q : ℕ). p + q) (kept z m h l (count-lt (x / 2 ^ k)) (count-lt x))
+      (ap (λ (c : ℕ). bitAnd c (lower k (suc n))) (digits-div (z * 2 ^ k + h) (count-lt x) ∙ ap (λ (c : ℕ). c * 2 ^ k + h) (sym (split z k)))
+      ∙ kept (z / 2 ^ k) m (z % 2 ^ k) h (mod-lt z (pow-pos k)) (count-lt (x / 2 ^ k)))
+      ∙ add-lanes (bitAnd z m) (bitAnd (z / 2 ^ k) m) (2 ^ k) l h ∙ ap (λ (s : ℕ). s * 2 ^ k * 2 ^ k + (h + l)) (neighbours n y) ∙ sym (halves n x)
 
-module _ (m : ℕ) (h : m < 2 ^ 64) where
-  pub pairs-is : m - bitAnd (m / 2) (0x55 * K) ≡ each pairs8 8 m
-  unfolding pairs8
-  pairs-is =
-      let u : ℕ → ℕ → ℕ = λ a b. bitAnd (b / 2) 0x55 in
-      let me : each2 (λ a b. b) 8 m m ≡ m = each2-snd 8 m m h in
-      let e : bitAnd (m / 2) (0x55 * K) ≡ each2 u 8 m m =
-      ap₂ (λ (p q : ℕ). bitAnd (p / 2) q) (sym me) (each2-const 0x55 m m) ∙ each2-shr 7 1 refl (λ a b. b) snd-bound 0x55 (omega arith) 8 m m in
-      let s : each2 (λ a b. pairs8 b) 8 m m + each2 u 8 m m ≡ m =
-      each2-add (λ a b. pairs8 b) u 8 m m
-      ∙ each2-ext (λ a b. pairs8 b + bitAnd (b / 2) 0x55) (λ a b. b) (λ a b ha hb. let l : bitAnd (b / 2) 0x55 ≤ b = le-trans (and-le-l (b / 2) 0x55) (div-le-self b 2) in omega arith) 8 m m ∙ me in
-      omega arith
+  -- where a lane holds the sum of two, the mask may come after the sum
+  neighbours-fit : k + k < 2 ^ k → (n x : ℕ) → bitAnd (counted k (twice n) x + counted k (twice n) x / 2 ^ k) (lower k n) ≡ counted (k + k) n x
+  unfolding counted lower
+  neighbours-fit f zero x = and-zero-r (0 + 0 / 2 ^ k)
+  neighbours-fit f (suc n) x =
+      let y : ℕ = x / 2 ^ k / 2 ^ k in
+      let z : ℕ = counted k (twice n) y in
+      let h : ℕ = ones (x / 2 ^ k % 2 ^ k) in
+      let l : ℕ = ones (x % 2 ^ k) in
+      ap (λ (c : ℕ). bitAnd ((z * 2 ^ k + h) * 2 ^ k + l + c) (lower k (suc n))) (digits-div (z * 2 ^ k + h) (count-lt x))
+      ∙ ap (λ (c : ℕ). bitAnd c (lower k (suc n))) (add-shifted z (2 ^ k) h l)
+      ∙ kept (z + z / 2 ^ k) (lower k n) (z % 2 ^ k + h) (h + l) (omega (arith, lowest-le (twice n) y, count-le (x / 2 ^ k))) (omega (arith, count-le x, count-le (x / 2 ^ k)))
+      ∙ ap (λ (s : ℕ). s * 2 ^ k * 2 ^ k + (h + l)) (neighbours-fit f n y) ∙ sym (halves n x)
 
-  pub nibbles-is : bitAnd (each pairs8 8 m) (0x33 * K) + bitAnd (each pairs8 8 m / 4) (0x33 * K) ≡ each nibbles8 8 m
-  unfolding nibbles8
-  nibbles-is =
-      ap (λ (q : ℕ). bitAnd (each pairs8 8 m) q + bitAnd (each pairs8 8 m / 4) q) (each2-const 0x33 m m)
-      ∙ ap₂ (λ (p q : ℕ). p + q) (each2-and (λ a b. pairs8 b) (λ a b. 0x33) pairs-bound (λ a b ha hb. omega arith) 8 m m) (each2-shr 6 2 refl (λ a b. pairs8 b) pairs-bound 0x33 (omega arith) 8 m m)
-      ∙ each2-add (λ a b. bitAnd (pairs8 b) 0x33) (λ a b. bitAnd (pairs8 b / 4) 0x33) 8 m m
+-- a pair of digits is its count and its upper digit
+pairs : (n x : ℕ) → x < 4 ^ n → counted 2 n x + bitAnd (x / 2) (lower 1 n) ≡ x
+unfolding counted lower onesIn
+pairs zero x h = omega (arith, and-zero-r (x / 2))
+pairs (suc n) x h =
+    let y : ℕ = x / 4 in
+    let e : x / 2 ≡ (y / 2 * 2 + y % 2) * 2 + x / 2 % 2 = omega arith in
+    let c : onesIn 2 x ≡ ones (x % 4) = ones-low 2 x in
+    omega (arith, ap (λ (v : ℕ). bitAnd v (lower 1 (suc n))) e, kept 1 (y / 2) (lower 1 n) (y % 2) (x / 2 % 2) (omega arith) (omega arith), pairs n y (omega (arith, pow-suc 4 n)))
 
--- the nibbles of a byte are added over the whole word: what comes down from the byte above stays in the high nibble, and no sum passes the byte
-low-of : (n x y : ℕ) → each2 (λ a b. nibbles8 b) n x y % 16 < 5
-unfolding each2
-low-of zero x y = omega arith
-low-of (suc n) x y = let l : nibbles8 (y % 256) % 16 < 5 = low-nibble (y % 256) (omega arith) in omega arith
+bytes : (n x : ℕ) → counted 8 n x ≡ each ones n x
+unfolding counted each2
+bytes zero x = refl
+bytes (suc n) x = ap (λ (p : ℕ). p * 256 + ones (x % 256)) (bytes n (x / 256))
 
-nib-word : (n x y : ℕ) → bitAnd (each2 (λ a b. nibbles8 b) n x y + each2 (λ a b. nibbles8 b) n x y / 16) (each2 (λ a b. 15) n x y) ≡ each2 (λ a b. count8 b) n x y
-unfolding each2 count8
-nib-word zero x y = refl
-nib-word (suc n) x y =
-    let z : ℕ = each2 (λ a b. nibbles8 b) n (x / 256) (y / 256) in
-    let q : ℕ = each2 (λ a b. 15) n (x / 256) (y / 256) in
-    let v : ℕ = nibbles8 (y % 256) in
-    let zl : z % 16 < 5 = low-of n (x / 256) (y / 256) in
-    let vl : v % 16 < 5 = low-nibble (y % 256) (omega arith) in
-    let vh : v / 16 < 5 = high-nibble (y % 256) (omega arith) in
-    let l : ℕ = z % 16 * 16 + v + v / 16 in
-    let ll : l < 256 = omega arith in
-    let whole : (z * 256 + v) + (z * 256 + v) / 16 ≡ (z + z / 16) * 256 + l = omega arith in
-    let same : l % 16 ≡ (v + v / 16) % 16 = omega arith in
-    ap (λ (t : ℕ). bitAnd t (q * 256 + 15)) whole ∙ and-block 8 (z + z / 16) q l 15 ll (omega arith)
-    ∙ ap₂ (λ (s t : ℕ). s * 256 + t) (nib-word n (x / 256) (y / 256)) (and-mask l 4 ∙ same ∙ sym (and-mask (v + v / 16) 4))
-
-pub counts-is : (m : ℕ) → bitAnd (each nibbles8 8 m + each nibbles8 8 m / 16) (0x0f * K) ≡ each ones 8 m
-counts-is m =
-    ap (bitAnd (each nibbles8 8 m + each nibbles8 8 m / 16)) (each2-const 15 m m) ∙ nib-word 8 m m
-    ∙ each2-ext (λ a b. count8 b) (λ a b. ones b) (λ a b ha hb. count-right b hb) 8 m m
-
--- as the code has them, at its four masks
+-- ---- as the code has them, at its four masks
 abbrev pub nib : ℕ → ℕ → ℕ → ℕ → ℕ
 nib m k₁ k₂ k₃ = bitAnd (m - bitAnd (m / 2) k₁) k₂ + bitAnd ((m - bitAnd (m / 2) k₁) / 4) k₃
 
-pub nib-lt : (m k₁ k₂ k₃ : ℕ) → k₂ ≡ 0x33 * K → k₃ ≡ 0x33 * K → nib m k₁ k₂ k₃ < 2 ^ 63
+pub nib-lt : (m k₁ k₂ k₃ : ℕ) → k₂ ≡ inEach 8 0x33 → k₃ ≡ inEach 8 0x33 → nib m k₁ k₂ k₃ < 2 ^ 63
+unfolding inEach
 nib-lt m k₁ k₂ k₃ e₂ e₃ = omega (arith, and-le-r (m - bitAnd (m / 2) k₁) k₂, and-le-r ((m - bitAnd (m / 2) k₁) / 4) k₃)
 
-pub counts-word : (m k₁ k₂ k₃ k₄ : ℕ) → m < 2 ^ 64 → k₁ ≡ 0x55 * K → k₂ ≡ 0x33 * K → k₃ ≡ 0x33 * K → k₄ ≡ 0x0f * K
+pub counts-word : (m k₁ k₂ k₃ k₄ : ℕ) → m < 2 ^ 64 → k₁ ≡ inEach 8 0x55 → k₂ ≡ inEach 8 0x33 → k₃ ≡ inEach 8 0x33 → k₄ ≡ inEach 8 0x0f
     → bitAnd (nib m k₁ k₂ k₃ + nib m k₁ k₂ k₃ / 16) k₄ ≡ each ones 8 m
+unfolding inEach lower
 counts-word m k₁ k₂ k₃ k₄ h e₁ e₂ e₃ e₄ =
-    let p : m - bitAnd (m / 2) k₁ ≡ each pairs8 8 m = ap (λ (k : ℕ). m - bitAnd (m / 2) k) e₁ ∙ pairs-is m h in
-    let n : nib m k₁ k₂ k₃ ≡ each nibbles8 8 m =
-    ap₂ (λ (k l : ℕ). nib m k₁ k l) e₂ e₃ ∙ ap (λ (q : ℕ). bitAnd q (0x33 * K) + bitAnd (q / 4) (0x33 * K)) p ∙ nibbles-is m h in
-    ap₂ (λ (q k : ℕ). bitAnd (q + q / 16) k) n e₄ ∙ counts-is m
+    let p : m - bitAnd (m / 2) k₁ ≡ counted 2 32 m = omega (arith, ap (bitAnd (m / 2)) e₁, pairs 32 m h) in
+    let n : nib m k₁ k₂ k₃ ≡ counted 4 16 m =
+    ap₂ (λ (k l : ℕ). nib m k₁ k l) e₂ e₃ ∙ ap (λ (q : ℕ). bitAnd q (lower 2 16) + bitAnd (q / 4) (lower 2 16)) p ∙ neighbours 2 16 m in
+    ap₂ (λ (q k : ℕ). bitAnd (q + q / 16) k) n e₄ ∙ neighbours-fit 4 (omega arith) 8 m ∙ bytes 8 m

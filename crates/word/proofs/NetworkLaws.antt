@@ -1,15 +1,16 @@
 -- What the functions of the byte network give, byte by byte.
 -- Each is a lane law at the function's masks and shifts. Assumes nothing.
 use mathlib.Core.Path.{_≡_, refl, sym, ap, ap₂, _∙_, subst}
-use mathlib.Core.Logic.{_⊎_, inl, inr, ⊎-elim}
-use Prim.Native.Nat.{ℕ, zero, suc, _+_, _-_, _*_, _/_, _%_, _^_, _<_}
-use native.Mathlib.Nat.{mod-eq-of-lt, add-zero, lt-of-le-of-lt}
+use mathlib.Core.Bool.{Bool, true, false}
+use mathlib.Core.Logic.{_⊎_, inl, inr}
+use Prim.Native.Nat.{ℕ, zero, suc, _+_, _-_, _*_, _/_, _%_, _^_, _≤_, _<_}
+use native.Mathlib.Nat.{mod-eq-of-lt, add-zero, one-mul, mul-comm, lt-of-le-of-lt}
 use native.Mathlib.Omega.{arith}
-use lib.Dec.{eqb, eqb→eq}
-use lib.Pow.{pow-pos, shr-le, shr-lt}
+use lib.Dec.{ltb, lit<}
+use lib.Arith.{digits-mod, mul-pred}
+use lib.Pow.{pow-pos, pow-mono, high, ones-lt, ones-split, shl-exact, shr-le, shr-lt}
 use lib.Bits.{bitAnd, bitXor, and-mask, and-le-l, xor-lt}
-use Rattle.word.specs.Lanes.{each2, each, up8, down8, parity8, parityFrom, zeros8, landed8, packed8, zerosAt, packedAt, landedAt}
-use Rattle.word.proofs.EveryBelow.{at-below}
+use Rattle.word.specs.Lanes.{each2, each, up8, down8, pick, parity8, parityFrom, zeros8, landed8, packed8, zerosAt, packedAt, landedAt}
 use Rattle.word.proofs.LaneLaws.{Bounded, each2-lt, each2-comp, each2-not, each2-and, each2-xor, each2-ext, each2-snd, each2-first, each2-comp2, each2-const, each2-shr, each2-shl, and-trunc}
 
 pub snd-bound : Bounded (λ a b. b)
@@ -18,12 +19,17 @@ snd-bound a b ha hb = hb
 pub fst-bound : Bounded (λ a b. a)
 fst-bound a b ha hb = ha
 
--- the masks of `up` and `down`
-pub mask-up : (k : ℕ) → k < 8 → (255 * 2 ^ k) % 256 ≡ 256 - 2 ^ k
-mask-up k h = eqb→eq ((255 * 2 ^ k) % 256) (256 - 2 ^ k) (at-below 8 (λ k. eqb ((255 * 2 ^ k) % 256) (256 - 2 ^ k)) tt k h)
+-- the masks of `up` and `down`: all digits set, moved up or down within the width
+mask-up : (w k : ℕ) → k ≤ w → ((2 ^ w - 1) * 2 ^ k) % 2 ^ w ≡ 2 ^ w - 2 ^ k
+mask-up w k h =
+    let n : ℕ = 2 ^ w in
+    let p : ℕ = 2 ^ k in
+    let l : p ≤ n = pow-mono h in
+    let e : (n - 1) * p ≡ (p - 1) * n + (n - p) = omega (arith, pow-pos k, mul-pred (pow-pos w) (pow-pos k), mul-pred (pow-pos k) (pow-pos w), mul-comm n p) in
+    ap (λ (m : ℕ). m % n) e ∙ digits-mod (p - 1) (omega (arith, pow-pos k))
 
-pub mask-down : (k : ℕ) → k < 8 → 255 / 2 ^ k ≡ 2 ^ (8 - k) - 1
-mask-down k h = eqb→eq (255 / 2 ^ k) (2 ^ (8 - k) - 1) (at-below 8 (λ k. eqb (255 / 2 ^ k) (2 ^ (8 - k) - 1)) tt k h)
+mask-down : (j k : ℕ) → (2 ^ (j + k) - 1) / 2 ^ k ≡ 2 ^ j - 1
+mask-down j k = ap (λ (n : ℕ). n / 2 ^ k) (ones-split j k) ∙ high (2 ^ j - 1) k (ones-lt k)
 
 pub up-bound : (k : ℕ) → Bounded (λ a b. up8 k b)
 up-bound k a b ha hb = omega arith
@@ -33,7 +39,7 @@ up-is x k hx hk =
     let m : ℕ = 256 - 2 ^ k in
     let w : ℕ = each2 (λ a b. m) 8 x x in
     let ml : m < 256 = omega (arith, pow-pos k) in
-    let e : (255 * 2 ^ k) % 256 * 0x0101_0101_0101_0101 ≡ w = ap (λ (n : ℕ). n * 0x0101_0101_0101_0101) (mask-up k hk) ∙ each2-const m x x in
+    let e : (255 * 2 ^ k) % 256 * 0x0101_0101_0101_0101 ≡ w = ap (λ (n : ℕ). n * 0x0101_0101_0101_0101) (mask-up 8 k (omega arith)) ∙ each2-const m x x in
     let me : x ≡ each2 (λ a b. b) 8 x x = sym (each2-snd 8 x x hx) in
     ap (bitAnd ((x * 2 ^ k) % 2 ^ 64)) e ∙ and-trunc 64 (x * 2 ^ k) w (each2-lt (λ a b. m) (λ a b ha hb. ml) 8 x x)
     ∙ ap (λ (n : ℕ). bitAnd n w) (sym (add-zero (x * 2 ^ k)) ∙ ap (λ (n : ℕ). n * 2 ^ k + 0) me) ∙ each2-shl (8 - k) k (omega arith) (λ a b. b) snd-bound 8 x x 0 (pow-pos k)
@@ -45,7 +51,7 @@ down-is x k hx hk =
     let c : ℕ = 2 ^ j - 1 in
     let cl : c < 2 ^ j = omega (arith, pow-pos j) in
     let w : ℕ = each2 (λ a b. c) 8 x x in
-    let e : 255 / 2 ^ k * 0x0101_0101_0101_0101 ≡ w = ap (λ (n : ℕ). n * 0x0101_0101_0101_0101) (mask-down k hk) ∙ each2-const c x x in
+    let e : 255 / 2 ^ k * 0x0101_0101_0101_0101 ≡ w = ap (λ (n : ℕ). n * 0x0101_0101_0101_0101) (ap (λ (w : ℕ). (2 ^ w - 1) / 2 ^ k) (sym jk) ∙ mask-down j k) ∙ each2-const c x x in
     let me : x ≡ each2 (λ a b. b) 8 x x = sym (each2-snd 8 x x hx) in
     ap (bitAnd (x / 2 ^ k)) e ∙ ap (λ (n : ℕ). bitAnd (n / 2 ^ k) w) me ∙ each2-shr j k jk (λ a b. b) snd-bound c cl 8 x x
     ∙ each2-ext (λ a b. bitAnd (b / 2 ^ k) c) (λ a b. down8 k b)
@@ -81,20 +87,20 @@ parity-turn p k hp hk =
 pub parity-last : (p : ℕ) → p < 2 ^ 64 → each (parity8 8) 8 p ≡ p
 parity-last p hp = each2-ext (λ a b. parity8 8 b) (λ a b. b) (λ a b ha hb. parity-eight b) 8 p p ∙ each2-snd 8 p p hp
 
-pub parity-bound : (k z : ℕ) → Length k → z < 256 → parity8 k z < 256
-parity-bound k z l h = ⊎-elim (λ e. rw e (one z h)) (⊎-elim (λ e. rw e (two z h)) (λ e. rw e (four z h))) l
-  where
-    up-lt : (k z : ℕ) → z < 256 → bitXor z (up8 k z) < 256
-    up-lt k z h = xor-up-bound k z z h h
+pick-lt : (t : Bool) (a b : ℕ) → a < 256 → b < 256 → pick t a b < 256
+pick-lt true a b ha hb = ha
+pick-lt false a b ha hb = hb
 
-    four : (z : ℕ) → z < 256 → parity8 4 z < 256
-    four z h = subst (λ (n : ℕ). n < 256) (sym (parity-double 4 z (inr (inr refl)) ∙ parity-eight (bitXor z (up8 4 z)))) (up-lt 4 z h)
+parityFrom-lt : (f k z : ℕ) → z < 256 → parityFrom f k z < 256
+unfolding parityFrom
+parityFrom-lt zero k z h = h
+parityFrom-lt (suc f) k z h =
+    let x : ℕ = bitXor z (up8 k z) in
+    pick-lt (ltb k 8) (parityFrom f (k * 2) x) z (parityFrom-lt f (k * 2) x (xor-up-bound k z z h h)) h
 
-    two : (z : ℕ) → z < 256 → parity8 2 z < 256
-    two z h = subst (λ (n : ℕ). n < 256) (sym (parity-double 2 z (inr (inl refl)))) (four (bitXor z (up8 2 z)) (up-lt 2 z h))
-
-    one : (z : ℕ) → z < 256 → parity8 1 z < 256
-    one z h = subst (λ (n : ℕ). n < 256) (sym (parity-double 1 z (inl refl))) (two (bitXor z (up8 1 z)) (up-lt 1 z h))
+pub parity-bound : (k z : ℕ) → z < 256 → parity8 k z < 256
+unfolding parity8
+parity-bound k z h = parityFrom-lt 4 k z h
 
 -- ---- a stage, at the zeros z and the packed mask q, with the parity p
 
@@ -113,13 +119,13 @@ not-is f hf x y = omega (arith, each2-not f hf 8 x y)
 not-bound : (f : ℕ → ℕ → ℕ) → Bounded (λ a b. 255 - f a b)
 not-bound f a b ha hb = omega arith
 
-module _ (k z q : ℕ) (l : Length k) (hz : z < 2 ^ 64) (hq : q < 2 ^ 64) where
+module _ (k z q : ℕ) (hz : z < 2 ^ 64) (hq : q < 2 ^ 64) where
   par : ℕ → ℕ → ℕ
   par a b = parity8 k a
 
   par-bound : Bounded par
   unfolding par
-  par-bound a b ha hb = parity-bound k a l ha
+  par-bound a b ha hb = parity-bound k a ha
 
   moving : ℕ → ℕ → ℕ
   unfolding par
@@ -150,7 +156,7 @@ module _ (k z q : ℕ) (l : Length k) (hz : z < 2 ^ 64) (hq : q < 2 ^ 64) where
       ∙ each2-xor (λ a b. b) (λ a b. bitXor (moving a b) (landed8 k a b)) snd-bound (xor-bound moving (landed8 k) moving-bound d) 8 z q
 
   pbound : Bounded (λ a b. parity8 k b)
-  pbound a b ha hb = parity-bound k b l hb
+  pbound a b ha hb = parity-bound k b hb
 
   left : ℕ → ℕ → ℕ
   left a b = bitAnd b (255 - parity8 k b)
@@ -191,6 +197,15 @@ packedAt-bound (suc i) a b ha hb =
     let h : m < 256 = lt-of-le-of-lt (and-le-l q (parity8 (2 ^ i) (zerosAt i b))) hq in
     xor-lt 8 q (bitXor m (m / 2 ^ 2 ^ i)) hq (xor-lt 8 m (m / 2 ^ 2 ^ i) h (lt-of-le-of-lt (shr-le m (2 ^ i)) h))
 
+-- what moves down by k lands k below the top
+landed-lt : (j k z p : ℕ) → p < 2 ^ (j + k) → landed8 k z p < 2 ^ j
+unfolding landed8
+landed-lt j k z p h = shr-lt j k (lt-of-le-of-lt (and-le-l p (parity8 k z)) h)
+
+pub landedAt-lt : (i j : ℕ) → j + 2 ^ i ≡ 8 → (b : ℕ) → b < 256 → landedAt i b < 2 ^ j
+unfolding landedAt
+landedAt-lt i j e b h = landed-lt j (2 ^ i) (zerosAt i b) (packedAt i b) (subst (λ (w : ℕ). packedAt i b < 2 ^ w) (sym e) (packedAt-bound i b b h h))
+
 pub zeros-next : (i m : ℕ) → each (zeros8 (2 ^ i)) 8 (each (zerosAt i) 8 m) ≡ each (zerosAt (suc i)) 8 m
 unfolding zerosAt
 zeros-next i m = each2-comp (λ a b. zerosAt i b) (zerosAt-bound i) (zeros8 (2 ^ i)) 8 m m
@@ -213,7 +228,7 @@ packed-start m h = sym (each2-snd 8 m m h)
 
 -- ---- the shift of stage i
 pub shift-is : (i : ℕ) → i < 3 → (1 * 2 ^ i) % 2 ^ 32 ≡ 2 ^ i
-shift-is i h = eqb→eq ((1 * 2 ^ i) % 2 ^ 32) (2 ^ i) (at-below 3 (λ i. eqb ((1 * 2 ^ i) % 2 ^ 32) (2 ^ i)) tt i h)
+shift-is i h = shl-exact 1 i 32 (lit< tt) (omega arith) ∙ one-mul (2 ^ i)
 
 pub shift-length : (i : ℕ) → i < 3 → Length (2 ^ i)
 shift-length zero h = inl refl

@@ -43,6 +43,27 @@ abbrev pub pick : Bool → ℕ → ℕ → ℕ
 pick true a b = a
 pick false a b = b
 
+-- The mask byte 10110100 through the stages. Its set bits a, b, c and d have 2, 3, 3 and 4 clear bits below them, and have that far to go.
+--
+--   place         7 6 5 4 3 2 1 0
+--
+--   packedAt 0    d . c b . a . .
+--   zerosAt 0     . o . . o . o o
+--   parity8 1     0 0 1 1 1 0 0 1    c and b go down by 1
+--   landedAt 0    . . . c b . . .
+--
+--   packedAt 1    d . . c b a . .
+--   zerosAt 1     . o o . . . o o    each second zero, and the place below it
+--   parity8 2     0 0 0 1 1 1 1 1    c, b and a go down by 2
+--   landedAt 1    . . . . . c b a
+--
+--   packedAt 2    d . . . . c b a
+--   zerosAt 2     . o o o o . . .    each second pair of zeros, and the two places below it
+--   parity8 4     1 1 1 1 1 0 0 0    d goes down by 4
+--   landedAt 2    . . . . d . . .
+--
+--   packedAt 3    . . . . d c b a
+
 -- parity from the length len on, doubled up to 8
 unfoldable pub parityFrom : ℕ → ℕ → ℕ → ℕ
 parityFrom zero len z = z

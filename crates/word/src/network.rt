@@ -1,4 +1,9 @@
 // The byte network: deposit a byte at a time.
+//
+// In each byte the mask's bits are packed at the low end, and what moved is kept. A set bit has to move down by the number of clear bits
+// below it, which is at most 7: stage i, of three, moves by 2^i the bits whose number has digit i set (`one_stage`). The source's bits come
+// packed, and the stages undone on them, the last one first, take each to where the mask's bit came from (`spread`).
+// A picture of the stages is in `specs/Lanes`.
 ghost use mathlib.Core.Path.{_≡_};
 ghost use mathlib.Core.List.{_∷_, []};
 ghost use mathlib.Core.Logic.{_⊎_};
@@ -54,7 +59,8 @@ pub fn down(x: u64, k: u32) -> u64
     (x >> k) & bytes(0xffu8 >> k)
 }
 
-// In each byte, at each bit, the parity of the set bits of zeros at it and below, which stand in aligned groups of shift.
+// In each byte, at each bit, the parity of the set bits of zeros at it and at every shift-th place below. The zeros stand side by side in
+// groups of shift, so this is the parity of the groups at the bit and below.
 pub fn parity(zeros: u64, shift: u32) -> u64
     requires { ⌜ (shift ≡ 1) ⊎ ((shift ≡ 2) ⊎ (shift ≡ 4)) ⌝ }
     ensures { λ r. ⌜ r ≡ each (parity8 shift) 8 zeros ⌝ }
@@ -75,6 +81,10 @@ pub struct Stage {
     pub landed: u64,
 }
 
+// Before the stage a bit of packed has still to move by the number of zeros below it, and the zeros stand side by side in groups of shift,
+// where packed is clear. The bits above an odd number of groups, which the parity tells, move now, by one group. Each second group stays, and
+// takes in the shift places below it: the bits there have moved down, over the group before, which goes. So the groups are twice as long, and
+// half as many. No two bits meet: what a bit has moved more than the bit below it is at most the number of clear bits between the two.
 pub fn one_stage(zeros: u64, packed: u64, shift: u32) -> Stage
     requires { ⌜ (shift ≡ 1) ⊎ ((shift ≡ 2) ⊎ (shift ≡ 4)) ⌝ }
     ensures { λ r. ⌜ (r .zeros ≡ each (zeros8 shift) 8 zeros) × (r .packed ≡ each2 (packed8 shift) 8 zeros packed) × (r .landed ≡ each2 (landed8 shift) 8 zeros packed) ⌝ }
@@ -111,7 +121,7 @@ pub fn compress(mask: u64) -> Packed
     Packed { packed, landed }
 }
 
-// The stages undone, the last one first.
+// The stages undone, the last one first: the bits at the places where a stage's bits landed go up again by its shift.
 pub fn spread(low: u64, landed: [u64; 3]) -> u64
     ensures { λ r. ⌜ r ≡ undoFrom 64 landed 3 low ⌝ }
 {

@@ -35,10 +35,10 @@ returns c =
     let hq : q < 2 ^ 64 = start .fits .packed .fits in
     let p : c .before .before .parity .result ≡ each (parity8 k) 8 z = c .before .before .parity .ensures in
     let l : c .before .down .result ≡ each2 (landed8 k) 8 z q =
-    c .before .down .ensures ∙ ap (λ (n : ℕ). each (down8 k) 8 (bitAnd q n)) p ∙ landed-is k z q (start .pre) hz hq in (
+    c .before .down .ensures ∙ ap (λ (n : ℕ). each (down8 k) 8 (bitAnd q n)) p ∙ landed-is k z q hz hq in (
       ap (bitXor (bitAnd z (2 ^ 64 - 1 - c .before .before .parity .result))) (c .down2 .ensures)
-          ∙ ap (λ (n : ℕ). bitXor (bitAnd z (2 ^ 64 - 1 - n)) (each (down8 k) 8 (bitAnd z (2 ^ 64 - 1 - n)))) p ∙ zeros-is k z q (start .pre) hz hq,
-      ap₂ (λ (m n : ℕ). bitXor q (bitXor (bitAnd q m) n)) p l ∙ packed-is k z q (start .pre) hz hq,
+          ∙ ap (λ (n : ℕ). bitXor (bitAnd z (2 ^ 64 - 1 - n)) (each (down8 k) 8 (bitAnd z (2 ^ 64 - 1 - n)))) p ∙ zeros-is k z q hz hq,
+      ap₂ (λ (m n : ℕ). bitXor q (bitXor (bitAnd q m) n)) p l ∙ packed-is k z q hz hq,
       l,
     )
 
