@@ -107,6 +107,11 @@ pieces-true = (refl, (refl, (refl, tt)))
 
 pub examples : AllTrue document
 examples =
-    all-append (map word word-examples.cases) _ (words-true word-examples.cases word-examples.examples)
-    (all-append (map read lent-examples.cases) _ (reads-true lent-examples.cases lent-examples.examples)
-    (all-append (map composition masks) (map stream pieces) masks-true pieces-true))
+    let words = map word word-examples.cases in
+    let reads = map read lent-examples.cases in
+    let whole = map composition masks in
+    all-append (words ++ reads ++ whole) (map stream pieces)
+    (all-append (words ++ reads) whole
+    (all-append words reads (words-true word-examples.cases word-examples.examples) (reads-true lent-examples.cases lent-examples.examples))
+    masks-true)
+    pieces-true
