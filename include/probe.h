@@ -11,7 +11,7 @@
  *    0  the refusal's number, 0 where there is none
  *    1  the operand that it names, 1 or 2, or 0 where it names none
  *    2  the count of the result's set rows
- *    3  the route, 0 outside composition and feeds
+ *    3  the route of a composition or of a feed, also of the composition that probe_program tells; else 0
  *    4  the word of a deposit or a rank read, the position of a select
  *    5  done    \
  *    6  ranks    the state after a feed; where the feed is refused, the state as it was given

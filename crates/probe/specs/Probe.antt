@@ -37,7 +37,7 @@ pub record AnswerCells : Type 0 where
 abbrev pub answerCells : List ℕ → List Float → AnswerCells
 answerCells ans den = record { ans = ans; den = den }
 
--- 0 refusal, 1 operand, 2 count, 3 route, 4 word or position, 5 done, 6 ranks, 7 kept, 8 to 14 are 0, 15 bytes
+-- 0 refusal, 1 operand, 2 count, 3 route (of a composition, a feed or the program), 4 word or position, 5 done, 6 ranks, 7 kept, 8 to 14 are 0, 15 bytes
 abbrev pub cells : Told → List ℕ
 cells t =
     t .refusal
