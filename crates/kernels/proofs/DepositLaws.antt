@@ -1,7 +1,7 @@
 -- One chunk of self with its rank bits deposited is one chunk more of the composition. By PDEP against composition, and by
 -- the split law: the ranks of a chunk start at the count of what stands before it.
 -- Assumes nothing.
-use Prim.Native.Nat.{ℕ, _+_, _*_, _≤_}
+use Prim.Native.Nat.{ℕ, _+_, _-_, _*_, _≤_, _<_, min}
 use mathlib.Core.Path.{_≡_, sym, ap, _∙_}
 use mathlib.Core.Bool.{Bool}
 use mathlib.Core.List.{List}
@@ -25,7 +25,7 @@ use Rattle.rows.proofs.LaidLaws.{laid-append}
 use Rattle.kernels.proofs.GatherLaws.{tab-part}
 
 -- t is a chunk of n rows, r the ranks from its first on, and the source has as many of them as t sets
-pub deposited-chunk : (n source : ℕ) (t r : List Bool) → length t ≡ n → n ≤ 64 → compose t (bitsOf 64 source) ≡ compose t r → bitsOf n (pdep 64 source (wordOf t)) ≡ compose t r
+deposited-chunk : (n source : ℕ) (t r : List Bool) → length t ≡ n → n ≤ 64 → compose t (bitsOf 64 source) ≡ compose t r → bitsOf n (pdep 64 source (wordOf t)) ≡ compose t r
 deposited-chunk n source t r long short same =
     let c = compose (bitsOf 64 (wordOf t)) (bitsOf 64 source) in
     let size : length c ≡ 64 = compose-length (bitsOf 64 (wordOf t)) (bitsOf 64 source) ∙ ap length (bitsOf-wordOf-fit 64 t) ∙ fit-length 64 t in
@@ -54,6 +54,19 @@ module _ (start row n at : ℕ) (ws out : List ℕ) (r : List Bool) (reach : sta
       laid-append 64 at (at + row) (compose done r) (compose next (drop (count done) r)) out
       (ap (λ (k : ℕ). at + k) (sym (compose-length done r ∙ view-length start row ws (omega arith))))
       ∙ ap (λ (l : List Bool). laid at l out) (sym (ap (λ (s : List Bool). compose s r) (view-step start row n ws reach) ∙ compose-split done next r))
+
+  -- its deposit, laid after what was laid before
+  pub chunk-turn : n ≤ 64 → (source : ℕ)
+      → compose (fit n (drop (start + row) (bitsOfAll 64 ws))) (bitsOf 64 source) ≡ compose (fit n (drop (start + row) (bitsOfAll 64 ws))) (drop (count (view start row ws)) r)
+      → laid (at + row) (bitsOf n (pdep 64 source (wordOf (fit n (drop (start + row) (bitsOfAll 64 ws)))))) (laid at (compose (view start row ws) r) out)
+      ≡ laid at (compose (view start (row + n) ws) r) out
+  chunk-turn short source same =
+      ap (λ (l : List Bool). laid (at + row) l (laid at (compose done r) out)) (deposited-chunk n source next (drop (count done) r) (fit-length n (drop (start + row) (bitsOfAll 64 ws))) short same)
+      ∙ laid-turn
+
+-- how many rows a chunk has, by the rows that are left
+pub chunk-sized : (n row len : ℕ) → row < len → n ≡ min 64 (len - row) → (0 < n) × (n ≤ 64) × (row + n ≤ len)
+chunk-sized n row len h e = (omega arith, omega arith, omega arith)
 
 -- a chunk has no more set rows than rows
 pub chunk-few : (n : ℕ) (bs : List Bool) → ones (wordOf (fit n bs)) ≤ n

@@ -2,7 +2,7 @@
 -- after it. By the laws of a chunk.
 -- Assumes nothing.
 use Prim.Native.Nat.{ℕ, _+_, _*_, _^_, _≤_, _<_}
-use mathlib.Core.Path.{_≡_, sym, ap, ap₂, _∙_, subst}
+use mathlib.Core.Path.{_≡_, sym, ap, _∙_, subst}
 use mathlib.Core.Bool.{Bool}
 use mathlib.Core.List.{List}
 use native.Mathlib.Omega.{arith}
@@ -17,11 +17,11 @@ use Rattle.rows.specs.Pdep.{pdep}
 use Rattle.rows.specs.Laid.{laid}
 use Rattle.rows.proofs.RowLaws.{count-split, compose-length}
 use Rattle.rows.proofs.WordLaws.{bitsOf-length, wordOf-lt}
-use Rattle.rows.proofs.WordsLaws.{fit-length, bitsOfAll-length}
+use Rattle.rows.proofs.WordsLaws.{bitsOfAll-length}
 use Rattle.rows.proofs.FitLaws.{fit-is-take, compose-cut}
 use Rattle.rows.proofs.PdepLaws.{pdep-is}
 use Rattle.kernels.proofs.GatherLaws.{tab-part}
-use Rattle.kernels.proofs.DepositLaws.{deposited-chunk, rank-turn, laid-turn}
+use Rattle.kernels.proofs.DepositLaws.{rank-turn, laid-turn, chunk-turn}
 
 pub pdep-small : (source mask : ℕ) → pdep 64 source mask < 2 ^ 64
 pdep-small source mask =
@@ -46,8 +46,8 @@ module _ (start i to : ℕ) (ws out : List ℕ) (r : List Bool) (reach : start +
       let t = fit 64 (drop (start + i * 64) (bitsOfAll 64 ws)) in
       let before = laid (to * 64) (compose (view start (i * 64) ws) r) out in
       let place : (to + i) * 64 ≡ to * 64 + i * 64 = omega arith in
-      ap₂ (λ (k : ℕ) (z : List Bool). laid k z before) place (deposited-chunk 64 source t (drop (count (view start (i * 64) ws)) r) (fit-length 64 (drop (start + i * 64) (bitsOfAll 64 ws))) (omega arith) same)
-      ∙ laid-turn start (i * 64) 64 (to * 64) ws out r reach
+      ap (λ (k : ℕ). laid k (bitsOf 64 (pdep 64 source (wordOf t))) before) place
+      ∙ chunk-turn start (i * 64) 64 (to * 64) ws out r reach (omega arith) source same
       ∙ ap (λ (k : ℕ). laid (to * 64) (compose (view start k ws) r) out) next
 
 -- the rows that are left, after the whole words

@@ -6,17 +6,17 @@ ghost use lib.ListN.{length, drop};
 ghost use lib.Count.{ones};
 ghost use denote.Ref.{now};
 ghost use Rattle.rows.specs.Rows.{count, compose};
-ghost use Rattle.rows.specs.Word.{bitsOf, wordOf};
-ghost use Rattle.rows.specs.Words.{fit, bitsOfAll, view};
+ghost use Rattle.rows.specs.Word.{bitsOf};
+ghost use Rattle.rows.specs.Words.{bitsOfAll, view};
 ghost use Rattle.rows.specs.Lists.{listed};
 ghost use Rattle.rows.specs.Pdep.{pdep};
 ghost use Rattle.rows.specs.Laid.{laid};
 ghost use Rattle.kernels.specs.Gathers.{Parted, Gathers};
 use super::Way;
-use lent::inner::chunk;
+use super::books::put_rows;
+use super::books::rank_bits;
+use super::books::self_bits;
 use lent::inner::chunk_len;
-use lent::inner::put;
-use lent::inner::read;
 use rows::Rank;
 use rows::Row;
 use word::inner::deposit_portable;
@@ -32,33 +32,24 @@ pub fn deposit_bits(way: Way, source: u64, mask: u64, count: u32) -> u64
     }
 }
 
-// Up to 64 rows of self from a row on.
-fn self_chunk(words: &[u64], start: u64, row: Row, n: u64) -> u64
-    requires { ⌜ (0 < n) × (n ≤ 64) ⌝ }
-    ensures { λ r. ⌜ r ≡ wordOf (fit n (drop (start + row .0) (bitsOfAll 64 (now (words .entry))))) ⌝ }
+// The rows of one chunk whose rank bits are set, laid from the chunk's first row on. The chunk's count comes from the caller, who needs it too.
+fn push_result_chunk(
+    way: Way,
+    mask: u64,
+    set: u32,
+    n: u64,
+    source: u64,
+    at: u64,
+    row: Row,
+    out: &mut [u64],
+)
+    requires { ⌜ (set ≡ ones mask) × (0 < n) × (n ≤ 64) × (at + row .0 + n ≤ length (now out) * 64) × (at + row .0 < 2 ^ 64) ⌝ }
+    ensures { λ _. ⌜ now (out .exit) ≡ laid (at + row .0) (bitsOf n (pdep 64 source mask)) (now (out .entry)) ⌝ }
 {
-    let at = row.0;
-    chunk(words, start, at, n)
+    put_rows(out, at, row, n, deposit_bits(way, source, mask, set));
 }
 
-// The rank bits from a rank on. The place is one sum, so that the read has nothing else to add.
-pub fn rank_bits(ranks: &[u64], from: u64, rank: Rank) -> u64
-    requires { ⌜ from + rank .0 < 2 ^ 64 ⌝ }
-    ensures { λ r. ⌜ r ≡ wordOf (fit 64 (drop (from + rank .0) (bitsOfAll 64 (now (ranks .entry))))) ⌝ }
-{
-    let at = from + rank.0;
-    read(ranks, at, 0)
-}
-
-// The rows of one chunk whose rank bits are set, laid from bit at on. The chunk's count comes from the caller, who needs it too.
-fn push_result_chunk(way: Way, mask: u64, set: u32, n: u64, source: u64, at: u64, out: &mut [u64])
-    requires { ⌜ (set ≡ ones mask) × (0 < n) × (n ≤ 64) × (at + n ≤ length (now out) * 64) ⌝ }
-    ensures { λ _. ⌜ now (out .exit) ≡ laid at (bitsOf n (pdep 64 source mask)) (now (out .entry)) ⌝ }
-{
-    put(out, at, n, deposit_bits(way, source, mask, set));
-}
-
-// Routes 9 and 10, chunk by chunk: rank read at the running popcount, then deposit.
+// Routes 9 and 10, chunk by chunk from a rank on: rank read at the running popcount, then deposit.
 pub fn read_chunks(
     way: Way,
     words: &[u64],
@@ -66,20 +57,21 @@ pub fn read_chunks(
     len: u64,
     ranks: &[u64],
     from: u64,
+    first: Rank,
     at: u64,
     out: &mut [u64],
 )
-    requires { ⌜ (len ≤ 1048576) × (start + len ≤ length (now words) * 64) × (from ≤ 1048639) × (at + len ≤ length (now out) * 64) × (at + len < 2 ^ 64) ⌝ }
-    ensures { λ _. ⌜ now (out .exit) ≡ laid at (compose (view start len (now (words .entry))) (drop from (bitsOfAll 64 (now (ranks .entry))))) (now (out .entry)) ⌝ }
+    requires { ⌜ (len ≤ 1048576) × (start + len ≤ length (now words) * 64) × (from + first .0 ≤ 1048639) × (at + len ≤ length (now out) * 64) × (at + len < 2 ^ 64) ⌝ }
+    ensures { λ _. ⌜ now (out .exit) ≡ laid at (compose (view start len (now (words .entry))) (drop (first .0) (drop from (bitsOfAll 64 (now (ranks .entry)))))) (now (out .entry)) ⌝ }
 {
     let mut row = Row(0);
-    let mut rank = Rank(0);
+    let mut rank = first;
     while row.0 < len {
         let n = chunk_len(len, row.0);
-        let mask = self_chunk(words, start, row, n);
+        let mask = self_bits(words, start, row, n);
         let count = u64::count_ones(mask);
         let source = rank_bits(ranks, from, rank);
-        push_result_chunk(way, mask, count, n, source, at + row.0, out);
+        push_result_chunk(way, mask, count, n, source, at, row, out);
         rank = Rank(rank.0 + count as u64);
         row = Row(row.0 + n);
     }
@@ -136,10 +128,10 @@ pub fn gather_chunks(
     let mut next = from.next;
     while row.0 < len {
         let n = chunk_len(len, row.0);
-        let mask = self_chunk(words, start, row, n);
+        let mask = self_bits(words, start, row, n);
         let set = u64::count_ones(mask);
         let gathered = rank_bits_for_chunk(ranks, next, rank, set as u64);
-        push_result_chunk(way, mask, set, n, gathered.bits, at + row.0, out);
+        push_result_chunk(way, mask, set, n, gathered.bits, at, row, out);
         next = gathered.next;
         rank = Rank(rank.0 + set as u64);
         row = Row(row.0 + n);

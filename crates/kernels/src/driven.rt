@@ -6,14 +6,14 @@ ghost use Prim.Native.Nat.{_+_, _*_, _^_, _≤_, _<_};
 ghost use lib.ListN.{length};
 ghost use denote.Ref.{now};
 ghost use Rattle.rows.specs.Rows.{count, compose};
-ghost use Rattle.rows.specs.Word.{bitsOf, wordOf};
+ghost use Rattle.rows.specs.Word.{bitsOf};
 ghost use Rattle.rows.specs.Words.{view};
 ghost use Rattle.rows.specs.Lists.{listed, Ascending, setRows, select};
 ghost use Rattle.rows.specs.Laid.{laid, marked};
-ghost use Rattle.kernels.specs.Driven.{chunkAt, Walked, Holds, InView, Room};
-use lent::inner::chunk;
-use lent::inner::chunk_len;
-use lent::inner::set_bit;
+ghost use Rattle.kernels.specs.Driven.{Walked, Holds, InView, Room};
+use super::books::mark_row;
+use super::books::rank_chunk;
+use super::books::self_chunk;
 use rows::Rank;
 use rows::Row;
 use word::inner::select_bit_position;
@@ -24,38 +24,21 @@ pub struct Place {
     pub passed: Rank,
 }
 
-// The chunk from bit i of a view on: a word as it lies where the view and the chunk begin on one, and no row lacks.
-pub fn chunk_at(words: &[u64], start: u64, len: u64, i: u64) -> u64
-    requires { ⌜ (start + len ≤ length (now words) * 64) × (i < len) ⌝ }
-    ensures { λ r. ⌜ r ≡ wordOf (chunkAt (view start len (now (words .entry))) i) ⌝ }
-{
-    let n = chunk_len(len, i);
-    if start != 0 {
-        return chunk(words, start, i, n);
-    }
-    if i % 64 + 64 != n {
-        return chunk(words, start, i, n);
-    }
-    words[(i / 64) as usize]
-}
-
 // From a place that is not past the rank on, the place whose chunk holds it.
 fn seek(words: &[u64], start: u64, len: u64, from: Place, rank: Rank) -> Place
     requires { ⌜ InView start len (now words) × Walked (view start len (now words)) from × (from .passed .0 ≤ rank .0) × (rank .0 < count (view start len (now words))) ⌝ }
     ensures { λ r. ⌜ Holds (view start len (now (words .entry))) r rank ⌝ }
 {
-    let mut done = from.done.0;
-    let mut passed = from.passed.0;
+    let mut place = from;
     loop {
-        let count = u64::count_ones(chunk_at(words, start, len, done)) as u64;
-        if rank.0 < passed + count {
-            return Place {
-                done: Row(done),
-                passed: Rank(passed),
-            };
+        let count = u64::count_ones(self_chunk(words, start, len, place.done)) as u64;
+        if rank.0 < place.passed.0 + count {
+            return place;
         }
-        passed += count;
-        done += 64;
+        place = Place {
+            done: Row(place.done.0 + 64),
+            passed: Rank(place.passed.0 + count),
+        };
     }
 }
 
@@ -64,11 +47,9 @@ fn row_in(words: &[u64], start: u64, len: u64, place: Place, rank: Rank) -> Row
     requires { ⌜ InView start len (now words) × Holds (view start len (now words)) place rank ⌝ }
     ensures { λ r. ⌜ r .0 ≡ select (view start len (now (words .entry))) (rank .0) ⌝ }
 {
-    let done = place.done.0;
     let left = (rank.0 - place.passed.0) as u32;
-    let bit = select_bit_position(chunk_at(words, start, len, done), left);
-    let row = done + bit as u64;
-    Row(row)
+    let bit = select_bit_position(self_chunk(words, start, len, place.done), left);
+    Row(place.done.0 + bit as u64)
 }
 
 // The row of one rank marked, and the place where the walk stands then.
@@ -88,7 +69,7 @@ fn mark_rank(
 {
     let place = seek(words, start, len, from, rank);
     let row = row_in(words, start, len, place, rank);
-    set_bit(out, at + row.0);
+    mark_row(out, at, row);
     place
 }
 
@@ -112,8 +93,8 @@ pub fn intersect_mask_driven_list(
     };
     let mut i: usize = 0;
     while i < ranks.len() {
-        let rank = ranks[i] as u64;
-        place = mark_rank(words, start, len, place, Rank(rank), at, out);
+        let entry = ranks[i] as u64;
+        place = mark_rank(words, start, len, place, Rank(entry), at, out);
         i += 1;
     }
 }
@@ -137,8 +118,9 @@ fn mark_chunk(
     let mut place = from;
     let mut rest = chunk;
     while rest != 0 {
-        let rank = base.0 + u64::trailing_zeros(rest) as u64;
-        place = mark_rank(words, start, len, place, Rank(rank), at, out);
+        let bit = u64::trailing_zeros(rest) as u64;
+        let rank = Rank(base.0 + bit);
+        place = mark_rank(words, start, len, place, rank, at, out);
         rest = rest & (rest - 1);
     }
     place
@@ -164,10 +146,10 @@ pub fn intersect_mask_driven_words(
         done: Row(0),
         passed: Rank(0),
     };
-    let mut done: u64 = 0;
-    while done < ranklen {
-        let chunk = chunk_at(ranks, from, ranklen, done);
-        place = mark_chunk(words, start, len, place, chunk, Rank(done), at, out);
-        done += 64;
+    let mut rank = Rank(0);
+    while rank.0 < ranklen {
+        let chunk = rank_chunk(ranks, from, ranklen, rank);
+        place = mark_chunk(words, start, len, place, chunk, rank, at, out);
+        rank = Rank(rank.0 + 64);
     }
 }

@@ -127,7 +127,7 @@ pub fn intersect_bit_buffers(
     ensures { λ _. ⌜ now (out .exit) ≡ laid at (compose (view start len (now (words .entry))) (drop from (bitsOfAll 64 (now (ranks .entry))))) (now (out .entry)) ⌝ }
 {
     if at % 64 != 0 {
-        read_chunks(way, words, start, len, ranks, from, at, out);
+        read_chunks(way, words, start, len, ranks, from, Rank(0), at, out);
         return;
     }
     let n = (len / 64) as usize;
@@ -139,7 +139,8 @@ pub fn intersect_bit_buffers(
         start + done,
         len - done,
         ranks,
-        from + rank.0,
+        from,
+        rank,
         at + done,
         out,
     );

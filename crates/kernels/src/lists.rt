@@ -11,8 +11,8 @@ ghost use Rattle.rows.specs.Words.{Below, bitsOfAll};
 ghost use Rattle.rows.specs.Lists.{listed, setRows, Ascending};
 ghost use Rattle.rows.specs.Laid.{marked};
 ghost use Rattle.kernels.specs.Driven.{Room};
-use super::driven::chunk_at;
-use lent::inner::set_bit;
+use super::books::mark_row;
+use super::books::rank_chunk;
 use rows::Rank;
 use rows::Row;
 
@@ -22,8 +22,8 @@ fn entry_at(rows: &[u32], rank: Rank) -> Row
     ensures { λ r. ⌜ r .0 ≡ getD (now (rows .entry)) (rank .0) 0 ⌝ }
 {
     let at = rank.0 as usize;
-    let row = rows[at] as u64;
-    Row(row)
+    let entry = rows[at] as u64;
+    Row(entry)
 }
 
 // Route 4: the self entry at each listed rank.
@@ -33,9 +33,9 @@ pub fn intersect_by_rank_indices(rows: &[u32], ranks: &[u32], len: u64, at: u64,
 {
     let mut i: usize = 0;
     while i < ranks.len() {
-        let rank = ranks[i] as u64;
-        let row = entry_at(rows, Rank(rank));
-        set_bit(out, at + row.0);
+        let entry = ranks[i] as u64;
+        let row = entry_at(rows, Rank(entry));
+        mark_row(out, at, row);
         i += 1;
     }
 }
@@ -47,9 +47,10 @@ fn mark_entries(rows: &[u32], len: u64, chunk: u64, base: Rank, at: u64, out: &m
 {
     let mut rest = chunk;
     while rest != 0 {
-        let rank = base.0 + u64::trailing_zeros(rest) as u64;
-        let row = entry_at(rows, Rank(rank));
-        set_bit(out, at + row.0);
+        let bit = u64::trailing_zeros(rest) as u64;
+        let rank = Rank(base.0 + bit);
+        let row = entry_at(rows, rank);
+        mark_row(out, at, row);
         rest = rest & (rest - 1);
     }
 }
@@ -67,10 +68,10 @@ pub fn intersect_indices_by_rank_bits(
     ensures { λ _. ⌜ now (out .exit) ≡ marked at (setRows 0 (compose (listed len (now (rows .entry))) (drop from (bitsOfAll 64 (now (ranks .entry)))))) (now (out .entry)) ⌝ }
 {
     let count = rows.len() as u64;
-    let mut done: u64 = 0;
-    while done < count {
-        let chunk = chunk_at(ranks, from, count, done);
-        mark_entries(rows, len, chunk, Rank(done), at, out);
-        done += 64;
+    let mut rank = Rank(0);
+    while rank.0 < count {
+        let chunk = rank_chunk(ranks, from, count, rank);
+        mark_entries(rows, len, chunk, rank, at, out);
+        rank = Rank(rank.0 + 64);
     }
 }

@@ -1,6 +1,6 @@
 -- `kernels::deposit::gather_chunks` meets its contract.
 -- The invariant: the rows before `row` are laid, `rank` is the first rank and their count in self, and it parts the list at `next`. Assumes nothing.
-use Prim.Native.Nat.{ℕ, _+_, _-_, _*_, _≤_, _^_}
+use Prim.Native.Nat.{ℕ, _+_, _-_, _*_, _≤_, _<_, _^_}
 use mathlib.Core.Path.{_≡_, refl, sym, ap, ap₂, _∙_}
 use mathlib.Core.Bool.{Bool}
 use mathlib.Core.List.{List}
@@ -20,7 +20,7 @@ use Rattle.rows.proofs.WordsLaws.{fit-length}
 use Rattle.rows.proofs.LaidLaws.{below-all, laid-nil, laid-length}
 use native.Mathlib.Nat.{add-zero, add-assoc}
 use Rattle.kernels.specs.Gathers.{Parted}
-use Rattle.kernels.proofs.DepositLaws.{deposited-chunk, gathered-same, rank-turn, rank-within, laid-turn, chunk-few}
+use Rattle.kernels.proofs.DepositLaws.{gathered-same, rank-turn, rank-within, chunk-turn, chunk-sized, chunk-few}
 use borrow.Author.Needs.{needs}
 use Rattle.kernels.proofs.deposit.gather_chunks.Statement.{statement}
 use Rattle.kernels.proofs.deposit.gather_chunks.Tie as tie
@@ -43,67 +43,128 @@ loop-holds c =
 chunk-len-requires : tie.Need-chunk-len-requires Inv-loop μ-loop
 chunk-len-requires c κs = omega arith
 
-self-chunk-requires : tie.Need-self-chunk-requires Inv-loop μ-loop
-self-chunk-requires c κs = omega arith
+self-bits-requires : tie.Need-self-bits-requires Inv-loop μ-loop
+self-bits-requires c κs = omega arith
+
+-- ---- a turn: the row that it starts at, its rows, and what is known of them
+
+module _ (c : tie.After-self-bits Inv-loop μ-loop) where
+  abbrev head : tie.At-loop Inv-loop μ-loop
+  head = c .before .before .before .before
+
+  abbrev start : tie.Start Inv-loop μ-loop
+  start = head .before .before .before .before .before
+
+  abbrev ws : List ℕ
+  ws = now (start .args .words)
+
+  abbrev es : List ℕ
+  es = now (start .args .ranks)
+
+  abbrev first : ℕ
+  first = start .args .from .rank .0
+
+  abbrev row : ℕ
+  row = head .loop .row .0
+
+  abbrev n : ℕ
+  n = c .before .chunk-len .result
+
+  abbrev chunk : List Bool
+  chunk = fit n (drop (start .args .start + row) (bitsOfAll 64 ws))
+
+  abbrev passed : ℕ
+  passed = count (view (start .args .start) row ws)
+
+  abbrev total : ℕ
+  total = first + count (view (start .args .start) (start .args .len) ws)
+
+  -- the rank bits from the first rank on
+  abbrev r : List Bool
+  r = drop first (listed total es)
+
+  sized : (0 < n) × (n ≤ 64) × (row + n ≤ start .args .len)
+  sized = chunk-sized n row (start .args .len) (omega arith) (c .before .chunk-len .ensures)
+
+  few : ones (c .self-bits .result) ≤ n
+  few = omega (arith, ap ones (c .self-bits .ensures), chunk-few n (drop (start .args .start + row) (bitsOfAll 64 ws)))
+
+  reach : start .args .start + row + n ≤ length ws * 64
+  reach = omega (arith, start .pre .1, sized)
+
+  -- the rank after it
+  next : count (view (start .args .start) (row + n) ws) ≡ passed + ones (wordOf chunk)
+  next = rank-turn (start .args .start) row n (start .args .at) ws (now (start .args .out)) r reach
+
+-- its rows, laid after those before it
+module _ (c : tie.After-push-result-chunk Inv-loop μ-loop) where
+  abbrev turn : tie.After-self-bits Inv-loop μ-loop
+  turn = c .before .before .before
+
+  abbrev found : tie.After-rank-bits-for-chunk Inv-loop μ-loop
+  found = c .before .before
+
+  gathered : compose (chunk turn) (bitsOf 64 (found .rank-bits-for-chunk .result .bits)) ≡ compose (chunk turn) (drop (passed turn) (r turn))
+  gathered =
+      let a = start turn .args in
+      let t = chunk turn in
+      let set : ones (turn .self-bits .result) ≡ count t = ap ones (turn .self-bits .ensures) ∙ ones-word t in
+      let within = rank-within (a .start) (row turn + n turn) (a .len) (ws turn) (sized turn .2) in
+      ap (λ (x : ℕ). compose t (bitsOf 64 x)) (found .rank-bits-for-chunk .ensures .is ∙ ap₂ (λ (x y : ℕ). wordOf (tab x y (λ i. member i (es turn)))) (head turn .loop .inv .2) set)
+      ∙ gathered-same t (first turn + passed turn) (total turn) (es turn) (omega (arith, fit-length (n turn) (drop (a .start + row turn) (bitsOfAll 64 (ws turn))), sized turn)) (omega (arith, ones-word t, next turn))
+      ∙ ap (compose t) (sym (drop-drop (passed turn) (first turn) (listed (total turn) (es turn))))
+
+  laid-on : c .push-result-chunk .last .1 .1 .1 .1 .1 .1 .1 .0 ≡ laid (start turn .args .at) (compose (view (start turn .args .start) (row turn + n turn) (ws turn)) (r turn)) (now (start turn .args .out))
+  laid-on =
+      let a = start turn .args in
+      let bits : ℕ = found .rank-bits-for-chunk .result .bits in
+      c .push-result-chunk .ensures
+      ∙ ap₂ (λ (x : ℕ) (o : List ℕ). laid (a .at + row turn) (bitsOf (n turn) (pdep 64 bits x)) o) (turn .self-bits .ensures) (head turn .loop .inv .4)
+      ∙ chunk-turn (a .start) (row turn) (n turn) (a .at) (ws turn) (now (a .out)) (r turn) (reach turn) (sized turn .1) bits gathered
+
+-- ---- the answers
 
 cast-rank-bits-for-chunk : tie.Need-cast-rank-bits-for-chunk Inv-loop μ-loop
-cast-rank-bits-for-chunk c = omega (arith, c .before .chunk-len .ensures, ap ones (c .self-chunk .ensures), chunk-few (c .before .chunk-len .result) (drop (c .before .before .before .before .before .before .before .before .before .args .start + c .before .before .before .before .loop .row .0) (bitsOfAll 64 (now (c .before .before .before .before .before .before .before .before .before .args .words)))))
+cast-rank-bits-for-chunk c = omega (arith, few c, sized c)
 
 rank-bits-for-chunk-requires : tie.Need-rank-bits-for-chunk-requires Inv-loop μ-loop
 rank-bits-for-chunk-requires c κs =
-    (omega (arith, c .before .chunk-len .ensures, ap ones (c .self-chunk .ensures), chunk-few (c .before .chunk-len .result) (drop (c .before .before .before .before .before .before .before .before .before .args .start + c .before .before .before .before .loop .row .0) (bitsOfAll 64 (now (c .before .before .before .before .before .before .before .before .before .args .words))))), omega (arith, c .before .before .before .before .before .before .before .before .before .pre .0, c .before .before .before .before .before .before .before .before .before .pre .4, c .before .before .before .before .loop .inv .1, c .before .chunk-len .ensures, ap ones (c .self-chunk .ensures), chunk-few (c .before .chunk-len .result) (drop (c .before .before .before .before .before .before .before .before .before .args .start + c .before .before .before .before .loop .row .0) (bitsOfAll 64 (now (c .before .before .before .before .before .before .before .before .before .args .words))))), c .before .before .before .before .loop .inv .5)
-
-add-push-result-chunk : tie.Need-add-push-result-chunk Inv-loop μ-loop
-add-push-result-chunk c = omega (arith, c .before .before .before .before .before .before .before .before .before .before .before .pre .3, c .before .before .before .chunk-len .ensures)
+    (omega (arith, few c, sized c), omega (arith, start c .pre .0, start c .pre .4, head c .loop .inv .1, few c, sized c), head c .loop .inv .5)
 
 push-result-chunk-requires : tie.Need-push-result-chunk-requires Inv-loop μ-loop
 push-result-chunk-requires c κs =
-    (refl, omega (arith, c .before .before .before .before .chunk-len .ensures), omega (arith, c .before .before .before .before .chunk-len .ensures), omega (arith, c .before .before .before .before .before .before .before .before .before .before .before .before .pre .2, c .before .before .before .before .chunk-len .ensures, c .before .before .before .before .before .before .before .loop .inv .3))
+    let t = c .before .before in
+    (refl, sized t .0, sized t .1, omega (arith, start t .pre .2, sized t, head t .loop .inv .3), omega (arith, start t .pre .3, sized t))
 
 cast-t17 : tie.Need-cast-t17 Inv-loop μ-loop
-cast-t17 c = omega (arith, c .before .before .before .before .before .before .before .chunk-len .ensures, ap ones (c .before .before .before .before .before .before .self-chunk .ensures), chunk-few (c .before .before .before .before .before .before .before .chunk-len .result) (drop (c .before .before .before .before .before .before .before .before .before .before .before .before .before .before .before .args .start + c .before .before .before .before .before .before .before .before .before .before .loop .row .0) (bitsOfAll 64 (now (c .before .before .before .before .before .before .before .before .before .before .before .before .before .before .before .args .words)))))
+cast-t17 c =
+    let t = turn (c .before .before) in
+    omega (arith, few t, sized t)
 
 add-t21 : tie.Need-add-t21 Inv-loop μ-loop
-add-t21 c = omega (arith, c .before .before .before .before .before .before .before .before .before .before .before .loop .inv .1, c .before .before .before .before .before .before .before .before .before .before .before .before .before .before .before .before .pre .0, c .before .before .before .before .before .before .before .before .before .before .before .before .before .before .before .before .pre .4, c .before .before .before .before .before .before .before .before .chunk-len .ensures, ap ones (c .before .before .before .before .before .before .before .self-chunk .ensures), chunk-few (c .before .before .before .before .before .before .before .before .chunk-len .result) (drop (c .before .before .before .before .before .before .before .before .before .before .before .before .before .before .before .before .args .start + c .before .before .before .before .before .before .before .before .before .before .before .loop .row .0) (bitsOfAll 64 (now (c .before .before .before .before .before .before .before .before .before .before .before .before .before .before .before .before .args .words)))))
+add-t21 c =
+    let t = turn (c .before .before .before) in
+    omega (arith, head t .loop .inv .1, start t .pre .0, start t .pre .4, few t, sized t)
 
 add-t17 : tie.Need-add-t17 Inv-loop μ-loop
-add-t17 c = omega (arith, c .before .before .before .before .before .before .before .before .before .before .before .before .before .before .before .before .before .pre .0, c .before .before .before .before .before .before .before .before .before .chunk-len .ensures)
+add-t17 c =
+    let t = turn (c .before .before .before .before) in
+    omega (arith, start t .pre .0, sized t)
 
 loop-less : tie.Need-loop-less Inv-loop μ-loop
-loop-less c = omega (arith, c .before .before .before .before .before .before .before .before .before .chunk-len .ensures)
+loop-less c = omega (arith, sized (turn (c .before .before .before .before)))
 
 loop-again : tie.Need-loop-again Inv-loop μ-loop
 loop-again c =
-    let a = c .before .before .before .before .before .before .before .before .before .before .before .before .before .before .before .before .before .args in
-    let l = c .before .before .before .before .before .before .before .before .before .before .before .before .loop in
-    let ws = now (a .words) in
-    let n : ℕ = c .before .before .before .before .before .before .before .before .before .chunk-len .result in
-    let total : ℕ = a .from .rank .0 + count (view (a .start) (a .len) ws) in
-    let es = now (a .ranks) in
-    let r = drop (a .from .rank .0) (listed total es) in
-    let t = fit n (drop (a .start + l .row .0) (bitsOfAll 64 ws)) in
-    let reach : a .start + l .row .0 + n ≤ length ws * 64 = omega (arith, c .before .before .before .before .before .before .before .before .before .before .before .before .before .before .before .before .before .pre .1, c .before .before .before .before .before .before .before .before .before .chunk-len .ensures) in
-    let passed : ℕ = count (view (a .start) (l .row .0) ws) in
-    let set : ones (c .before .before .before .before .before .before .before .before .self-chunk .result) ≡ count t = ap ones (c .before .before .before .before .before .before .before .before .self-chunk .ensures) ∙ ones-word t in
-    let turned = rank-turn (a .start) (l .row .0) n (a .at) ws (now (a .out)) r reach in
-    let below = rank-within (a .start) (l .row .0 + n) (a .len) ws (omega (arith, c .before .before .before .before .before .before .before .before .before .chunk-len .ensures)) in
-    let g = c .before .before .before .before .before .before .before .rank-bits-for-chunk in
-    let same : compose t (bitsOf 64 (g .result .bits)) ≡ compose t (drop passed r) =
-    ap (λ (x : ℕ). compose t (bitsOf 64 x)) (g .ensures .is ∙ ap₂ (λ (x y : ℕ). wordOf (tab x y (λ i. member i es))) (l .inv .2) set)
-    ∙ gathered-same t (a .from .rank .0 + passed) total es (omega (arith, fit-length n (drop (a .start + l .row .0) (bitsOfAll 64 ws)), c .before .before .before .before .before .before .before .before .before .chunk-len .ensures)) (omega (arith, ones-word t))
-    ∙ ap (compose t) (sym (drop-drop passed (a .from .rank .0) (listed total es))) in
-    let out : c .before .before .before .before .push-result-chunk .last .1 .1 .1 .1 .1 .1 .0 ≡ laid (a .at) (compose (view (a .start) (l .row .0 + n) ws) r) (now (a .out)) =
-    c .before .before .before .before .push-result-chunk .ensures
-    ∙ ap₂ (λ (x : ℕ) (o : List ℕ). laid (a .at + l .row .0) (bitsOf n (pdep 64 (g .result .bits) x)) o) (c .before .before .before .before .before .before .before .before .self-chunk .ensures) (l .inv .4)
-    ∙ ap (λ (z : List Bool). laid (a .at + l .row .0) z (laid (a .at) (compose (view (a .start) (l .row .0) ws) r) (now (a .out))))
-    (deposited-chunk n (g .result .bits) t (drop (count (view (a .start) (l .row .0) ws)) r) (fit-length n (drop (a .start + l .row .0) (bitsOfAll 64 ws))) (omega (arith, c .before .before .before .before .before .before .before .before .before .chunk-len .ensures)) same)
-    ∙ laid-turn (a .start) (l .row .0) n (a .at) ws (now (a .out)) r reach in (
-      omega (arith, c .before .before .before .before .before .before .before .before .before .chunk-len .ensures),
-      omega (arith, l .inv .1, c .before .before .before .before .before .before .before .before .before .chunk-len .ensures, ap ones (c .before .before .before .before .before .before .before .before .self-chunk .ensures), chunk-few (c .before .before .before .before .before .before .before .before .before .chunk-len .result) (drop (c .before .before .before .before .before .before .before .before .before .before .before .before .before .before .before .before .before .args .start + c .before .before .before .before .before .before .before .before .before .before .before .before .loop .row .0) (bitsOfAll 64 (now (c .before .before .before .before .before .before .before .before .before .before .before .before .before .before .before .before .before .args .words))))),
-      ap₂ (λ (x y : ℕ). x + ones y) (l .inv .2) (c .before .before .before .before .before .before .before .before .self-chunk .ensures) ∙ add-assoc (a .from .rank .0) passed (ones (wordOf t)) ∙ ap (λ (k : ℕ). a .from .rank .0 + k) (sym turned),
-      ap length out ∙ laid-length 64 (a .at) (compose (view (a .start) (l .row .0 + n) ws) r) (now (a .out)),
-      out,
-      g .ensures .parted,
+    let p = c .before .before .before .before in
+    let t = turn p in
+    let a = start t .args in (
+      sized t .2,
+      omega (arith, head t .loop .inv .1, few t),
+      ap₂ (λ (x y : ℕ). x + ones y) (head t .loop .inv .2) (t .self-bits .ensures) ∙ add-assoc (first t) (passed t) (ones (wordOf (chunk t))) ∙ ap (λ (k : ℕ). first t + k) (sym (next t)),
+      ap length (laid-on p) ∙ laid-length 64 (a .at) (compose (view (a .start) (row t + n t) (ws t)) (r t)) (now (a .out)),
+      laid-on p,
+      found p .rank-bits-for-chunk .ensures .parted,
     )
 
 same-length : tie.Need-same-length Inv-loop μ-loop
@@ -118,4 +179,21 @@ returns c =
     l .inv .4 ∙ ap (λ (k : ℕ). laid (a .at) (compose (view (a .start) k (now (a .words))) r) (now (a .out))) done
 
 pub gather-chunks-spec : {M : Type 1} → statement M
-gather-chunks-spec = tie.close (tie.spec Inv-loop μ-loop loop-holds chunk-len-requires self-chunk-requires cast-rank-bits-for-chunk rank-bits-for-chunk-requires add-push-result-chunk push-result-chunk-requires cast-t17 add-t21 add-t17 loop-less loop-again same-length returns)
+gather-chunks-spec =
+    tie.close
+    (tie.spec
+    Inv-loop
+    μ-loop
+    loop-holds
+    chunk-len-requires
+    self-bits-requires
+    cast-rank-bits-for-chunk
+    rank-bits-for-chunk-requires
+    push-result-chunk-requires
+    cast-t17
+    add-t21
+    add-t17
+    loop-less
+    loop-again
+    same-length
+    returns)

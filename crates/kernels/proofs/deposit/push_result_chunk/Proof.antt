@@ -1,7 +1,7 @@
 -- `kernels::deposit::push_result_chunk` meets its contract: what is laid is the deposit's low bits.
--- By the contracts of `put` and of the deposit. Assumes nothing.
+-- By the contracts of `put_rows` and of the deposit. Assumes nothing.
 use mathlib.Core.Path.{ap, _∙_}
-use Prim.Native.Nat.{ℕ}
+use Prim.Native.Nat.{ℕ, _+_}
 use denote.Ref.{now}
 use Rattle.rows.specs.Word.{bitsOf}
 use Rattle.rows.specs.Laid.{laid}
@@ -12,8 +12,8 @@ use Rattle.kernels.proofs.deposit.push_result_chunk.Tie as tie
 deposit-bits-requires : tie.Need-deposit-bits-requires
 deposit-bits-requires c κs = search needs
 
-put-requires : tie.Need-put-requires
-put-requires c κs = search needs
+put-rows-requires : tie.Need-put-rows-requires
+put-rows-requires c κs = search needs
 
 same-length : tie.Need-same-length
 same-length c = search needs
@@ -21,8 +21,8 @@ same-length c = search needs
 returns : tie.Need-returns
 returns c =
     let a = c .before .before .before .before .before .before .args in
-    c .before .before .put .ensures ∙ ap (λ (x : ℕ). laid (a .at) (bitsOf (a .n) x) (now (a .out))) (c .before .before .before .deposit-bits .ensures)
+    c .before .before .put-rows .ensures ∙ ap (λ (x : ℕ). laid (a .at + a .row .0) (bitsOf (a .n) x) (now (a .out))) (c .before .before .before .deposit-bits .ensures)
 
 pub push-result-chunk-spec : {M : Type 1} → statement M
 push-result-chunk-spec =
-    tie.close (tie.spec deposit-bits-requires put-requires same-length returns)
+    tie.close (tie.spec deposit-bits-requires put-rows-requires same-length returns)

@@ -29,14 +29,14 @@ abbrev μ-loop : tie.MeasureT-loop
 loop-holds : tie.Need-loop-holds Inv-loop μ-loop
 loop-holds c = (omega arith, refl, record { walked = refl; ahead = c .before .before .before .pre .3; marks = refl })
 
-mul-rank : tie.Need-mul-rank Inv-loop μ-loop
-mul-rank c = omega arith
+mul-entry : tie.Need-mul-entry Inv-loop μ-loop
+mul-entry c = omega arith
 
-shared-slice-read-rank : tie.Need-shared-slice-read-rank Inv-loop μ-loop
-shared-slice-read-rank c = omega arith
+shared-slice-read-entry : tie.Need-shared-slice-read-entry Inv-loop μ-loop
+shared-slice-read-entry c = omega arith
 
-cast-rank : tie.Need-cast-rank Inv-loop μ-loop
-cast-rank c = omega (arith, c .shared-slice-known3 .given (c .before .before .loop .i))
+cast-entry : tie.Need-cast-entry Inv-loop μ-loop
+cast-entry c = omega (arith, c .shared-slice-known3 .given (c .before .before .loop .i))
 
 mark-rank-requires : tie.Need-mark-rank-requires Inv-loop μ-loop
 mark-rank-requires c κs =
@@ -85,9 +85,9 @@ intersect-mask-driven-list-spec =
     Inv-loop
     μ-loop
     loop-holds
-    mul-rank
-    shared-slice-read-rank
-    cast-rank
+    mul-entry
+    shared-slice-read-entry
+    cast-entry
     mark-rank-requires
     add-i
     loop-less

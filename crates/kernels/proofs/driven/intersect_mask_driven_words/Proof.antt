@@ -1,5 +1,5 @@
 -- `kernels::driven::intersect_mask_driven_words` meets its contract.
--- The invariant: the rows of the ranks before `done` are marked, and the walk is not past that rank. Assumes nothing.
+-- The invariant: the rows of the ranks before `rank` are marked, and the walk is not past that rank. Assumes nothing.
 use Prim.Native.Nat.{ℕ, _-_, _≤_}
 use mathlib.Core.Path.{_≡_, refl, sym, ap, _∙_}
 use mathlib.Core.Bool.{Bool}
@@ -25,37 +25,38 @@ use Rattle.kernels.proofs.driven.intersect_mask_driven_words.Statement.
 use Rattle.kernels.proofs.driven.intersect_mask_driven_words.Tie as tie
 
 abbrev Inv-loop : tie.InvT-loop
-Inv-loop words start len ranks from ranklen at out₀ place₀ done₀ out place done =
-    (length out ≡ length out₀) × Walked (view start len words) place × (place .passed .0 ≤ done)
-    × (out ≡ marked at (map (select (view start len words)) (setRows 0 (take done (view from ranklen ranks)))) out₀)
+Inv-loop words start len ranks from ranklen at out₀ place₀ rank₀ out place rank =
+    (length out ≡ length out₀) × Walked (view start len words) place × (place .passed .0 ≤ rank .0)
+    × (out ≡ marked at (map (select (view start len words)) (setRows 0 (take (rank .0) (view from ranklen ranks)))) out₀)
 
 abbrev μ-loop : tie.MeasureT-loop
-μ-loop words start len ranks from ranklen at out₀ place₀ done₀ out place done = ranklen - done
+μ-loop words start len ranks from ranklen at out₀ place₀ rank₀ out place rank = ranklen - rank .0
 
 loop-holds : tie.Need-loop-holds Inv-loop μ-loop
 loop-holds c = (refl, refl, omega arith, refl)
 
-chunk-at-requires : tie.Need-chunk-at-requires Inv-loop μ-loop
-chunk-at-requires c κs = (c .before .before .before .before .before .pre .5, omega arith)
+rank-chunk-requires : tie.Need-rank-chunk-requires Inv-loop μ-loop
+rank-chunk-requires c κs = (c .before .before .before .before .before .before .pre .5, omega arith)
 
 mark-chunk-requires : tie.Need-mark-chunk-requires Inv-loop μ-loop
 mark-chunk-requires c κs =
-    let s = c .before .before .before .before .before .before .before in
+    let l = c .before .before .before .before in
+    let s = l .before .before .before .before in
     let a = s .args in
-    let l = c .before .before .before .loop in
+    let i = l .loop .inv in
     let v = view (a .start) (a .len) (now (a .words)) in
     let r = view (a .from) (a .ranklen) (now (a .ranks)) in
     let long : length r ≡ a .ranklen = view-length (a .from) (a .ranklen) (now (a .ranks)) (s .pre .5) in (
       (s .pre .1, s .pre .2),
-      (omega (arith, l .inv .0, s .pre .6), s .pre .7),
-      l .inv .1,
-      l .inv .2,
-      rw (c .before .chunk-at .ensures) (chunk-ranks r (l .done) (l .place .passed .0) (count v) (l .inv .2) (omega arith) (omega (arith, s .pre .3))),
+      (omega (arith, i .0, s .pre .6), s .pre .7),
+      i .1,
+      i .2,
+      rw (c .before .rank-chunk .ensures) (chunk-ranks r (l .loop .rank .0) (l .loop .place .passed .0) (count v) (i .2) (omega arith) (omega (arith, s .pre .3))),
     )
 
-add-done : tie.Need-add-done Inv-loop μ-loop
-add-done c =
-    let s = c .before .before .before .before .before .before .before .before .before .before in
+add-t17 : tie.Need-add-t17 Inv-loop μ-loop
+add-t17 c =
+    let s = c .before .before .before .before .before .before .before .before .before .before .before .before in
     let a = s .args in
     omega (arith, view-few (a .start) (a .len) (now (a .words)) (s .pre .2), s .pre .3)
 
@@ -64,19 +65,21 @@ loop-less c = omega arith
 
 loop-again : tie.Need-loop-again Inv-loop μ-loop
 loop-again c =
-    let s = c .before .before .before .before .before .before .before .before .before .before in
+    let k = c .before .before .before .before .before in
+    let l = k .before .before .before .loop in
+    let s = k .before .before .before .before .before .before .before in
     let a = s .args in
-    let l = c .before .before .before .before .before .before .loop in
-    let m = c .before .before .mark-chunk .ensures in
+    let m = c .before .before .before .mark-chunk .ensures in
     let f : ℕ → ℕ = select (view (a .start) (a .len) (now (a .words))) in
     let r = view (a .from) (a .ranklen) (now (a .ranks)) in
+    let done : ℕ = l .rank .0 in
     let long : length r ≡ a .ranklen = view-length (a .from) (a .ranklen) (now (a .ranks)) (s .pre .5) in (
-      ap length (m .2) ∙ marked-length (a .at) (map f (setRows (l .done) (bitsOf 64 (c .before .before .before .before .chunk-at .result)))) (l .out) ∙ l .inv .0,
+      ap length (m .2) ∙ marked-length (a .at) (map f (setRows done (bitsOf 64 (k .rank-chunk .result)))) (l .out) ∙ l .inv .0,
       m .0,
       m .1,
-      m .2 ∙ ap (λ (x : ℕ). marked (a .at) (map f (setRows (l .done) (bitsOf 64 x))) (l .out)) (c .before .before .before .before .chunk-at .ensures)
-          ∙ ap (marked (a .at) (map f (setRows (l .done) (bitsOf 64 (wordOf (chunkAt r (l .done))))))) (l .inv .3)
-          ∙ chunk-marks (a .at) f r (l .done) (now (a .out)) (omega arith),
+      m .2 ∙ ap (λ (x : ℕ). marked (a .at) (map f (setRows done (bitsOf 64 x))) (l .out)) (k .rank-chunk .ensures)
+          ∙ ap (marked (a .at) (map f (setRows done (bitsOf 64 (wordOf (chunkAt r done)))))) (l .inv .3)
+          ∙ chunk-marks (a .at) f r done (now (a .out)) (omega arith),
     )
 
 same-length : tie.Need-same-length Inv-loop μ-loop
@@ -84,13 +87,13 @@ same-length c = search needs
 
 returns : tie.Need-returns Inv-loop μ-loop
 returns c =
-    let s = c .before .before .before .before .before in
+    let l = c .before .before .loop in
+    let s = c .before .before .before .before .before .before in
     let a = s .args in
-    let l = c .before .loop in
     let v = view (a .start) (a .len) (now (a .words)) in
     let r = view (a .from) (a .ranklen) (now (a .ranks)) in
     let long : length r ≡ a .ranklen = view-length (a .from) (a .ranklen) (now (a .ranks)) (s .pre .5) in
-    l .inv .3 ∙ ap (λ (t : List Bool). marked (a .at) (map (select v) (setRows 0 t)) (now (a .out))) (take-all (l .done) r (omega arith))
+    l .inv .3 ∙ ap (λ (t : List Bool). marked (a .at) (map (select v) (setRows 0 t)) (now (a .out))) (take-all (l .rank .0) r (omega arith))
     ∙ ap (λ (rs : List ℕ). marked (a .at) rs (now (a .out))) (sym (rows-compose-list v r (long ∙ s .pre .3)))
 
 pub intersect-mask-driven-words-spec : {M : Type 1} → statement M
@@ -100,9 +103,9 @@ intersect-mask-driven-words-spec =
     Inv-loop
     μ-loop
     loop-holds
-    chunk-at-requires
+    rank-chunk-requires
     mark-chunk-requires
-    add-done
+    add-t17
     loop-less
     loop-again
     same-length

@@ -35,11 +35,11 @@ loop-holds c =
     let s = c .before .before in
     (s .fits .chunk .fits, refl, omega arith, record { walked = s .pre .2; ahead = s .pre .4; marks = refl })
 
-cast-rank : tie.Need-cast-rank Inv-loop μ-loop
-cast-rank c = omega (arith, trailing-le 64 (c .before .loop .rest))
+cast-bit : tie.Need-cast-bit Inv-loop μ-loop
+cast-bit c = omega (arith, trailing-le 64 (c .before .loop .rest))
 
-add-rank : tie.Need-add-rank Inv-loop μ-loop
-add-rank c =
+add-rest : tie.Need-add-rest Inv-loop μ-loop
+add-rest c =
     let s = c .before .before .before .before .before in
     let a = s .args in
     let l = c .before .before .loop in
@@ -94,8 +94,8 @@ mark-chunk-spec =
     Inv-loop
     μ-loop
     loop-holds
-    cast-rank
-    add-rank
+    cast-bit
+    add-rest
     mark-rank-requires
     sub-rest
     loop-less

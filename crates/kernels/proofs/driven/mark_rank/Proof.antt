@@ -19,28 +19,25 @@ row-in-requires : tie.Need-row-in-requires
 row-in-requires c κs = search needs
 
 -- the row's bit has room. So has the rank's, by `view-few`: were it marked instead, only the promise would fail
-add-set-bit : tie.Need-add-set-bit
-add-set-bit c =
-    let s = c .before .before .before .before .before .before in
+mark-row-requires : tie.Need-mark-row-requires
+mark-row-requires c κs =
+    let k = c .before in
+    let s = k .before .before .before .before in
     let a = s .args in
-    omega (arith, c .before .before .row-in .ensures, view-row (a .start) (a .len) (now (a .words)) (s .pre .0 .1) (a .rank .0) (s .pre .4), view-few (a .start) (a .len) (now (a .words)) (s .pre .0 .1))
-
-set-bit-requires : tie.Need-set-bit-requires
-set-bit-requires c κs =
-    let s = c .before .before .before .before .before .before in
-    let a = s .args in
-    omega (arith, c .before .before .row-in .ensures, view-row (a .start) (a .len) (now (a .words)) (s .pre .0 .1) (a .rank .0) (s .pre .4), view-few (a .start) (a .len) (now (a .words)) (s .pre .0 .1))
+    let room = view-few (a .start) (a .len) (now (a .words)) (s .pre .0 .1) in
+    let row = view-row (a .start) (a .len) (now (a .words)) (s .pre .0 .1) (a .rank .0) (s .pre .4) in
+    (omega (arith, k .row-in .ensures), omega (arith, k .row-in .ensures))
 
 same-length : tie.Need-same-length
 same-length c = search needs
 
 returns : tie.Need-returns
 returns c =
-    let a = c .before .before .before .before .before .before .before .before .before .args in
-    let h = c .before .before .before .before .before .before .seek .ensures in
-    (h .walked, h .reached, c .before .before .set-bit .ensures ∙ ap (λ (r : ℕ). laid (a .at + r) (true ∷ []) (now (a .out))) (c .before .before .before .before .before .row-in .ensures))
+    let k = c .before .before .before .before in
+    let a = k .before .before .before .before .args in
+    let h = k .before .seek .ensures in
+    (h .walked, h .reached, c .before .before .mark-row .ensures ∙ ap (λ (r : ℕ). laid (a .at + r) (true ∷ []) (now (a .out))) (k .row-in .ensures))
 
 pub mark-rank-spec : {M : Type 1} → statement M
 mark-rank-spec =
-    tie.close
-    (tie.spec seek-requires row-in-requires add-set-bit set-bit-requires same-length returns)
+    tie.close (tie.spec seek-requires row-in-requires mark-row-requires same-length returns)

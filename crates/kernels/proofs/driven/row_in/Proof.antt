@@ -1,6 +1,6 @@
 -- `kernels::driven::row_in` meets its contract.
 -- The row is the chunk's first, and the place of the rank that is left in the chunk's word. Assumes nothing.
-use Prim.Native.Nat.{ℕ, _+_, _-_}
+use Prim.Native.Nat.{ℕ, _+_, _-_, _<_}
 use mathlib.Core.Path.{sym, ap, _∙_}
 use native.Mathlib.Omega.{arith}
 use borrow.Author.Needs.{needs}
@@ -23,30 +23,34 @@ cast-left c =
     let v = view (a .start) (a .len) (now (a .words)) in
     omega (arith, left-in v (a .place) (a .rank) (s .pre .1), chunk-few v (a .place .done .0))
 
-chunk-at-requires : tie.Need-chunk-at-requires
-chunk-at-requires c κs =
-    let s = c .before .before .before in
+-- the chunk's first row is within
+within : (s : tie.Start) → s .args .place .done .0 < s .args .len
+within s =
     let a = s .args in
-    (s .pre .0 .1, omega (arith, place-in (view (a .start) (a .len) (now (a .words))) (a .place) (a .rank) (s .pre .1), view-length (a .start) (a .len) (now (a .words)) (s .pre .0 .1)))
+    let v = view (a .start) (a .len) (now (a .words)) in
+    omega (arith, place-in v (a .place) (a .rank) (s .pre .1), view-length (a .start) (a .len) (now (a .words)) (s .pre .0 .1))
+
+self-chunk-requires : tie.Need-self-chunk-requires
+self-chunk-requires c κs = (c .before .before .before .pre .0 .1, within (c .before .before .before))
 
 select-bit-position-requires : tie.Need-select-bit-position-requires
 select-bit-position-requires c κs = search needs
 
-cast-row : tie.Need-cast-row
-cast-row c = search needs
+cast-t8 : tie.Need-cast-t8
+cast-t8 c = search needs
 
-add-row : tie.Need-add-row
-add-row c =
-    let s = c .before .before .before .before .before in
-    let a = s .args in
-    omega (arith, place-in (view (a .start) (a .len) (now (a .words))) (a .place) (a .rank) (s .pre .1), view-length (a .start) (a .len) (now (a .words)) (s .pre .0 .1), c .select-bit-position .ok)
+add-t9 : tie.Need-add-t9
+add-t9 c =
+    let s = c .before .before .before .before .before .before in
+    omega (arith, within s, s .pre .0 .0, c .before .select-bit-position .ok)
 
 returns : tie.Need-returns
 returns c =
-    let s = c .before .before .before .before .before in
+    let s = c .before .before .before .before .before .before in
     let a = s .args in
     let v = view (a .start) (a .len) (now (a .words)) in
-    ap (λ (k : ℕ). a .place .done .0 + k) (c .select-bit-position .ensures ∙ ap (λ (x : ℕ). select (bitsOf 64 x) (a .rank .0 - a .place .passed .0)) (c .before .chunk-at .ensures))
+    let bit = c .before .select-bit-position .ensures ∙ ap (λ (x : ℕ). select (bitsOf 64 x) (a .rank .0 - a .place .passed .0)) (c .before .before .self-chunk .ensures) in
+    ap (λ (k : ℕ). a .place .done .0 + k) bit
     ∙ sym (row-of v (a .place) (a .rank) (s .pre .1))
 
 pub row-in-spec : {M : Type 1} → statement M
@@ -55,8 +59,8 @@ row-in-spec =
     (tie.spec
     sub-left
     cast-left
-    chunk-at-requires
+    self-chunk-requires
     select-bit-position-requires
-    cast-row
-    add-row
+    cast-t8
+    add-t9
     returns)

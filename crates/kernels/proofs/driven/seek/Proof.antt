@@ -1,76 +1,75 @@
 -- `kernels::driven::seek` meets its contract.
--- The invariant: the count is the rank of the first row not passed, and the rank sought is not below it. Assumes nothing.
+-- The invariant: the place tells the rank of the first row not passed, and the rank sought is not below it. Assumes nothing.
 use Prim.Native.Nat.{_+_, _-_, _≤_, _<_}
 use mathlib.Core.Path.{_≡_}
 use native.Mathlib.Omega.{arith}
 use borrow.Author.Needs.{needs}
 use denote.Ref.{now}
 use lib.Count.{ones}
-use Rattle.rows.specs.Rows.{count, rankAt}
+use Rattle.rows.specs.Rows.{count}
 use Rattle.rows.specs.Words.{view}
-use Rattle.kernels.specs.Driven.{chunkAt}
+use Rattle.kernels.specs.Driven.{chunkAt, Walked}
 use Rattle.kernels.proofs.DrivenLaws.{chunk-count, chunk-few, rank-next, view-few, view-behind}
 use Rattle.kernels.proofs.driven.seek.Statement.{statement}
 use Rattle.kernels.proofs.driven.seek.Tie as tie
-use Rattle.kernels.proofs.driven.seek.Reads as reads
-use Rattle.kernels.proofs.driven.seek.Lts as lts
-use Rattle.kernels.proofs.driven.chunk_at.Reads as chunk-at-reads
 
 abbrev Inv-loop : tie.InvT-loop
-Inv-loop words start len rank done₀ passed₀ done passed = (passed ≡ rankAt (view start len words) done) × (passed ≤ rank .0)
+Inv-loop words start len rank place₀ place = Walked (view start len words) place × (place .passed .0 ≤ rank .0)
 
 abbrev μ-loop : tie.MeasureT-loop
-μ-loop words start len rank done₀ passed₀ done passed = len - done
+μ-loop words start len rank place₀ place = len - place .done .0
 
 loop-holds : tie.Need-loop-holds Inv-loop μ-loop
 loop-holds c = search needs
 
 -- the first row not passed is within
-within : (c : lts.At-loop (chunk-at-reads.Asked, chunk-at-reads.Learnt) reads.Pre reads.Post Inv-loop μ-loop) → c .loop .done < c .before .before .args .len
+within : (c : tie.At-loop Inv-loop μ-loop) → c .loop .place .done .0 < c .before .before .args .len
 within c =
     let s = c .before .before in
-    view-behind (s .args .start) (s .args .len) (now (s .args .words)) (s .pre .0 .1) (c .loop .done) (s .args .rank .0) (omega (arith, c .loop .inv .0)) (s .pre .3)
+    view-behind (s .args .start) (s .args .len) (now (s .args .words)) (s .pre .0 .1) (c .loop .place .done .0) (s .args .rank .0) (omega (arith, c .loop .inv .0)) (s .pre .3)
 
-chunk-at-requires : tie.Need-chunk-at-requires Inv-loop μ-loop
-chunk-at-requires c κs = (c .before .before .pre .0 .1, within c)
+self-chunk-requires : tie.Need-self-chunk-requires Inv-loop μ-loop
+self-chunk-requires c κs = (c .before .before .pre .0 .1, within c)
 
 -- what its chunk has, and what that comes to: the next chunk's rank, which fits
-counted : (c : lts.After-chunk-at (chunk-at-reads.Asked, chunk-at-reads.Learnt) reads.Pre reads.Post Inv-loop μ-loop)
-    → ones (c .chunk-at .result) ≡ count (chunkAt (view (c .before .before .before .args .start) (c .before .before .before .args .len) (now (c .before .before .before .args .words))) (c .before .loop .done))
-counted c =
-    let a = c .before .before .before .args in
-    chunk-count (view (a .start) (a .len) (now (a .words))) (c .before .loop .done) (c .chunk-at .result) (c .chunk-at .ensures)
+module _ (c : tie.After-self-chunk Inv-loop μ-loop) where
+  abbrev start : tie.Start Inv-loop μ-loop
+  start = c .before .before .before
 
-small : (c : lts.After-chunk-at (chunk-at-reads.Asked, chunk-at-reads.Learnt) reads.Pre reads.Post Inv-loop μ-loop) → c .before .loop .passed + ones (c .chunk-at .result) < 1048640
-small c =
-    let s = c .before .before .before in
-    omega (arith, counted c, chunk-few (view (s .args .start) (s .args .len) (now (s .args .words))) (c .before .loop .done), view-few (s .args .start) (s .args .len) (now (s .args .words)) (s .pre .0 .1))
+  counted : ones (c .self-chunk .result) ≡ count (chunkAt (view (start .args .start) (start .args .len) (now (start .args .words))) (c .before .loop .place .done .0))
+  counted = chunk-count (view (start .args .start) (start .args .len) (now (start .args .words))) (c .before .loop .place .done .0) (c .self-chunk .result) (c .self-chunk .ensures)
+
+  small : c .before .loop .place .passed .0 + ones (c .self-chunk .result) < 1048640
+  small =
+      let a = start .args in
+      omega (arith, counted, chunk-few (view (a .start) (a .len) (now (a .words))) (c .before .loop .place .done .0), view-few (a .start) (a .len) (now (a .words)) (start .pre .0 .1))
 
 cast-count : tie.Need-cast-count Inv-loop μ-loop
 cast-count c = omega (arith, small c)
 
 add-if1 : tie.Need-add-if1 Inv-loop μ-loop
-add-if1 c = omega (arith, small c)
+add-if1 c = omega (arith, small (c .before))
 
 returns : tie.Need-returns Inv-loop μ-loop
 returns c =
-    let l = c .before .before .before .loop in
-    record { walked = l .inv .0; reached = l .inv .1; held = omega (arith, counted (c .before .before)) }
+    let k = c .before .before .before in
+    record { walked = k .before .loop .inv .0; reached = k .before .loop .inv .1; held = omega (arith, counted k) }
 
-add-passed : tie.Need-add-passed Inv-loop μ-loop
-add-passed c = omega (arith, small (c .before .before))
+add-t8 : tie.Need-add-t8 Inv-loop μ-loop
+add-t8 c = omega (arith, within (c .before .before .before .before .before))
 
-add-done : tie.Need-add-done Inv-loop μ-loop
-add-done c = omega (arith, within (c .before .before .before))
+add-t12 : tie.Need-add-t12 Inv-loop μ-loop
+add-t12 c = omega (arith, small (c .before .before .before .before .before))
 
 loop-less : tie.Need-loop-less Inv-loop μ-loop
-loop-less c = omega (arith, within (c .before .before .before))
+loop-less c = omega (arith, within (c .before .before .before .before .before .before))
 
 loop-again : tie.Need-loop-again Inv-loop μ-loop
 loop-again c =
-    let l = c .before .before .before .loop in
-    let a = c .before .before .before .before .before .args in
-    (omega (arith, l .inv .0, counted (c .before .before), rank-next (view (a .start) (a .len) (now (a .words))) (l .done)), omega arith)
+    let k = c .before .before .before .before .before in
+    let a = start k .args in
+    let l = k .before .loop in
+    (omega (arith, l .inv .0, counted k, rank-next (view (a .start) (a .len) (now (a .words))) (l .place .done .0)), omega arith)
 
 pub seek-spec : {M : Type 1} → statement M
 seek-spec =
@@ -79,11 +78,11 @@ seek-spec =
     Inv-loop
     μ-loop
     loop-holds
-    chunk-at-requires
+    self-chunk-requires
     cast-count
     add-if1
     returns
-    add-passed
-    add-done
+    add-t8
+    add-t12
     loop-less
     loop-again)

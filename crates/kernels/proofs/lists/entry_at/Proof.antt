@@ -5,17 +5,17 @@ use borrow.Author.Needs.{needs}
 use Rattle.kernels.proofs.lists.entry_at.Statement.{statement}
 use Rattle.kernels.proofs.lists.entry_at.Tie as tie
 
-mul-row : tie.Need-mul-row
-mul-row c = search needs
+mul-entry : tie.Need-mul-entry
+mul-entry c = search needs
 
-shared-slice-read-row : tie.Need-shared-slice-read-row
-shared-slice-read-row c = search needs
+shared-slice-read-entry : tie.Need-shared-slice-read-entry
+shared-slice-read-entry c = search needs
 
-cast-row : tie.Need-cast-row
-cast-row c = omega (arith, c .shared-slice-known .given (c .before .args .rank .0))
+cast-entry : tie.Need-cast-entry
+cast-entry c = omega (arith, c .shared-slice-known .given (c .before .args .rank .0))
 
 returns : tie.Need-returns
 returns c = search needs
 
 pub entry-at-spec : {M : Type 1} → statement M
-entry-at-spec = tie.close (tie.spec mul-row shared-slice-read-row cast-row returns)
+entry-at-spec = tie.close (tie.spec mul-entry shared-slice-read-entry cast-entry returns)

@@ -29,42 +29,36 @@ abbrev μ-loop : tie.MeasureT-loop
 loop-holds : tie.Need-loop-holds Inv-loop μ-loop
 loop-holds c = (omega arith, refl, refl)
 
-mul-rank : tie.Need-mul-rank Inv-loop μ-loop
-mul-rank c = omega arith
+mul-entry : tie.Need-mul-entry Inv-loop μ-loop
+mul-entry c = omega arith
 
-shared-slice-read-rank : tie.Need-shared-slice-read-rank Inv-loop μ-loop
-shared-slice-read-rank c = omega arith
+shared-slice-read-entry : tie.Need-shared-slice-read-entry Inv-loop μ-loop
+shared-slice-read-entry c = omega arith
 
-cast-rank : tie.Need-cast-rank Inv-loop μ-loop
-cast-rank c = omega (arith, c .shared-slice-known3 .given (c .before .before .loop .i))
+cast-entry : tie.Need-cast-entry Inv-loop μ-loop
+cast-entry c = omega (arith, c .shared-slice-known3 .given (c .before .before .loop .i))
+
+-- the listed rank is one of self's
+ranked : (c : tie.After-shared-slice-known3 Inv-loop μ-loop)
+    → getD (now (c .before .before .before .before .before .before .args .ranks)) (c .before .before .loop .i) 0 < length (now (c .before .before .before .before .before .before .args .rows))
+ranked c =
+    let s = c .before .before .before .before .before .before in
+    let n : ℕ = length (now (s .args .rows)) in
+    below-at n (now (s .args .ranks)) (c .before .before .loop .i) (ascending-below 0 n (now (s .args .ranks)) (s .pre .1)) (omega arith)
 
 entry-at-requires : tie.Need-entry-at-requires Inv-loop μ-loop
-entry-at-requires c κs =
-    let s = c .before .before .before .before .before .before in
-    let a = s .args in
-    let l = c .before .before .loop in
-    let rank : getD (now (a .ranks)) (l .i) 0 < length (now (a .rows)) = below-at (length (now (a .rows))) (now (a .ranks)) (l .i) (ascending-below 0 (length (now (a .rows))) (now (a .ranks)) (s .pre .1)) (omega arith) in
-    rank
+entry-at-requires c κs = ranked c
 
-add-set-bit : tie.Need-add-set-bit Inv-loop μ-loop
-add-set-bit c =
-    let s = c .before .before .before .before .before .before .before .before .before in
+mark-row-requires : tie.Need-mark-row-requires Inv-loop μ-loop
+mark-row-requires c κs =
+    let k = c .before .before in
+    let l = k .before .before in
+    let s = l .before .before .before .before in
     let a = s .args in
-    let l = c .before .before .before .before .before .loop in
-    let rank : getD (now (a .ranks)) (l .i) 0 < length (now (a .rows)) = below-at (length (now (a .rows))) (now (a .ranks)) (l .i) (ascending-below 0 (length (now (a .rows))) (now (a .ranks)) (s .pre .1)) (omega arith) in
-    let row : getD (now (a .rows)) (getD (now (a .ranks)) (l .i) 0) 0 < a .len = below-at (a .len) (now (a .rows)) (getD (now (a .ranks)) (l .i) 0) (ascending-below 0 (a .len) (now (a .rows)) (s .pre .0)) rank in
-    let e : c .before .before .entry-at .result .0 ≡ getD (now (a .rows)) (getD (now (a .ranks)) (l .i) 0) 0 = c .before .before .entry-at .ensures in
-    omega (arith, s .pre .3)
-
-set-bit-requires : tie.Need-set-bit-requires Inv-loop μ-loop
-set-bit-requires c κs =
-    let s = c .before .before .before .before .before .before .before .before .before in
-    let a = s .args in
-    let l = c .before .before .before .before .before .loop in
-    let rank : getD (now (a .ranks)) (l .i) 0 < length (now (a .rows)) = below-at (length (now (a .rows))) (now (a .ranks)) (l .i) (ascending-below 0 (length (now (a .rows))) (now (a .ranks)) (s .pre .1)) (omega arith) in
-    let row : getD (now (a .rows)) (getD (now (a .ranks)) (l .i) 0) 0 < a .len = below-at (a .len) (now (a .rows)) (getD (now (a .ranks)) (l .i) 0) (ascending-below 0 (a .len) (now (a .rows)) (s .pre .0)) rank in
-    let e : c .before .before .entry-at .result .0 ≡ getD (now (a .rows)) (getD (now (a .ranks)) (l .i) 0) 0 = c .before .before .entry-at .ensures in
-    omega (arith, s .pre .2, l .inv .1)
+    let rank : ℕ = getD (now (a .ranks)) (l .loop .i) 0 in
+    let row : getD (now (a .rows)) rank 0 < a .len = below-at (a .len) (now (a .rows)) rank (ascending-below 0 (a .len) (now (a .rows)) (s .pre .0)) (ranked k) in
+    let e : c .before .entry-at .result .0 ≡ getD (now (a .rows)) rank 0 = c .before .entry-at .ensures in
+    (omega (arith, s .pre .2, l .loop .inv .1), omega (arith, s .pre .3))
 
 add-i : tie.Need-add-i Inv-loop μ-loop
 add-i c = omega arith
@@ -74,19 +68,20 @@ loop-less c = omega arith
 
 loop-again : tie.Need-loop-again Inv-loop μ-loop
 loop-again c =
-    let s = c .before .before .before .before .before .before .before .before .before .before .before .before in
+    let k = c .before .before .before .before in
+    let l = k .before .before .before .loop in
+    let s = k .before .before .before .before .before .before .before in
     let a = s .args in
-    let l = c .before .before .before .before .before .before .before .before .loop in
     let rows = now (a .rows) in
     let ranks = now (a .ranks) in
     let result = setRows 0 (compose (listed (a .len) rows) (listed (length rows) ranks)) in
-    let e = c .before .before .set-bit .ensures in
-    let row : c .before .before .before .before .before .entry-at .result .0 ≡ getD result (l .i) 0 = c .before .before .before .before .before .entry-at .ensures ∙ sym (ranked-at (a .len) rows ranks (s .pre .0) (s .pre .1) (l .i) (omega arith)) in (
+    let e = c .before .before .mark-row .ensures in
+    let row : k .entry-at .result .0 ≡ getD result (l .i) 0 = k .entry-at .ensures ∙ sym (ranked-at (a .len) rows ranks (s .pre .0) (s .pre .1) (l .i) (omega arith)) in (
       omega arith,
-      ap length e ∙ laid-length 64 (a .at + c .before .before .before .before .before .entry-at .result .0) (true ∷ []) (l .out) ∙ l .inv .1,
+      ap length e ∙ laid-length 64 (a .at + k .entry-at .result .0) (true ∷ []) (l .out) ∙ l .inv .1,
       e ∙ ap₂ (λ (x : ℕ) (o : List ℕ). laid (a .at + x) (true ∷ []) o) row (l .inv .2)
           ∙ marked-next (a .at) (l .i) result (now (a .out)) (omega (arith, ranked-length (a .len) rows ranks (s .pre .0) (s .pre .1)))
-          ∙ ap (λ (k : ℕ). marked (a .at) (take k result) (now (a .out))) (sym (add-one (l .i))),
+          ∙ ap (λ (j : ℕ). marked (a .at) (take j result) (now (a .out))) (sym (add-one (l .i))),
     )
 
 same-length : tie.Need-same-length Inv-loop μ-loop
@@ -106,12 +101,11 @@ intersect-by-rank-indices-spec =
     Inv-loop
     μ-loop
     loop-holds
-    mul-rank
-    shared-slice-read-rank
-    cast-rank
+    mul-entry
+    shared-slice-read-entry
+    cast-entry
     entry-at-requires
-    add-set-bit
-    set-bit-requires
+    mark-row-requires
     add-i
     loop-less
     loop-again

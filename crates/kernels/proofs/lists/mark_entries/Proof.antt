@@ -33,54 +33,64 @@ abbrev μ-loop : tie.MeasureT-loop
 loop-holds : tie.Need-loop-holds Inv-loop μ-loop
 loop-holds c = (c .before .before .fits .chunk .fits, refl, c .before .before .pre .2, refl)
 
-cast-rank : tie.Need-cast-rank Inv-loop μ-loop
-cast-rank c = omega (arith, trailing-le 64 (c .before .loop .rest))
+cast-bit : tie.Need-cast-bit Inv-loop μ-loop
+cast-bit c = omega (arith, trailing-le 64 (c .before .loop .rest))
 
-add-rank : tie.Need-add-rank Inv-loop μ-loop
-add-rank c =
-    let b = rw (rows-low (c .before .before .before .before .before .args .base .0) 64 (c .before .before .loop .rest) (omega arith) (c .before .before .loop .inv .0)) at (c .before .before .loop .inv .2) in
-    omega (arith, b .0, c .before .before .before .before .shared-slice-known .given 0)
+-- a turn: the lowest rank of the rest has an entry, and so have the others
+module _ (c : tie.In-loop Inv-loop μ-loop) where
+  abbrev start : tie.Start Inv-loop μ-loop
+  start = c .before .before .before .before
+
+  abbrev base : ℕ
+  base = start .args .base .0
+
+  abbrev rest : ℕ
+  rest = c .before .loop .rest
+
+  abbrev lowest : ℕ
+  lowest = base + trailingZeros 64 rest
+
+  abbrev others : List ℕ
+  others = setRows base (bitsOf 64 (bitAnd rest (rest - 1)))
+
+  split : setRows base (bitsOf 64 rest) ≡ lowest ∷ others
+  split = rows-low base 64 rest (omega arith) (c .before .loop .inv .0)
+
+  below : (lowest < length (now (start .args .rows))) × Below (length (now (start .args .rows))) others
+  below = rw split at (c .before .loop .inv .2)
+
+add-rest : tie.Need-add-rest Inv-loop μ-loop
+add-rest c = omega (arith, below (c .before) .0, c .before .before .before .before .shared-slice-known .given 0)
 
 entry-at-requires : tie.Need-entry-at-requires Inv-loop μ-loop
-entry-at-requires c κs =
-    let b = rw (rows-low (c .before .before .before .before .before .args .base .0) 64 (c .before .before .loop .rest) (omega arith) (c .before .before .loop .inv .0)) at (c .before .before .loop .inv .2) in
-    b .0
+entry-at-requires c κs = below (c .before) .0
 
-add-set-bit : tie.Need-add-set-bit Inv-loop μ-loop
-add-set-bit c =
-    let a = c .before .before .before .before .before .before .before .before .args in
-    let b = rw (rows-low (c .before .before .before .before .before .before .before .before .args .base .0) 64 (c .before .before .before .before .before .loop .rest) (omega arith) (c .before .before .before .before .before .loop .inv .0)) at (c .before .before .before .before .before .loop .inv .2) in
-    let row = below-at (a .len) (now (a .rows)) (a .base .0 + trailingZeros 64 (c .before .before .before .before .before .loop .rest)) (c .before .before .before .before .before .before .before .before .pre .0) (b .0) in
-    omega (arith, row, c .before .before .entry-at .ensures, c .before .before .before .before .before .before .before .before .pre .1)
-
-set-bit-requires : tie.Need-set-bit-requires Inv-loop μ-loop
-set-bit-requires c κs =
-    let a = c .before .before .before .before .before .before .before .before .args in
-    let b = rw (rows-low (c .before .before .before .before .before .before .before .before .args .base .0) 64 (c .before .before .before .before .before .loop .rest) (omega arith) (c .before .before .before .before .before .loop .inv .0)) at (c .before .before .before .before .before .loop .inv .2) in
-    let row = below-at (a .len) (now (a .rows)) (a .base .0 + trailingZeros 64 (c .before .before .before .before .before .loop .rest)) (c .before .before .before .before .before .before .before .before .pre .0) (b .0) in
-    omega (arith, row, c .before .before .entry-at .ensures, c .before .before .before .before .before .before .before .before .pre .1, c .before .before .before .before .before .loop .inv .1)
+mark-row-requires : tie.Need-mark-row-requires Inv-loop μ-loop
+mark-row-requires c κs =
+    let k = c .before .before .before in
+    let s = start k in
+    let row = below-at (s .args .len) (now (s .args .rows)) (lowest k) (s .pre .0) (below k .0) in
+    (omega (arith, row, c .before .entry-at .ensures, s .pre .1 .0, k .before .loop .inv .1), omega (arith, row, c .before .entry-at .ensures, s .pre .1 .1))
 
 sub-rest : tie.Need-sub-rest Inv-loop μ-loop
 sub-rest c = search needs
 
 loop-less : tie.Need-loop-less Inv-loop μ-loop
-loop-less c = omega (arith, count-low 64 (c .before .before .before .before .before .before .before .before .loop .rest) (omega arith) (c .before .before .before .before .before .before .before .before .loop .inv .0))
+loop-less c =
+    let k = c .before .before .before .before .before .before in
+    omega (arith, count-low 64 (rest k) (omega arith) (k .before .loop .inv .0))
 
 loop-again : tie.Need-loop-again Inv-loop μ-loop
 loop-again c =
-    let a = c .before .before .before .before .before .before .before .before .before .before .before .args in
-    let l = c .before .before .before .before .before .before .before .before .loop in
-    let b : ℕ = a .base .0 in
-    let f : ℕ → ℕ = λ k. getD (now (a .rows)) k 0 in
-    let r : ℕ = b + trailingZeros 64 (l .rest) in
-    let low = rows-low b 64 (l .rest) (omega arith) (l .inv .0) in
-    let left = setRows b (bitsOf 64 (bitAnd (l .rest) (l .rest - 1))) in
-    let below = rw low at (l .inv .2) in
-    let out = c .before .before .set-bit .ensures ∙ ap (λ (x : ℕ). laid (a .at + x) (true ∷ []) (l .out)) (c .before .before .before .before .before .entry-at .ensures) in (
+    let k = c .before .before .before .before .before .before in
+    let a = start k .args in
+    let l = k .before .loop in
+    let f : ℕ → ℕ = λ j. getD (now (a .rows)) j 0 in
+    let out = c .before .before .mark-row .ensures ∙ ap (λ (x : ℕ). laid (a .at + x) (true ∷ []) (l .out)) (c .before .before .before .before .entry-at .ensures) in (
       omega (arith, and-le-l (l .rest) (l .rest - 1), l .inv .0),
-      ap length out ∙ laid-length 64 (a .at + f r) (true ∷ []) (l .out) ∙ l .inv .1,
-      below .1,
-      ap (marked (a .at) (map f left)) out ∙ sym (ap (λ (rs : List ℕ). marked (a .at) (map f rs) (l .out)) low) ∙ l .inv .3,
+      ap length out ∙ laid-length 64 (a .at + f (lowest k)) (true ∷ []) (l .out) ∙ l .inv .1,
+      below k .1,
+      ap (marked (a .at) (map f (others k))) out ∙ sym (ap (λ (rs : List ℕ). marked (a .at) (map f rs) (l .out)) (split k)) ∙ l .inv .3,
     )
 
 same-length : tie.Need-same-length Inv-loop μ-loop
@@ -95,4 +105,18 @@ returns c =
     sym (ap (λ (rs : List ℕ). marked (a .at) (map f rs) (l .out)) none) ∙ l .inv .3
 
 pub mark-entries-spec : {M : Type 1} → statement M
-mark-entries-spec = tie.close (tie.spec Inv-loop μ-loop loop-holds cast-rank add-rank entry-at-requires add-set-bit set-bit-requires sub-rest loop-less loop-again same-length returns)
+mark-entries-spec =
+    tie.close
+    (tie.spec
+    Inv-loop
+    μ-loop
+    loop-holds
+    cast-bit
+    add-rest
+    entry-at-requires
+    mark-row-requires
+    sub-rest
+    loop-less
+    loop-again
+    same-length
+    returns)

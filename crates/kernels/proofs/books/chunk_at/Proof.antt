@@ -1,4 +1,4 @@
--- `kernels::driven::chunk_at` meets its contract.
+-- `kernels::books::chunk_at` meets its contract.
 -- The bits cut at the view's end are the view's next 64 rows, or those that are left; a word as it lies is its bits. Assumes nothing.
 use Prim.Native.Nat.{ℕ, _+_, _-_, _*_, _/_, min}
 use mathlib.Core.Path.{_≡_, sym, ap, ap₂, _∙_}
@@ -10,8 +10,8 @@ use Rattle.rows.specs.Words.{fit, bitsOfAll}
 use Rattle.rows.proofs.FitLaws.{word-from}
 use Rattle.kernels.proofs.DrivenLaws.{chunk-is}
 use borrow.Author.Needs.{needs}
-use Rattle.kernels.proofs.driven.chunk_at.Statement.{statement}
-use Rattle.kernels.proofs.driven.chunk_at.Tie as tie
+use Rattle.kernels.proofs.books.chunk_at.Statement.{statement}
+use Rattle.kernels.proofs.books.chunk_at.Tie as tie
 
 chunk-len-requires : tie.Need-chunk-len-requires
 chunk-len-requires c κs = search needs

@@ -1,4 +1,4 @@
--- `kernels::deposit::rank_bits` meets its contract: the place is the sum.
+-- `kernels::books::rank_bits` meets its contract: the place is the sum.
 -- By the contract of `read`. Assumes nothing.
 use Prim.Native.Nat.{ℕ, _+_}
 use native.Mathlib.Nat.{add-zero}
@@ -8,8 +8,8 @@ use denote.Ref.{now}
 use Rattle.rows.specs.Word.{wordOf}
 use Rattle.rows.specs.Words.{fit, bitsOfAll}
 use borrow.Author.Needs.{needs}
-use Rattle.kernels.proofs.deposit.rank_bits.Statement.{statement}
-use Rattle.kernels.proofs.deposit.rank_bits.Tie as tie
+use Rattle.kernels.proofs.books.rank_bits.Statement.{statement}
+use Rattle.kernels.proofs.books.rank_bits.Tie as tie
 
 add-at : tie.Need-add-at
 add-at c = search needs
@@ -18,7 +18,9 @@ read-requires : tie.Need-read-requires
 read-requires c κs = search needs
 
 returns : tie.Need-returns
-returns c = c .read .ensures ∙ ap (λ (k : ℕ). wordOf (fit 64 (drop k (bitsOfAll 64 (now (c .before .before .before .args .ranks)))))) (add-zero (c .before .before .before .args .from + c .before .before .before .args .rank .0))
+returns c =
+    let a = c .before .before .before .args in
+    c .read .ensures ∙ ap (λ (k : ℕ). wordOf (fit 64 (drop k (bitsOfAll 64 (now (a .ranks)))))) (add-zero (a .from + a .rank .0))
 
 pub rank-bits-spec : {M : Type 1} → statement M
 rank-bits-spec = tie.close (tie.spec add-at read-requires returns)
