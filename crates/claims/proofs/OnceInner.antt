@@ -9,6 +9,8 @@ use Rattle.host.proofs.boltamber_deposit.Kinds as host-boltamber-deposit-kinds
 use Rattle.host.proofs.boltamber_deposit.Reads as host-boltamber-deposit
 use Rattle.host.proofs.boltamber_select.Kinds as host-boltamber-select-kinds
 use Rattle.host.proofs.boltamber_select.Reads as host-boltamber-select
+use Rattle.intersect_by_rank.proofs.inner.few.Kinds as intersect-by-rank-few-kinds
+use Rattle.intersect_by_rank.proofs.inner.few.Reads as intersect-by-rank-few
 use Rattle.intersect_by_rank.proofs.inner.compose_at.Kinds as intersect-by-rank-compose-at-kinds
 use Rattle.intersect_by_rank.proofs.inner.compose_at.Reads as intersect-by-rank-compose-at
 use Rattle.intersect_by_rank.proofs.inner.lay_composition.Kinds as intersect-by-rank-lay-composition-kinds
@@ -109,6 +111,9 @@ host-boltamber-deposit-one κs a p x y v w hv hw = (hv ∙ sym hw, refl)
 
 pub host-boltamber-select-one : OneAnswer 0 host-boltamber-select-kinds.ps host-boltamber-select-kinds.r host-boltamber-select.Pre host-boltamber-select.Post
 host-boltamber-select-one κs a p x y v w hv hw = (hv ∙ sym hw, refl)
+
+pub intersect-by-rank-few-one : OneAnswer 0 intersect-by-rank-few-kinds.ps intersect-by-rank-few-kinds.r intersect-by-rank-few.Pre intersect-by-rank-few.Post
+intersect-by-rank-few-one κs a p x y v w hv hw = (hv ∙ sym hw, refl)
 
 pub intersect-by-rank-compose-at-one : OneAnswer 5 intersect-by-rank-compose-at-kinds.ps intersect-by-rank-compose-at-kinds.r intersect-by-rank-compose-at.Pre intersect-by-rank-compose-at.Post
 intersect-by-rank-compose-at-one κs a p x y v w hv hw = (refl, ap (λ (l : List ℕ). (tt, (tt, (tt, (tt, (tt, (tt, (tt, (tt, (l, tt)))))))))) (hv ∙ sym hw))

@@ -1,10 +1,10 @@
 // Holds the whole-number tests that choose a route to the tests on the density that answers carry: at every length up to
 // 65,536 and at the counts around the place where a test turns.
 ghost use mathlib.Core.Path.{_≡_};
-ghost use Prim.Native.Nat.{_+_, _*_, _≤_, _<_};
-ghost use lib.Dec.{ltb};
+ghost use Prim.Native.Nat.{_+_, _≤_, _<_};
 ghost use lib.Ieee.{lt};
 ghost use Rattle.mask.specs.Answer.{densityOf};
+use intersect_by_rank::inner::few;
 use libc::STDOUT_FILENO;
 
 // How many pairs of a count and a length were compared, and at how many of them the two tests differ.
@@ -13,15 +13,7 @@ struct Tally {
     differing: u64,
 }
 
-// The test that a route rests on. Its contract is that of few in intersect_by_rank, which is private there.
-fn few(factor: u32, count: u64, length: u64) -> bool
-    requires { ⌜ count ≤ 1048576 ⌝ }
-    ensures { λ b. ⌜ b ≡ ltb (factor * count) length ⌝ }
-{
-    factor as u64 * count < length
-}
-
-// The same on the density that an answer carries, as the Rust tests a sixteenth.
+// What `few` tests, which a route rests on, on the density that an answer carries, as the Rust tests a sixteenth.
 fn thin(bound: f64, count: u64, length: u64) -> bool
     requires { ⌜ (count ≤ 1048576) × (length ≤ 1048576) ⌝ }
     ensures { λ b. ⌜ b ≡ lt (densityOf count length) bound ⌝ }

@@ -1,7 +1,8 @@
-// What the composer calls too: the checks of both operands, and a composition laid over the output from any bit on, by a route of the table; and a
-// whole composition with the factors handed in.
+// What the composer calls too: the checks of both operands, and a composition laid over the output from any bit on, by a route of the table; a
+// whole composition with the factors handed in; and the test on a count that a route rests on.
 ghost use mathlib.Core.Path.{_≡_};
 ghost use Prim.Native.Nat.{_+_, _*_, _^_, _≤_, _<_};
+ghost use lib.Dec.{ltb};
 ghost use lib.ListN.{length};
 ghost use denote.Ref.{now};
 ghost use Rattle.rows.specs.Laid.{laid, wordsFor, written};
@@ -37,6 +38,14 @@ use mask::inner::refused;
 use mask::inner::start_of;
 use mask::inner::then;
 use rows::Verdict;
+
+// So few rows that the factor times their count is below the length. The product fits: a count is at most 2^20.
+pub fn few(factor: u32, count: u64, length: u64) -> bool
+    requires { ⌜ count ≤ 1048576 ⌝ }
+    ensures { λ b. ⌜ b ≡ ltb (factor * count) length ⌝ }
+{
+    factor as u64 * count < length
+}
 
 // Route 6, for either form of the rank mask.
 fn lay_mask_driven(

@@ -1,4 +1,4 @@
-// Composition by rank: a rank mask laid back onto the rows of self. Document 01, parts 6 and 7.
+// Composition by rank: a rank mask laid back onto the rows of self. Document 01, part 7; part 6 is `kernels`.
 ghost use mathlib.Core.Path.{_≡_};
 ghost use denote.Ref.{now};
 ghost use Rattle.intersect_by_rank.specs.Route.{published};

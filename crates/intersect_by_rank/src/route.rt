@@ -7,6 +7,7 @@ ghost use denote.Ref.{now};
 ghost use Rattle.mask.specs.Operand.{lengthOf, countOf, isList};
 ghost use Rattle.intersect_by_rank.specs.Route.{wayOf, routeOf, numberOf};
 use super::Factors;
+use super::inner::few;
 use kernels::Way;
 use mask::Form;
 use mask::inner::count_of;
@@ -46,14 +47,6 @@ pub fn number(route: Route) -> u8
             Way::Loop => 10,
         },
     }
-}
-
-// So few rows that the factor times their count is below the length. The product fits: a count is at most 2^20.
-fn few(factor: u32, count: u64, length: u64) -> bool
-    requires { ⌜ count ≤ 1048576 ⌝ }
-    ensures { λ b. ⌜ b ≡ ltb (factor * count) length ⌝ }
-{
-    factor as u64 * count < length
 }
 
 // The loop form for a sparse self.

@@ -6,7 +6,7 @@ use native.Mathlib.Nat.{add-zero, suc-add, add-suc, pow-suc}
 use native.Mathlib.Decide.{ℕ-discrete}
 use mathlib.Core.Path.{_≡_, refl, sym, ap, ap₂, _∙_, subst}
 use mathlib.Core.Logic.{_≢_}
-use mathlib.Core.Bool.{Bool, true, false, _||_}
+use mathlib.Core.Bool.{Bool, true, false, _||_, or-false}
 use mathlib.Core.List.{List, [], _∷_, _++_}
 use native.Mathlib.Omega.{arith}
 use lib.ListN.{length, take, drop, getD, take-append-drop}
@@ -120,23 +120,12 @@ gather-turn rank c j e rows h is lo hi =
     ap (bitOr (wordOf (tab rank c (λ i. member i (take j rows))))) (sym (word-one rank c e lo hi))
     ∙ sym (word-or rank c (λ i. member i (take j rows)) (λ i. eqb i e))
     ∙ ap wordOf (tab-same rank c (λ i. member i (take j rows) || eqb i e) (λ i. member i (take (suc j) rows)) (λ i p q.
-    sym (ap (member i) (take-suc rows j 0 h) ∙ member-append i (take j rows) (getD rows j 0 ∷ []) ∙ ap (λ (x : Bool). member i (take j rows) || x) (last i ∙ ap (eqb i) (sym is)))))
-  where
-    last : (i : ℕ) → (eqb i (getD rows j 0) || false) ≡ eqb i (getD rows j 0)
-    last i = or-false (eqb i (getD rows j 0))
-      where
-        or-false : (b : Bool) → (b || false) ≡ b
-        or-false true = refl
-        or-false false = refl
+    sym (ap (member i) (take-suc rows j 0 h) ∙ member-append i (take j rows) (getD rows j 0 ∷ []) ∙ ap (λ (x : Bool). member i (take j rows) || x) (or-false (eqb i (getD rows j 0)) ∙ ap (eqb i) (sym is)))))
 
 pub gather-end : (rank c j : ℕ) (rows : List ℕ) → Climbs (rank + c) (drop j rows) → wordOf (tab rank c (λ i. member i (take j rows))) ≡ wordOf (tab rank c (λ i. member i rows))
 gather-end rank c j rows k =
     ap wordOf (tab-same rank c (λ i. member i (take j rows)) (λ i. member i rows) (λ i p q.
     sym (ap (member i) (sym (take-append-drop j rows)) ∙ member-append i (take j rows) (drop j rows) ∙ ap (λ (x : Bool). member i (take j rows) || x) (member-climbs (rank + c) i (drop j rows) k q) ∙ or-false (member i (take j rows)))))
-  where
-    or-false : (b : Bool) → (b || false) ≡ b
-    or-false true = refl
-    or-false false = refl
 
 -- the entry at j, and those after it
 pub climbs-at : (b j : ℕ) (rows : List ℕ) → j < length rows → Climbs b (drop j rows) → (b ≤ getD rows j 0) × Climbs (suc (getD rows j 0)) (drop (suc j) rows)

@@ -92,7 +92,7 @@ pub nothing-is-13 : textOf [] ≡ lines 13 0 0 []
 nothing-is-13 = ill-formed-told [] (λ self rank w. omega (arith, said-length [] self rank (w .said)))
 
 -- only 0, 7 and 13 are answered, and told: the first line is one of three. And all lines have at most 8,228 bytes
-pub record Told (input : List ℕ) : Type 0 where
+pub record OnlyThese (input : List ℕ) : Type 0 where
   pub number : (answerFor input .refusal .number ≡ 0) ⊎ (answerFor input .refusal .number ≡ 7) ⊎ (answerFor input .refusal .number ≡ 13)
   pub first-line : (begins (ascii "refusal=0\n") (textOf input) ≡ true) ⊎ (begins (ascii "refusal=7\n") (textOf input) ≡ true) ⊎ (begins (ascii "refusal=13\n") (textOf input) ≡ true)
   pub short : length (textOf input) ≤ 8228
@@ -102,7 +102,7 @@ first-lines : (route set : ℕ) (rows : List Bool)
 unfolding lines decimal decimalIn
 first-lines route set rows = (refl, refl, refl)
 
-pub only-these : (input : List ℕ) → Told input
+pub only-these : (input : List ℕ) → OnlyThese input
 only-these input = go (decWell input (selfIn input) (rankIn input)) (ℕ-discrete (length (rankIn input)) (count (selfIn input)))
   where
     numberIn : Answer → ℕ
@@ -111,7 +111,7 @@ only-these input = go (decWell input (selfIn input) (rankIn input)) (ℕ-discret
     one : (d : ℕ) → d < 10 → length (decimal d) ≤ 1
     one d h = decimal-short 0 d h
 
-    go : Dec (WellFormed input (selfIn input) (rankIn input)) → Dec (length (rankIn input) ≡ count (selfIn input)) → Told input
+    go : Dec (WellFormed input (selfIn input) (rankIn input)) → Dec (length (rankIn input) ≡ count (selfIn input)) → OnlyThese input
     go (yes w) (yes e) =
         let self = selfIn input in
         let rank = rankIn input in
@@ -161,12 +161,7 @@ written-within input room w e = go (decLe (length (textOf input)) room) e
     go (yes h) q = omega (arith, ap (λ (x : Written). x .len) q)
     go (no h) q = omega (arith, ap (λ (x : Written). x .len) q)
 
--- an output of 8,228 bytes is never too short
-pub always-room : (input : List ℕ) (room : ℕ) → 8228 ≤ room → writtenFor input room ≡ withText (answerFor input) (textOf input)
-unfolding writtenFor
-always-room input room h = chosen (decLe (length (textOf input)) room) _ _ (omega (arith, only-these input .short))
-
--- and a shorter one is where 8 is answered
+-- 8 is answered where the output is shorter than the text
 pub eight-exactly : (input : List ℕ) (room : ℕ) → (writtenFor input room .answer .refusal .number ≡ 8) ↔ (room < length (textOf input))
 unfolding writtenFor
 eight-exactly input room = (to (decLe (length (textOf input)) room), from)

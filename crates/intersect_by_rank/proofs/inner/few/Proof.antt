@@ -1,10 +1,10 @@
--- `density::few` meets its contract: the product fits, and the test is the definition's.
+-- `intersect_by_rank::inner::few` meets its contract: the product fits, and the test is the definition's.
 -- A factor of 32 bits times a count of at most 2^20. Assumes nothing.
 use native.Mathlib.Nat.{mul-le-mul-right}
 use native.Mathlib.Omega.{arith}
 use borrow.Author.Needs.{needs}
-use Rattle.density.proofs.few.Statement.{statement}
-use Rattle.density.proofs.few.Tie as tie
+use Rattle.intersect_by_rank.proofs.inner.few.Statement.{statement}
+use Rattle.intersect_by_rank.proofs.inner.few.Tie as tie
 
 mul-result : tie.Need-mul-result
 mul-result c =
