@@ -1,14 +1,14 @@
 #!/usr/bin/env python3
 """The quotients that crates/mask/proofs/Densities.antt holds the density to, as that file has them: a line for each.
 
-Each quotient is made of whole numbers alone: of all m * 2^e with m below 2^53, the one nearest to n / length, with m odd. Python's own
-division, which the processor makes, has to agree.
+Each quotient is made of whole numbers alone: of all m * 2^e with m below 2^53, the one nearest to n / length, with m odd; and 0 at
+length 0, as document 01 has it. Python's own division, which the processor makes, has to agree.
 """
 from fractions import Fraction
 
 LIMIT = 1_048_576
 PAIRS = [
-    (0, 1), (1, 1), (2, 8), (1, 3), (2, 3), (1, 10), (3, 6_200), (5, 6_200),
+    (0, 0), (0, 1), (1, 1), (2, 8), (1, 3), (2, 3), (1, 10), (3, 6_200), (5, 6_200),
     (1, LIMIT), (LIMIT - 1, LIMIT), (349_525, LIMIT), (699_051, LIMIT),
     (1, LIMIT - 1), (LIMIT - 2, LIMIT - 1), (524_287, LIMIT - 1), (LIMIT, LIMIT),
 ]
@@ -41,5 +41,5 @@ def exponent(e):
 
 for n, length in PAIRS:
     m, e = nearest(n, length)
-    assert Fraction(n / length) == Fraction(m) * Fraction(2) ** e
+    assert length == 0 or Fraction(n / length) == Fraction(m) * Fraction(2) ** e
     print(f"quotient {n} {length} {m} {exponent(e)}")

@@ -100,19 +100,19 @@ pub probe-probe-rank-read-one : OneAnswer 3 probe-rank-read-kinds.ps probe-rank-
 probe-probe-rank-read-one κs a p x y v w hv hw = (refl, ap (λ (m : AnswerCells). (tt, (tt, (tt, (m .ans, (m .den, tt)))))) (hv ∙ sym hw))
 
 pub probe-probe-to-words-one : OneAnswer 5 probe-to-words-kinds.ps probe-to-words-kinds.r probe-to-words.Pre probe-to-words.Post
-probe-probe-to-words-one κs a p x y v w hv hw = (refl, ap (λ (m : Memory). (tt, (tt, (tt, (tt, (tt, (tt, (m .out, (m .cells .ans, (m .cells .den, tt)))))))))) (hv ∙ sym hw))
+probe-probe-to-words-one κs a p x y v w hv hw = (refl, ap (λ (m : Memory). (tt, (tt, (tt, (tt, (tt, (tt, (m .out, (m .answer .ans, (m .answer .den, tt)))))))))) (hv ∙ sym hw))
 
 pub probe-probe-to-list-one : OneAnswer 5 probe-to-list-kinds.ps probe-to-list-kinds.r probe-to-list.Pre probe-to-list.Post
-probe-probe-to-list-one κs a p x y v w hv hw = (refl, ap (λ (m : Memory). (tt, (tt, (tt, (tt, (tt, (tt, (m .out, (m .cells .ans, (m .cells .den, tt)))))))))) (hv ∙ sym hw))
+probe-probe-to-list-one κs a p x y v w hv hw = (refl, ap (λ (m : Memory). (tt, (tt, (tt, (tt, (tt, (tt, (m .out, (m .answer .ans, (m .answer .den, tt)))))))))) (hv ∙ sym hw))
 
 pub probe-probe-compose-one : OneAnswer 7 probe-compose-kinds.ps probe-compose-kinds.r probe-compose.Pre probe-compose.Post
-probe-probe-compose-one κs a p x y v w hv hw = (refl, ap (λ (m : Memory). (tt, (tt, (tt, (tt, (tt, (tt, (tt, (tt, (tt, (tt, (tt, (tt, (m .out, (m .cells .ans, (m .cells .den, tt)))))))))))))))) (hv ∙ sym hw))
+probe-probe-compose-one κs a p x y v w hv hw = (refl, ap (λ (m : Memory). (tt, (tt, (tt, (tt, (tt, (tt, (tt, (tt, (tt, (tt, (tt, (tt, (m .out, (m .answer .ans, (m .answer .den, tt)))))))))))))))) (hv ∙ sym hw))
 
 pub probe-probe-set-one : OneAnswer 7 probe-set-kinds.ps probe-set-kinds.r probe-set.Pre probe-set.Post
-probe-probe-set-one κs a p x y v w hv hw = (refl, ap (λ (m : Memory). (tt, (tt, (tt, (tt, (tt, (tt, (tt, (tt, (tt, (tt, (tt, (tt, (tt, (m .out, (m .cells .ans, (m .cells .den, tt))))))))))))))))) (hv ∙ sym hw))
+probe-probe-set-one κs a p x y v w hv hw = (refl, ap (λ (m : Memory). (tt, (tt, (tt, (tt, (tt, (tt, (tt, (tt, (tt, (tt, (tt, (tt, (tt, (m .out, (m .answer .ans, (m .answer .den, tt))))))))))))))))) (hv ∙ sym hw))
 
 pub probe-probe-feed-one : OneAnswer 7 probe-feed-kinds.ps probe-feed-kinds.r probe-feed.Pre probe-feed.Post
-probe-probe-feed-one κs a p x y v w hv hw = (refl, ap (λ (m : Memory). (tt, (tt, (tt, (tt, (tt, (tt, (tt, (tt, (tt, (tt, (tt, (tt, (tt, (tt, (tt, (m .out, (m .cells .ans, (m .cells .den, tt))))))))))))))))))) (hv ∙ sym hw))
+probe-probe-feed-one κs a p x y v w hv hw = (refl, ap (λ (m : Memory). (tt, (tt, (tt, (tt, (tt, (tt, (tt, (tt, (tt, (tt, (tt, (tt, (tt, (tt, (tt, (m .out, (m .answer .ans, (m .answer .den, tt))))))))))))))))))) (hv ∙ sym hw))
 
 pub probe-probe-program-one : OneAnswer 4 probe-program-kinds.ps probe-program-kinds.r probe-program.Pre probe-program.Post
-probe-probe-program-one κs a p x y v w hv hw = (refl, ap (λ (m : Memory). (tt, (m .out, (m .cells .ans, (m .cells .den, tt))))) (hv ∙ sym hw))
+probe-probe-program-one κs a p x y v w hv hw = (refl, ap (λ (m : Memory). (tt, (m .out, (m .answer .ans, (m .answer .den, tt))))) (hv ∙ sym hw))

@@ -45,6 +45,7 @@ cases =
     ∷ checks (Words 64 1 9) [] [] 2
     ∷ checks (Words 60 6 2) ((2 ^ 63) ∷ 1 ∷ []) [] 0
     ∷ checks (Words 60 6 3) ((2 ^ 63) ∷ 1 ∷ []) [] 4
+    ∷ quotient 0 0 0 (pos 0)
     ∷ quotient 0 1 0 (pos 0)
     ∷ quotient 1 1 1 (pos 0)
     ∷ quotient 2 8 1 (negsuc 1)
@@ -65,4 +66,4 @@ cases =
 
 pub examples : Every cases
 unfolding densityOf round first bitsOf ℕ-discrete decLe
-examples = (refl, (refl, (refl, (refl, (refl, (refl, (refl, (refl, (refl, (refl, (refl, (refl, (refl, (refl, (refl, (refl, (refl, (refl, (refl, (refl, (refl, (refl, (refl, (refl, (refl, (refl, (refl, (refl, (refl, (refl, (refl, tt)))))))))))))))))))))))))))))))
+examples = (refl, (refl, (refl, (refl, (refl, (refl, (refl, (refl, (refl, (refl, (refl, (refl, (refl, (refl, (refl, (refl, (refl, (refl, (refl, (refl, (refl, (refl, (refl, (refl, (refl, (refl, (refl, (refl, (refl, (refl, (refl, (refl, tt))))))))))))))))))))))))))))))))

@@ -74,9 +74,6 @@ module _ (f : Form) (ws es out : List ℕ) (well : Accepted f ws es) where
         writes (first (toWordsChecks f ws es out)) (fine (wordsFor (lengthOf f)) room) (lengthOf f) rows 0 out (accepted-length f ws es well) (row f ws es) (λ i h. refl)
 
   module _ (room : countOf f es ≤ length out) where
-    entries : List ℕ
-    entries = setRows 0 rows
-
     size : length (setRows 0 rows) ≡ countOf f es
     size = rows-count 0 rows ∙ accepted-count f ws es well
 

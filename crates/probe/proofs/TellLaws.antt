@@ -38,5 +38,5 @@ enough-room nans nden e =
 pub tells-over : (t u : Told) (l m : AnswerCells) → ready l ≡ true → t ≡ u → m ≡ over t l → m ≡ tells u l
 tells-over t u l m r e h = rw r (h ∙ ap (λ (x : Told). over x l) e)
 
-pub does-over : (d : Done) (t : Told) (out : List ℕ) (m : Memory) (l : AnswerCells) → ready (m .cells) ≡ true → ended t out ≡ d → l ≡ over t (m .cells) → record { out = out; cells = l } ≡ does d m
+pub does-over : (d : Done) (t : Told) (out : List ℕ) (m : Memory) (l : AnswerCells) → ready (m .answer) ≡ true → ended t out ≡ d → l ≡ over t (m .answer) → record { out = out; answer = l } ≡ does d m
 does-over d t out m l r e h = rw (r, h, ← e) refl

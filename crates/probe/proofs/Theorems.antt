@@ -38,8 +38,8 @@ not-ready l (inr h) = rw (lt-leb 1 (length (l .den)) h) (and-false (leb 16 (leng
 pub tells-nothing : (t : Told) (l : AnswerCells) → Short l → tells t l ≡ l
 tells-nothing t l h = rw (not-ready l h)
 
-pub does-nothing : (d : Done) (m : Memory) → Short (m .cells) → does d m ≡ m
-does-nothing d m h = rw (not-ready (m .cells) h)
+pub does-nothing : (d : Done) (m : Memory) → Short (m .answer) → does d m ≡ m
+does-nothing d m h = rw (not-ready (m .answer) h)
 
 -- ---- else all cells are written; cells past the 16th, and `den` past its first, stay
 
@@ -56,8 +56,8 @@ has-room l h k = rw (le-leb 16 (length (l .ans)) h, le-leb 1 (length (l .den)) k
 pub tells-written : (t : Told) (l : AnswerCells) → 16 ≤ length (l .ans) → 1 ≤ length (l .den) → Leaves t l (tells t l)
 tells-written t l h k = rw (has-room l h k) record { told = refl; density = refl; rest = refl; others = refl }
 
-pub does-written : (d : Done) (m : Memory) → 16 ≤ length (m .cells .ans) → 1 ≤ length (m .cells .den) → Leaves (d .told) (m .cells) (does d m .cells) × (does d m .out ≡ d .out)
-does-written d m h k = rw (has-room (m .cells) h k) (record { told = refl; density = refl; rest = refl; others = refl }, refl)
+pub does-written : (d : Done) (m : Memory) → 16 ≤ length (m .answer .ans) → 1 ≤ length (m .answer .den) → Leaves (d .told) (m .answer) (does d m .answer) × (does d m .out ≡ d .out)
+does-written d m h k = rw (has-room (m .answer) h k) (record { told = refl; density = refl; rest = refl; others = refl }, refl)
 
 -- ---- a form that is none of the four, in either operand: 99 in cell 0, 0 in all others, density 0.0, and no other memory changes
 

@@ -77,10 +77,10 @@ tells t l = cond (ready l) (over t l) l
 
 pub record Memory : Type 0 where
   pub out : List ℕ
-  pub cells : AnswerCells
+  pub answer : AnswerCells
 
 abbrev pub memory : List ℕ → List ℕ → List Float → Memory
-memory out ans den = record { out = out; cells = answerCells ans den }
+memory out ans den = record { out = out; answer = answerCells ans den }
 
 -- what the call tells, and the output as it leaves it
 pub record Done : Type 0 where
@@ -91,7 +91,7 @@ abbrev pub ended : Told → List ℕ → Done
 ended t out = record { told = t; out = out }
 
 abbrev pub does : Done → Memory → Memory
-does d m = cond (ready (m .cells)) (record { out = d .out; cells = over (d .told) (m .cells) }) m
+does d m = cond (ready (m .answer)) (record { out = d .out; answer = over (d .told) (m .answer) }) m
 
 -- ---- what is told: a cell that a call does not speak of is 0
 
