@@ -1,5 +1,5 @@
--- E1 to E12 of document 01, one statement over one list, by computation on the definitions that the contracts cite: E11, the program's
--- masks, in each mix of forms, and E12, the same in two feeds, stand here.
+-- E1 to E12 of document 01, one statement over one list, of the definitions that the contracts cite: E11, the program's masks, in each mix
+-- of forms, and E12, the same in two feeds, stand here, by computation.
 -- Assumes nothing.
 use Prim.Native.Nat.{ℕ, _+_, _-_, _^_}
 use mathlib.Core.Path.{_≡_, refl}
@@ -89,14 +89,6 @@ all-append : (xs ys : List Example) → AllTrue xs → AllTrue ys → AllTrue (x
 all-append [] ys a b = b
 all-append (x ∷ xs) ys a b = (a .0, all-append xs ys (a .1) b)
 
-words-true : (cs : List word-examples.Case) → word-examples.Every cs → AllTrue (map word cs)
-words-true [] h = tt
-words-true (c ∷ cs) h = (h .0, words-true cs (h .1))
-
-reads-true : (cs : List lent-examples.Case) → lent-examples.Every cs → AllTrue (map read cs)
-reads-true [] h = tt
-reads-true (c ∷ cs) h = (h .0, reads-true cs (h .1))
-
 masks-true : AllTrue (map composition masks)
 unfolding densityOf round composed composedOut routeOf first inOrder bitsOf wordOf ℕ-discrete decLe
 masks-true = ((refl, refl), ((refl, refl), ((refl, refl), ((refl, refl), tt))))
@@ -112,6 +104,6 @@ examples =
     let whole = map composition masks in
     all-append (words ++ reads ++ whole) (map stream pieces)
     (all-append (words ++ reads) whole
-    (all-append words reads (words-true word-examples.cases word-examples.examples) (reads-true lent-examples.cases lent-examples.examples))
+    (all-append words reads word-examples.examples lent-examples.examples)
     masks-true)
     pieces-true
