@@ -1,5 +1,5 @@
 #!/usr/bin/env python3
-"""The quotients that crates/mask/proofs/Examples.antt holds the density to, as that file has them: a line for each.
+"""The quotients that crates/rules/proofs/OperandExamples.antt holds the density to, as that file has them: a line for each.
 
 Each quotient is made of whole numbers alone: of all m * 2^e with m below 2^53, the one nearest to n / length, with m odd; and 0 at
 length 0, as document 01 has it. Python's own division, which the processor makes, has to agree.

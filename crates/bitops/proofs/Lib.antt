@@ -1,5 +1,3 @@
-pub mod BothLaws
 pub mod OpLaws
 pub mod WriteLaws
-pub mod SetLaws
-pub mod Theorems
+pub mod VerdictLaws

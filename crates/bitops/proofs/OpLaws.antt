@@ -1,8 +1,9 @@
 -- The operations on words, over the width: each is its operation on the rows, and so is what is cut off it.
 -- By the laws of a word's bits. Assumes nothing.
 use Prim.Native.Nat.{ℕ, _-_, _^_, _≤_, _<_}
-use mathlib.Core.Path.{_≡_, sym, ap, ap₂, _∙_}
+use mathlib.Core.Path.{_≡_, refl, sym, ap, ap₂, _∙_}
 use mathlib.Core.Bool.{Bool, not, _&&_, _||_}
+use mathlib.Core.List.{List, [], _∷_, map}
 use native.Mathlib.Omega.{arith}
 use lib.Bits.{bitAnd, bitOr, and-mask, and-le-l, or-lt}
 use lib.ListN.{length}
@@ -10,8 +11,14 @@ use Rattle.rows.specs.Word.{bitsOf, wordOf, both}
 use Rattle.rows.proofs.WordLaws.{bitsOf-length, wordOf-bitsOf, wordOf-bitsOf-mod, and-bits, or-bits, not-bits}
 use Rattle.rows.proofs.WordsLaws.{bitsOf-wordOf-fit}
 use Rattle.rows.proofs.FitLaws.{fit-is-take, take-bits}
-use Rattle.bitops.specs.SetOps.{andNot}
-use Rattle.bitops.proofs.BothLaws.{both-length, both-take, both-not, both-and-not}
+use Rattle.rows.proofs.BothLaws.{both-length, both-take, both-not}
+use Rattle.rules.specs.SetOps.{andNot}
+
+-- and, with the second turned over
+pub both-and-not : (xs ys : List Bool) → both _&&_ xs (map not ys) ≡ both andNot xs ys
+both-and-not [] ys = refl
+both-and-not (x ∷ xs) [] = refl
+both-and-not (x ∷ xs) (y ∷ ys) = ap (λ (l : List Bool). (x && not y) ∷ l) (both-and-not xs ys)
 
 module _ (w x y : ℕ) (hx : x < 2 ^ w) (hy : y < 2 ^ w) where
   pub and-word : bitAnd x y ≡ wordOf (both _&&_ (bitsOf w x) (bitsOf w y))

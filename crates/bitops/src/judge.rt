@@ -2,15 +2,15 @@
 ghost use mathlib.Core.Path.{_≡_};
 ghost use denote.Ref.{now};
 ghost use Rattle.rows.specs.Table.{first};
-ghost use Rattle.bitops.specs.SetOps.{pairChecks, notChecks};
+ghost use Rattle.rules.specs.SetOps.{pairChecks, notChecks};
 use lent::inner::words_for;
-use mask::Form;
 use mask::inner::check_set;
 use mask::inner::equal;
 use mask::inner::has_room;
 use mask::inner::length_of;
 use mask::inner::then;
 use rows::Verdict;
+use rules::Form;
 
 // Two operands.
 pub fn judge_two(

@@ -2,13 +2,13 @@
 ghost use mathlib.Core.Path.{_≡_};
 ghost use mathlib.Core.Bool.{_&&_, _||_};
 ghost use denote.Ref.{now};
-ghost use Rattle.bitops.specs.SetOps.{andNot, combined, combinedOut, negated, negatedOut};
+ghost use Rattle.rules.specs.SetOps.{andNot, combined, combinedOut, negated, negatedOut};
 use judge::judge_one;
-use mask::Answer;
-use mask::Form;
 use mask::inner::refused;
-use op::Operation;
 use rows::Verdict;
+use rules::Answer;
+use rules::Form;
+use rules::Operation;
 use write::answer;
 use write::combine;
 

@@ -5,19 +5,13 @@ ghost use Prim.Native.Nat.{_+_, _≤_, _<_};
 ghost use lib.ListN.{take, drop};
 ghost use denote.Ref.{now};
 ghost use Rattle.rows.specs.Word.{bitsOf, wordOf, both};
-ghost use Rattle.mask.specs.Operand.{rowsOf, lengthOf, Flat};
-ghost use Rattle.bitops.specs.SetOps.{rowOf};
+ghost use Rattle.rules.specs.Operand.{rowsOf, lengthOf};
+ghost use Rattle.rules.specs.SetOps.{rowOf};
+ghost use Rattle.mask.specs.Flat.{Flat};
 use lent::inner::ones;
-use mask::Form;
 use mask::inner::chunk_of;
-
-// Not is of the first word.
-pub enum Operation {
-    And,
-    Or,
-    AndNot,
-    Not,
-}
+use rules::Form;
+use rules::Operation;
 
 pub fn apply(op: Operation, x: u64, y: u64) -> u64
     ensures { λ r. ⌜ r ≡ wordOf (both (rowOf op) (bitsOf 64 x) (bitsOf 64 y)) ⌝ }

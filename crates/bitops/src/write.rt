@@ -9,24 +9,25 @@ ghost use Rattle.rows.specs.Rows.{count};
 ghost use Rattle.rows.specs.Word.{both};
 ghost use Rattle.rows.specs.Words.{view};
 ghost use Rattle.rows.specs.Laid.{wordsFor, laid, written};
-ghost use Rattle.mask.specs.Operand.{rowsOf, lengthOf, Flat};
-ghost use Rattle.mask.specs.Answer.{answered};
-ghost use Rattle.bitops.specs.SetOps.{rowOf, combined, combinedOut};
+ghost use Rattle.rules.specs.Operand.{rowsOf, lengthOf};
+ghost use Rattle.rules.specs.Answer.{answered};
+ghost use Rattle.rules.specs.SetOps.{rowOf, combined, combinedOut};
+ghost use Rattle.mask.specs.Flat.{Flat};
 use super::judge::judge_two;
-use super::op::Operation;
 use super::op::apply;
 use super::op::chunk;
 use lent::inner::chunk_len;
 use lent::inner::clear_last;
 use lent::inner::put;
 use lent::inner::whole_word;
-use mask::Answer;
-use mask::Form;
 use mask::inner::NO_ROUTE;
 use mask::inner::accepted;
 use mask::inner::length_of;
 use mask::inner::refused;
 use rows::Verdict;
+use rules::Answer;
+use rules::Form;
+use rules::Operation;
 
 // The first n words of the result of two operands in words, and how many of their rows are set.
 fn write_whole(

@@ -13,14 +13,14 @@ use denote.Ref.{now}
 use denote.Triple.Clauses.{Lasts, atExit}
 use Rattle.rows.specs.Rows.{rankAt}
 use Rattle.rows.specs.Table.{refusal}
-use Rattle.mask.specs.declared.Answer.{Answer}
-use Rattle.mask.specs.declared.Form.{Form}
-use Rattle.mask.specs.Operand.{rowsOf, lengthOf}
-use Rattle.mask.proofs.Theorems.{Bare}
-use Rattle.mask.proofs.Writes.{bitAt, row, Writes}
-use Rattle.intersect_by_rank.specs.Route.{routeOf, numberOf, published}
-use Rattle.intersect_by_rank.proofs.Theorems.{Refuses, Accepts, composed-refuses, composed-accepts, composed-refused, composed-writes, composed-row}
-use Rattle.intersect_by_rank.specs.Compose.{composedOut}
+use Rattle.rules.specs.declared.Answer.{Answer}
+use Rattle.rules.specs.declared.Form.{Form}
+use Rattle.rules.specs.Operand.{rowsOf, lengthOf}
+use Rattle.rules.specs.Route.{routeOf, numberOf, published}
+use Rattle.rules.specs.Compose.{composedOut}
+use Rattle.rules.proofs.Conversions.{Bare}
+use Rattle.rules.proofs.Writes.{bitAt, row, Writes}
+use Rattle.rules.proofs.Compositions.{Refuses, Accepts, composed-refuses, composed-accepts, composed-refused, composed-writes, composed-row}
 use Rattle.intersect_by_rank.proofs.inner.compose_with.Kinds as with-kinds
 use Rattle.intersect_by_rank.proofs.inner.compose_with.Reads as with-reads
 use Rattle.intersect_by_rank.proofs.intersect_by_rank.Kinds as kinds

@@ -18,7 +18,7 @@ use Rattle.rows.specs.declared.Verdict.the-variants.{Fine, Refused}
 use Rattle.rows.specs.Rows.{count, compose}
 use Rattle.rows.specs.Table.{refusal}
 use Rattle.rows.proofs.TableLaws.{chosen}
-use Rattle.mask.specs.Answer.{answered}
+use Rattle.rules.specs.Answer.{answered}
 use Rattle.text.specs.declared.Written.{Written}
 use Rattle.text.specs.Text.{WellFormed, lines, answerFor, textOf, withText, writtenFor, textOut}
 use Rattle.text.proofs.ToldLaws.{no-room}

@@ -12,13 +12,13 @@ use borrow.Fn.Kinds.{Dens, resT, endedOf}
 use denote.Ref.{now}
 use denote.Triple.Clauses.{Lasts, atExit}
 use Rattle.rows.specs.Table.{refusal}
-use Rattle.mask.specs.declared.Answer.{Answer}
-use Rattle.mask.specs.declared.Form.{Form}
-use Rattle.mask.specs.Operand.{lengthOf}
-use Rattle.mask.proofs.Theorems.{Bare}
-use Rattle.mask.proofs.Writes.{row, Writes}
-use Rattle.bitops.specs.SetOps.{andNot, combined, combinedOut, negated, negatedOut}
-use Rattle.bitops.proofs.Theorems.{Refuses, Accepts, NotRefuses, NotAccepts, combined-refuses, combined-accepts, combined-refused, combined-writes, not-refuses, not-accepts, not-refused, not-writes}
+use Rattle.rules.specs.declared.Answer.{Answer}
+use Rattle.rules.specs.declared.Form.{Form}
+use Rattle.rules.specs.Operand.{lengthOf}
+use Rattle.rules.specs.SetOps.{andNot, combined, combinedOut, negated, negatedOut}
+use Rattle.rules.proofs.Conversions.{Bare}
+use Rattle.rules.proofs.Writes.{row, Writes}
+use Rattle.rules.proofs.SetOperations.{Refuses, Accepts, NotRefuses, NotAccepts, combined-refuses, combined-accepts, combined-refused, combined-writes, not-refuses, not-accepts, not-refused, not-writes}
 use Rattle.bitops.proofs.and.Kinds as and-kinds
 use Rattle.bitops.proofs.and.Reads as and-reads
 use Rattle.bitops.proofs.or.Kinds as or-kinds

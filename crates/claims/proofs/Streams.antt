@@ -15,17 +15,17 @@ use denote.Triple.Clauses.{Lasts, atExit}
 use Rattle.rows.specs.Rows.{rankAt}
 use Rattle.rows.specs.Words.{bitsOfAll}
 use Rattle.rows.specs.Table.{refusal}
-use Rattle.mask.proofs.Theorems.{Bare}
-use Rattle.mask.proofs.Writes.{bitAt}
-use Rattle.intersect_by_rank.specs.Route.{published}
-use Rattle.intersect_by_rank.proofs.Theorems.{composed-accepts, composed-row}
-use Rattle.composer.specs.declared.State.{State}
-use Rattle.composer.specs.declared.Fed.{Fed}
-use Rattle.composer.specs.Stream.{Pair, lent, pairOf, rows, long, fresh, fed, fedOut, Run, after, run}
-use Rattle.composer.specs.Demand3.{once, onceOut, WellFormed, Pieces, Joins, AllAccepted, taken, Whole}
-use Rattle.composer.proofs.StreamLaws.{Within, Accepts}
-use Rattle.composer.proofs.Theorems.{Refuses, Feeds, fed-refuses, fed-accepts, fed-refused, fed-within, fed-feeds}
-use Rattle.composer.proofs.Demand3.{forward, converse}
+use Rattle.rules.specs.declared.State.{State}
+use Rattle.rules.specs.declared.Fed.{Fed}
+use Rattle.rules.specs.Route.{published}
+use Rattle.rules.specs.Stream.{Pair, lent, pairOf, rows, long, fresh, fed, fedOut, Run, after, run}
+use Rattle.rules.specs.Demand3.{once, onceOut, WellFormed, Pieces, Joins, AllAccepted, taken, Whole}
+use Rattle.rules.proofs.Conversions.{Bare}
+use Rattle.rules.proofs.Writes.{bitAt}
+use Rattle.rules.proofs.Compositions.{composed-accepts, composed-row}
+use Rattle.rules.proofs.StreamLaws.{Within, Accepts}
+use Rattle.rules.proofs.Feeds.{Refuses, Feeds, fed-refuses, fed-accepts, fed-refused, fed-within, fed-feeds}
+use Rattle.rules.proofs.Demand3.{forward, converse}
 use Rattle.composer.proofs.feed.Kinds as kinds
 use Rattle.composer.proofs.feed.Reads as reads
 

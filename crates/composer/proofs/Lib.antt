@@ -1,3 +1,1 @@
-pub mod StreamLaws
-pub mod Theorems
-pub mod Demand3
+pub mod OpeningLaws

@@ -2,12 +2,10 @@
 ghost use mathlib.Core.Path.{_≡_};
 ghost use denote.Ref.{now};
 ghost use Rattle.rows.specs.Table.{first};
-ghost use Rattle.composer.specs.Stream.{lent, pairOf, stateChecks, pieceChecks, judged};
+ghost use Rattle.rules.specs.Stream.{lent, pairOf, stateChecks, pieceChecks, judged};
 use super::Composer;
-use super::State;
 use intersect_by_rank::inner::judge_both;
 use lent::inner::words_for;
-use mask::Form;
 use mask::inner::at_most;
 use mask::inner::count_of;
 use mask::inner::equal;
@@ -15,6 +13,8 @@ use mask::inner::has_room;
 use mask::inner::length_of;
 use mask::inner::then;
 use rows::Verdict;
+use rules::Form;
+use rules::State;
 
 // The state is within refusal 10's bound.
 fn judge_state(state: State) -> Verdict

@@ -1,32 +1,19 @@
 // The stream composer: self and the rank mask in pieces, laid back piece by piece onto one output. Document 01, part 9.
 ghost use mathlib.Core.Path.{_≡_};
 ghost use denote.Ref.{now};
-ghost use Rattle.composer.specs.Stream.{lent, pairOf, fresh, fed, fedOut};
+ghost use Rattle.rules.specs.Stream.{lent, pairOf, fresh, fed, fedOut};
 use judge::judge;
-use mask::Answer;
-use mask::Form;
 use mask::inner::refused;
 use rows::Rank;
 use rows::Row;
 use rows::Verdict;
+pub use rules::Fed;
+use rules::Form;
+pub use rules::State;
 use step::step;
 
 mod judge;
 mod step;
-
-// A stream's state: the rows fed, the ranks fed, which are the set rows among them, and how many rows were kept. The rows fed are the
-// next piece's first row, and the ranks fed its first rank; kept is a count and stands for neither.
-pub struct State {
-    pub done: Row,
-    pub ranks: Rank,
-    pub kept: u64,
-}
-
-// What a feed gives: its answer, and the state to hand to the next feed.
-pub struct Fed {
-    pub answer: Answer,
-    pub state: State,
-}
 
 // The composer itself: how many rows a stream may have, and the state of a stream that was fed nothing.
 pub struct Composer;

@@ -4,17 +4,17 @@ ghost use Prim.Native.Nat.{_+_, _≤_};
 ghost use lib.ListN.{length};
 ghost use denote.Ref.{now};
 ghost use Rattle.rows.specs.declared.Verdict.the-variants.{Fine};
-ghost use Rattle.mask.specs.Operand.{limit};
-ghost use Rattle.composer.specs.Stream.{lent, pairOf, stateOf, judged, fedBy, outBy};
-use super::Fed;
-use super::State;
+ghost use Rattle.rules.specs.Operand.{limit};
+ghost use Rattle.rules.specs.Stream.{lent, pairOf, stateOf, judged, fedBy, outBy};
 use intersect_by_rank::inner::document_factors;
 use intersect_by_rank::inner::lay_composition;
-use mask::Form;
 use mask::inner::count_of;
 use mask::inner::length_of;
 use rows::Rank;
 use rows::Row;
+use rules::Fed;
+use rules::Form;
+use rules::State;
 
 // The state past so many rows more, so many of them set, and so many of those kept.
 fn moved(state: State, rows: Row, ranks: Rank, kept: u64) -> State

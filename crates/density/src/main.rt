@@ -3,7 +3,7 @@
 ghost use mathlib.Core.Path.{_≡_};
 ghost use Prim.Native.Nat.{_+_, _≤_, _<_};
 ghost use lib.Ieee.{lt};
-ghost use Rattle.mask.specs.Answer.{densityOf};
+ghost use Rattle.rules.specs.Answer.{densityOf};
 use intersect_by_rank::inner::few;
 use libc::STDOUT_FILENO;
 

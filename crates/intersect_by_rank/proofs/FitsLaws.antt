@@ -10,21 +10,24 @@ use native.Mathlib.Omega.{arith}
 use borrow.Author.Tests.{eqb-true, lt-ltb}
 use lib.ListN.{length, drop, replicate}
 use lib.Dec.{ltb, eqb}
+use Rattle.rows.specs.declared.Way.{Way}
 use Rattle.rows.specs.Rows.{count, compose}
 use Rattle.rows.specs.Words.{bitsOfAll, view}
 use Rattle.rows.specs.Lists.{listed, Ascending}
 use Rattle.rows.proofs.RowLaws.{compose-full, compose-by-full, compose-empty, compose-by-empty}
 use Rattle.rows.proofs.FitLaws.{compose-cut}
 use Rattle.rows.proofs.ListLaws.{eqb-same, listed-count}
-use Rattle.mask.specs.declared.Form.{Form}
-use Rattle.mask.specs.declared.Form.the-variants.{All, None, Words, List as Listed}
-use Rattle.mask.specs.Operand.{rowsOf, lengthOf, startOf, countOf, empty, full, isList, Accepted}
-use Rattle.mask.proofs.OperandLaws.{accepted-list, accepted-flat, accepted-length, accepted-count, list-rows, list-count}
-use Rattle.kernels.specs.declared.Way.{Way}
-use Rattle.intersect_by_rank.specs.declared.Factors.{Factors}
-use Rattle.intersect_by_rank.specs.declared.route.Route.the-variants.{RankMask, SelfMask, NoRows, EntryAtRank, EntryIfSet, MaskDriven, Gathered, Read}
-use Rattle.intersect_by_rank.specs.Route.{routeOf, wayOf, InWords, Fits}
-use Rattle.intersect_by_rank.specs.Compose.{Paired, result}
+use Rattle.rules.specs.declared.Form.{Form}
+use Rattle.rules.specs.declared.Form.the-variants.{All, None, Words, List as Listed}
+use Rattle.rules.specs.declared.Factors.{Factors}
+use Rattle.rules.specs.declared.Route.the-variants.{RankMask, SelfMask, NoRows, EntryAtRank, EntryIfSet, MaskDriven, Gathered, Read}
+use Rattle.rules.specs.Operand.{rowsOf, lengthOf, countOf, empty, full, isList, Accepted}
+use Rattle.rules.specs.Route.{routeOf, wayOf}
+use Rattle.rules.specs.Compose.{Paired, result}
+use Rattle.rules.proofs.OperandLaws.{accepted-list, accepted-length, accepted-count, list-rows, list-count}
+use Rattle.mask.specs.Flat.{startOf}
+use Rattle.mask.proofs.FlatLaws.{accepted-flat}
+use Rattle.intersect_by_rank.specs.Fits.{InWords, Fits}
 
 -- ---- the chosen route's line fits, whatever the factors are
 

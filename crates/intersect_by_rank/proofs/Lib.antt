@@ -1,5 +1,3 @@
-pub mod ComposeLaws
-pub mod Examples
 pub mod FitsLaws
 pub mod RouteLaws
-pub mod Theorems
+pub mod VerdictLaws

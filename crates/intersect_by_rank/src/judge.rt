@@ -2,16 +2,16 @@
 ghost use mathlib.Core.Path.{_≡_};
 ghost use denote.Ref.{now};
 ghost use Rattle.rows.specs.Table.{first};
-ghost use Rattle.intersect_by_rank.specs.Compose.{composeChecks};
+ghost use Rattle.rules.specs.Compose.{composeChecks};
 use super::inner::judge_both;
 use lent::inner::words_for;
-use mask::Form;
 use mask::inner::count_of;
 use mask::inner::equal;
 use mask::inner::has_room;
 use mask::inner::length_of;
 use mask::inner::then;
 use rows::Verdict;
+use rules::Form;
 
 // The operands' checks, and then what they are to each other and to the output.
 pub fn judge(

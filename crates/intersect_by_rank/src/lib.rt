@@ -1,22 +1,16 @@
 // Composition by rank: a rank mask laid back onto the rows of self. Document 01, part 7; part 6 is `kernels`.
 ghost use mathlib.Core.Path.{_≡_};
 ghost use denote.Ref.{now};
-ghost use Rattle.intersect_by_rank.specs.Route.{published};
-ghost use Rattle.intersect_by_rank.specs.Compose.{composed, composedOut};
+ghost use Rattle.rules.specs.Route.{published};
+ghost use Rattle.rules.specs.Compose.{composed, composedOut};
 use inner::compose_with;
 use inner::document_factors;
-use mask::Answer;
-use mask::Form;
+use rules::Answer;
+use rules::Form;
 
 pub mod inner;
 mod judge;
 mod route;
-
-// What the counts are multiplied by before they are held against the lengths: 16 for the loop form, 32 for mask-driven.
-pub struct Factors {
-    pub sparse: u32,
-    pub driven: u32,
-}
 
 // The rows of self whose ranks the rank mask sets, as words. s is self and r the rank mask, each with what is lent beside it.
 pub fn intersect_by_rank(

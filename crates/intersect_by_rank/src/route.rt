@@ -4,29 +4,18 @@ ghost use mathlib.Core.Bool.{cond};
 ghost use Prim.Native.Nat.{_*_, _≤_};
 ghost use lib.Dec.{ltb};
 ghost use denote.Ref.{now};
-ghost use Rattle.mask.specs.Operand.{lengthOf, countOf, isList};
-ghost use Rattle.intersect_by_rank.specs.Route.{wayOf, routeOf, numberOf};
-use super::Factors;
+ghost use Rattle.rules.specs.Operand.{lengthOf, countOf, isList};
+ghost use Rattle.rules.specs.Route.{wayOf, routeOf, numberOf};
 use super::inner::few;
-use kernels::Way;
-use mask::Form;
 use mask::inner::count_of;
 use mask::inner::is_empty;
 use mask::inner::is_full;
 use mask::inner::is_list;
 use mask::inner::length_of;
-
-// The ways of the table, as its last column names them.
-pub enum Route {
-    RankMask,
-    SelfMask,
-    NoRows,
-    EntryAtRank,
-    EntryIfSet,
-    MaskDriven,
-    Gathered(Way),
-    Read(Way),
-}
+use rows::Way;
+use rules::Factors;
+use rules::Form;
+use rules::Route;
 
 pub fn number(route: Route) -> u8
     ensures { λ n. ⌜ n ≡ numberOf route ⌝ }

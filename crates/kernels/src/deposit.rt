@@ -12,13 +12,13 @@ ghost use Rattle.rows.specs.Lists.{listed};
 ghost use Rattle.rows.specs.Pdep.{pdep};
 ghost use Rattle.rows.specs.Laid.{laid};
 ghost use Rattle.kernels.specs.Gathers.{Parted, Gathers};
-use super::Way;
 use super::books::put_rows;
 use super::books::rank_bits;
 use super::books::self_bits;
 use lent::inner::chunk_len;
 use rows::Rank;
 use rows::Row;
+use rows::Way;
 use word::inner::deposit_portable;
 use word::inner::deposit_portable_loop;
 

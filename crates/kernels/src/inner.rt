@@ -8,7 +8,6 @@ ghost use Rattle.rows.specs.Rows.{count, compose};
 ghost use Rattle.rows.specs.Words.{bitsOfAll, view};
 ghost use Rattle.rows.specs.Lists.{listed, Ascending};
 ghost use Rattle.rows.specs.Laid.{laid};
-use super::Way;
 use super::deposit::Reached;
 use super::deposit::gather_chunks;
 use super::deposit::read_chunks;
@@ -20,6 +19,7 @@ use super::whole::gather_words;
 use super::whole::read_words;
 use lent::inner::clear;
 use rows::Rank;
+use rows::Way;
 
 // Route 4.
 pub fn lay_entry_at_rank(rows: &[u32], ranks: &[u32], len: u64, at: u64, out: &mut [u64])

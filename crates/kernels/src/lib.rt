@@ -6,9 +6,3 @@ mod driven;
 pub mod inner;
 mod lists;
 mod whole;
-
-// The two ways to deposit: the network choice, and the loop form for a sparse self.
-pub enum Way {
-    Network,
-    Loop,
-}

@@ -9,13 +9,13 @@ ghost use Rattle.rows.specs.Words.{bitsOfAll, view};
 ghost use Rattle.rows.specs.Lists.{listed};
 ghost use Rattle.rows.specs.Laid.{laid};
 ghost use Rattle.kernels.specs.Gathers.{Climbs, Parted};
-use super::Way;
 use super::books::rank_bits;
 use super::deposit::Reached;
 use super::deposit::deposit_bits;
 use super::deposit::rank_bits_for_chunk;
 use lent::inner::whole_word;
 use rows::Rank;
+use rows::Way;
 
 // Rank bits read. The rank after the last word is told.
 pub fn read_words(

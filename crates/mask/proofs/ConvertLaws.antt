@@ -7,9 +7,9 @@ use mathlib.Core.List.{List, [], _∷_, _++_}
 use Rattle.rows.specs.declared.Verdict.the-variants.{Fine}
 use Rattle.rows.specs.Table.{need, first}
 use Rattle.rows.proofs.TableLaws.{fine-exactly, met-append}
-use Rattle.mask.specs.declared.Form.{Form}
-use Rattle.mask.specs.Operand.{operandChecks, Accepted}
-use Rattle.mask.proofs.OperandLaws.{accepted-as}
+use Rattle.rules.specs.declared.Form.{Form}
+use Rattle.rules.specs.Operand.{operandChecks, Accepted}
+use Rattle.rules.proofs.OperandLaws.{accepted-as}
 
 pub judged-fine : (f : Form) (ws es : List ℕ) (needed room : ℕ) → first (operandChecks 1 f ws es ++ need (decLe needed room) 8 0 ∷ []) ≡ Fine → Accepted f ws es × (needed ≤ room)
 judged-fine f ws es needed room e =

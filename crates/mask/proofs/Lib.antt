@@ -1,11 +1,6 @@
-pub mod OperandLaws
 pub mod ChunkLaws
 pub mod Quotient
-pub mod NearestLaws
-pub mod Densities
 pub mod ListOutLaws
 pub mod ConvertLaws
-pub mod Theorems
-pub mod Writes
-pub mod RoundTrips
-pub mod Examples
+pub mod ClimbLaws
+pub mod FlatLaws

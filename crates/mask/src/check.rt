@@ -2,7 +2,7 @@
 ghost use mathlib.Core.Path.{_≡_};
 ghost use denote.Ref.{now};
 ghost use Rattle.rows.specs.Table.{first, refusal};
-ghost use Rattle.mask.specs.Operand.{climbs, lastBelow, lengthChecks, wordsChecks, listChecks};
+ghost use Rattle.rules.specs.Operand.{climbs, lastBelow, lengthChecks, wordsChecks, listChecks};
 use lent::inner::has_count;
 use lent::inner::words_for;
 use rows::Refusal;

@@ -9,11 +9,9 @@ ghost use denote.Ref.{now};
 ghost use Rattle.rows.specs.Word.{wordOf};
 ghost use Rattle.rows.specs.Laid.{wordsFor, written, laid};
 ghost use Rattle.rows.specs.Table.{first, need, ifFine, noRefusal};
-ghost use Rattle.mask.specs.Answer.{densityOf, noDensity};
-ghost use Rattle.mask.specs.Operand.{rowsOf, lengthOf, startOf, countOf, empty, full, isList, operandChecks, setChecks, Accepted, Flat};
-use super::Answer;
-use super::Form;
-use super::Summary;
+ghost use Rattle.rules.specs.Answer.{densityOf, noDensity};
+ghost use Rattle.rules.specs.Operand.{rowsOf, lengthOf, countOf, empty, full, isList, operandChecks, setChecks, Accepted};
+ghost use Rattle.mask.specs.Flat.{startOf, Flat};
 use super::check::check_length;
 use super::check::check_list;
 use super::check::check_words;
@@ -22,6 +20,9 @@ use super::lay::lay_flat;
 use super::lay::lay_list;
 use rows::Refusal;
 use rows::Verdict;
+use rules::Answer;
+use rules::Form;
+use rules::Summary;
 
 // The route that is told outside composition.
 pub const NO_ROUTE: u8 = 0;

@@ -7,14 +7,15 @@ ghost use denote.Ref.{now};
 ghost use Rattle.rows.specs.Lists.{listed, Ascending};
 ghost use Rattle.rows.specs.Words.{bitsOfAll, view, Below};
 ghost use Rattle.rows.specs.Laid.{laid, marked};
-ghost use Rattle.mask.specs.Operand.{rowsOf, lengthOf, Flat};
-use super::Form;
+ghost use Rattle.rules.specs.Operand.{rowsOf, lengthOf};
+ghost use Rattle.mask.specs.Flat.{Flat};
 use super::inner::chunk_of;
 use super::inner::length_of;
 use lent::inner::chunk_len;
 use lent::inner::clear;
 use lent::inner::put;
 use lent::inner::set_bit;
+use rules::Form;
 
 // All, none or words: chunk by chunk.
 fn lay_chunks(form: Form, words: &[u64], at: u64, out: &mut [u64])

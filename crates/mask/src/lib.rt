@@ -2,45 +2,16 @@
 // to words and to a list.
 ghost use mathlib.Core.Path.{_≡_};
 ghost use denote.Ref.{now};
-ghost use Rattle.mask.specs.Convert.{toWords, toWordsOut, toList, toListOut};
-use rows::Refusal;
+ghost use Rattle.rules.specs.Convert.{toWords, toWordsOut, toList, toListOut};
 use rows::Verdict;
+pub use rules::Answer;
+pub use rules::Form;
+pub use rules::Summary;
 
 mod check;
 pub mod inner;
 mod lay;
 mod list;
-
-// The form of an operand. Words and rows are lent beside it, and a slice that the form does not use is ignored.
-pub enum Form {
-    All {
-        length: u64,
-    },
-    None {
-        length: u64,
-    },
-    Words {
-        start: u64,
-        length: u64,
-        claimed: u64,
-    },
-    List {
-        length: u64,
-    },
-}
-
-// What every operation returns of its result: the count of its set rows, the route, 0 outside composition, and the density.
-pub struct Summary {
-    pub count: u64,
-    pub route: u8,
-    pub density: f64,
-}
-
-// An answer: a refusal, or its place empty, and the summary.
-pub struct Answer {
-    pub refusal: Refusal,
-    pub summary: Summary,
-}
 
 // Any form to words: start 0, the bits past the length in the last word 0, later words as they were.
 pub fn to_words(form: Form, words: &[u64], rows: &[u32], out: &mut [u64]) -> Answer

@@ -7,12 +7,13 @@ ghost use denote.Ref.{now};
 ghost use Rattle.rows.specs.Rows.{count, splice};
 ghost use Rattle.rows.specs.Word.{bitsOf};
 ghost use Rattle.rows.specs.Lists.{setRows};
-ghost use Rattle.mask.specs.Operand.{rowsOf, countOf, Accepted, Flat};
-use super::Form;
+ghost use Rattle.rules.specs.Operand.{rowsOf, countOf, Accepted};
+ghost use Rattle.mask.specs.Flat.{Flat};
 use super::inner::chunk_of;
 use super::inner::is_list;
 use super::inner::length_of;
 use lent::inner::chunk_len;
+use rules::Form;
 
 fn copy_list(rows: &[u32], out: &mut [u32])
     requires { ⌜ length (now rows) ≤ length (now out) ⌝ }

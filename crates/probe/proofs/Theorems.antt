@@ -12,10 +12,10 @@ use lib.ListN.{length, take, drop, replicate}
 use borrow.Author.Tests.{le-leb, lt-leb, ne-eqb}
 use Rattle.rows.specs.declared.Verdict.{Verdict}
 use Rattle.rows.specs.declared.Verdict.the-variants.{Fine, Refused}
-use Rattle.mask.specs.declared.Form.{Form}
-use Rattle.mask.specs.Answer.{noDensity}
-use Rattle.composer.specs.declared.State.{State}
-use Rattle.composer.specs.Stream.{Pair, lent, pairOf, judged, fedBy, outBy}
+use Rattle.rules.specs.declared.Form.{Form}
+use Rattle.rules.specs.declared.State.{State}
+use Rattle.rules.specs.Answer.{noDensity}
+use Rattle.rules.specs.Stream.{Pair, lent, pairOf, judged, fedBy, outBy}
 use Rattle.probe.specs.declared.form.Given.{Given}
 use Rattle.probe.specs.declared.form.Given.the-variants.{Good, Bad}
 use Rattle.probe.specs.declared.tell.Told.{Told}

@@ -9,19 +9,18 @@ use lib.Ieee.{Float}
 use lib.ListN.{length, drop}
 use Rattle.rows.specs.declared.Refusal.{Refusal}
 use Rattle.rows.specs.Table.{refusal}
-use Rattle.word.specs.Answer.{deposited, selected}
-use Rattle.lent.specs.Read.{rankRead}
-use Rattle.mask.specs.declared.Answer.{Answer}
-use Rattle.mask.specs.declared.Form.{Form}
-use Rattle.mask.specs.declared.Form.the-variants.{All, None, Words, List as Listed}
-use Rattle.mask.specs.Answer.{noDensity}
-use Rattle.mask.specs.Convert.{toWords, toWordsOut, toList, toListOut}
-use Rattle.bitops.specs.SetOps.{andNot, combined, combinedOut, negated, negatedOut}
-use Rattle.intersect_by_rank.specs.Route.{published}
-use Rattle.intersect_by_rank.specs.Compose.{composed, composedOut}
-use Rattle.composer.specs.declared.State.{State}
-use Rattle.composer.specs.declared.Fed.{Fed}
-use Rattle.composer.specs.Stream.{lent, pairOf, fed, fedOut}
+use Rattle.rows.specs.WordAnswer.{deposited, selected, rankRead}
+use Rattle.rules.specs.declared.Answer.{Answer}
+use Rattle.rules.specs.declared.Form.{Form}
+use Rattle.rules.specs.declared.Form.the-variants.{All, None, Words, List as Listed}
+use Rattle.rules.specs.declared.State.{State}
+use Rattle.rules.specs.declared.Fed.{Fed}
+use Rattle.rules.specs.Answer.{noDensity}
+use Rattle.rules.specs.Convert.{toWords, toWordsOut, toList, toListOut}
+use Rattle.rules.specs.SetOps.{andNot, combined, combinedOut, negated, negatedOut}
+use Rattle.rules.specs.Route.{published}
+use Rattle.rules.specs.Compose.{composed, composedOut}
+use Rattle.rules.specs.Stream.{lent, pairOf, fed, fedOut}
 use Rattle.text.specs.declared.Written.{Written}
 use Rattle.text.specs.Text.{writtenFor, textOut}
 use Rattle.probe.specs.declared.form.Given.{Given}

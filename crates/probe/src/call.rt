@@ -1,8 +1,8 @@
 // Each entry point called, and what it answers as what is told. A form that is bad, of either operand, calls nothing.
 ghost use mathlib.Core.Path.{_≡_};
 ghost use denote.Ref.{now};
-ghost use Rattle.word.specs.Answer.{deposited};
-ghost use Rattle.composer.specs.Stream.{stateOf};
+ghost use Rattle.rows.specs.WordAnswer.{deposited};
+ghost use Rattle.rules.specs.Stream.{stateOf};
 ghost use Rattle.probe.specs.Probe.{ended, depositTold, selectTold, readTold, toWordsDone, toListDone, composeDone, setDone, setsDone, feedDone, programDone, answerTold};
 use super::form::Given;
 use super::tell::Told;
@@ -11,13 +11,13 @@ use super::tell::of_bad_form;
 use super::tell::of_fed;
 use super::tell::of_word;
 use super::tell::of_written;
-use composer::State;
-use mask::Answer;
-use mask::Form;
+use rows::Deposited;
 use rows::Rank;
 use rows::Refusal;
 use rows::Row;
-use word::Deposited;
+use rules::Answer;
+use rules::Form;
+use rules::State;
 
 // The loop form, after the check of the claimed count.
 fn deposit_by_loop(source: u64, mask: u64, claimed: u64) -> Deposited

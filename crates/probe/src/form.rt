@@ -1,7 +1,7 @@
 // An operand's form, by its number.
 ghost use mathlib.Core.Path.{_≡_};
 ghost use Rattle.probe.specs.Probe.{formOf};
-use mask::Form;
+use rules::Form;
 
 pub enum Given {
     Good(Form),

@@ -2,7 +2,7 @@
 // cell of an answer means. Each function answers into ans and den, and does nothing at all where one of the two is too short.
 ghost use mathlib.Core.Path.{_≡_};
 ghost use denote.Ref.{now};
-ghost use Rattle.composer.specs.Stream.{stateOf};
+ghost use Rattle.rules.specs.Stream.{stateOf};
 ghost use Rattle.probe.specs.Probe.{answerCells, tells, memory, does, formOf, depositTold, selectTold, readTold, toWordsDone, toListDone, composeDone, setsDone, feedDone, programDone};
 use form::form_of;
 use tell::ready;

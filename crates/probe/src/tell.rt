@@ -5,9 +5,9 @@ ghost use Prim.Native.Nat.{_≤_, _<_};
 ghost use lib.ListN.{length, drop};
 ghost use denote.Ref.{now};
 ghost use Rattle.probe.specs.Probe.{answerCells, enough, over, wordTold, badTold, stateTold, answerTold, fedTold, writtenTold};
-use composer::Fed;
-use mask::Answer;
 use rows::Refusal;
+use rules::Answer;
+use rules::Fed;
 use text::Written;
 
 // The numbers that the cells have, and the density.

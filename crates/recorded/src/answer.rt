@@ -1,7 +1,7 @@
 // What is recorded of an answer, and what came of a case that was held to it.
 use super::reader::Cursor;
 use super::reader::digits::read_number;
-use mask::Answer;
+use rules::Answer;
 
 // What differs first in a case, or nothing.
 pub enum Finding {

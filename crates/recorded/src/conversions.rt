@@ -7,7 +7,7 @@ use super::answer::read_expected;
 use super::reader::Cursor;
 use super::reader::digits::read_number;
 use super::reader::forms::read_form;
-use mask::Form;
+use rules::Form;
 
 // The conversion over an output slice that holds what it is to hold before.
 fn answer_words(

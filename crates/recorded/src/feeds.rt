@@ -10,10 +10,10 @@ use super::reader::digits::read_number;
 use super::reader::forms::read_form;
 use super::reader::if_held;
 use composer::Composer;
-use composer::State;
-use mask::Form;
 use rows::Rank;
 use rows::Row;
+use rules::Form;
+use rules::State;
 
 // A state that was read.
 struct Stood {

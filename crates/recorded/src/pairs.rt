@@ -8,8 +8,8 @@ use super::reader::Number;
 use super::reader::digits::read_number;
 use super::reader::forms::read_form;
 use super::reader::if_held;
-use mask::Answer;
-use mask::Form;
+use rules::Answer;
+use rules::Form;
 
 // The operations are and, or, and-not, not and composition, from 1 on. Any other is malformed.
 fn read_operation(text: &[u8], cursor: Cursor) -> Number {

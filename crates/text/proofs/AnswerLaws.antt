@@ -15,24 +15,24 @@ use lib.ListN.{length, replicate, length-append, length-replicate}
 use borrow.Author.Tests.{ltb-false}
 use Rattle.rows.specs.declared.Verdict.the-variants.{Fine, Refused}
 use Rattle.rows.specs.declared.Refusal.{Refusal}
+use Rattle.rows.specs.declared.Way.the-variants.{Network, Loop}
 use Rattle.rows.specs.Rows.{count, compose}
 use Rattle.rows.specs.Laid.{wordsFor}
 use Rattle.rows.specs.Table.{refusal}
 use Rattle.rows.proofs.RowLaws.{compose-count}
 use Rattle.rows.proofs.LaidLaws.{wordsOf-length}
 use Rattle.rows.proofs.TableLaws.{chosen, passed-over}
-use Rattle.mask.specs.declared.Answer.{Answer}
-use Rattle.mask.specs.declared.Summary.{Summary}
-use Rattle.mask.specs.Answer.{answered}
-use Rattle.mask.specs.Operand.{Accepted}
-use Rattle.mask.proofs.Theorems.{Bare}
-use Rattle.kernels.specs.declared.Way.the-variants.{Network, Loop}
-use Rattle.intersect_by_rank.specs.declared.route.Route.{Route}
-use Rattle.intersect_by_rank.specs.declared.route.Route.the-variants.{RankMask, SelfMask, NoRows, EntryAtRank, EntryIfSet, MaskDriven, Gathered, Read}
-use Rattle.intersect_by_rank.specs.Route.{published, routeOf, numberOf}
-use Rattle.intersect_by_rank.specs.Compose.{Paired}
-use Rattle.intersect_by_rank.proofs.ComposeLaws.{compose-fine, compose-accepted}
-use Rattle.intersect_by_rank.proofs.Theorems.{composed-refuses, composed-refused}
+use Rattle.rules.specs.declared.Answer.{Answer}
+use Rattle.rules.specs.declared.Summary.{Summary}
+use Rattle.rules.specs.declared.Route.{Route}
+use Rattle.rules.specs.declared.Route.the-variants.{RankMask, SelfMask, NoRows, EntryAtRank, EntryIfSet, MaskDriven, Gathered, Read}
+use Rattle.rules.specs.Answer.{answered}
+use Rattle.rules.specs.Operand.{Accepted}
+use Rattle.rules.specs.Route.{published, routeOf, numberOf}
+use Rattle.rules.specs.Compose.{Paired}
+use Rattle.rules.proofs.Conversions.{Bare}
+use Rattle.rules.proofs.Compositions.{compose-fine, composed-refuses, composed-refused}
+use Rattle.intersect_by_rank.proofs.VerdictLaws.{compose-accepted}
 use Rattle.text.specs.Text.{digits, line, refusalKey, routeKey, countKey, bitsKey, decimalIn, decimal, lines, linesOf, formOf, wordsIn, answerTo}
 use Rattle.text.proofs.SaidLaws.{digits-length}
 use Rattle.text.proofs.ToldLaws.{words-view}

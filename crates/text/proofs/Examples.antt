@@ -7,8 +7,8 @@ use mathlib.Core.Path.{_≡_, refl}
 use mathlib.Core.List.{List, [], _∷_}
 use Rattle.rows.specs.Word.{bitsOf, wordOf}
 use Rattle.rows.specs.Table.{first, inOrder}
-use Rattle.intersect_by_rank.specs.Route.{routeOf}
-use Rattle.intersect_by_rank.specs.Compose.{composed}
+use Rattle.rules.specs.Route.{routeOf}
+use Rattle.rules.specs.Compose.{composed}
 use Rattle.text.specs.Text.{ascii, rowsIn, decSame, parsed, decimalIn, decimal, lines, linesOf, answerFor, textOf}
 
 -- an input, and the text

@@ -21,7 +21,7 @@ use Rattle.rows.proofs.SpliceLaws.{splice-one, splice-append}
 use Rattle.rows.proofs.WordLaws.{wordOf-lt}
 use Rattle.rows.proofs.WordsLaws.{fit-length}
 use Rattle.rows.proofs.FitLaws.{view-step}
-use Rattle.mask.specs.declared.Answer.{Answer}
+use Rattle.rules.specs.declared.Answer.{Answer}
 use Rattle.text.specs.Text.{digitOf, digits, line, bitsKey, decimalIn, decimal, lines, linesOf}
 use Rattle.text.proofs.SaidLaws.{digits-length}
 

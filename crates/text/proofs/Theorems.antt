@@ -16,9 +16,9 @@ use Rattle.rows.specs.Rows.{count, compose}
 use Rattle.rows.specs.Table.{choose, refusal}
 use Rattle.rows.proofs.RowLaws.{compose-length, count-le-length}
 use Rattle.rows.proofs.TableLaws.{chosen, passed-over}
-use Rattle.mask.specs.declared.Answer.{Answer}
-use Rattle.mask.specs.Answer.{answered}
-use Rattle.intersect_by_rank.specs.Route.{published, routeOf}
+use Rattle.rules.specs.declared.Answer.{Answer}
+use Rattle.rules.specs.Answer.{answered}
+use Rattle.rules.specs.Route.{published, routeOf}
 use Rattle.text.specs.declared.Written.{Written}
 use Rattle.text.specs.Text.{ascii, says, WellFormed, selfIn, rankIn, decWell, parsed, decimalIn, decimal, lines, linesOf, formOf, answerTo, answerFor, textOf, withText, shorter, writtenFor}
 use Rattle.text.specs.Parts.{begins}

@@ -21,13 +21,14 @@ use Rattle.rows.proofs.LaidLaws.{wordsOf-length}
 use Rattle.rows.proofs.SpliceLaws.{splice-eq}
 use Rattle.rows.proofs.WrittenLaws.{written-rows}
 use Rattle.rows.proofs.TableLaws.{chosen, passed-over}
-use Rattle.mask.specs.declared.Answer.{Answer}
-use Rattle.mask.specs.declared.Form.{Form}
-use Rattle.mask.specs.declared.Form.the-variants.{Words}
-use Rattle.intersect_by_rank.specs.Route.{published, routeOf}
-use Rattle.intersect_by_rank.specs.Compose.{result, composed, composedOut}
-use Rattle.intersect_by_rank.proofs.ComposeLaws.{compose-fine, compose-accepted, result-length}
-use Rattle.intersect_by_rank.proofs.Theorems.{composed-accepts}
+use Rattle.rules.specs.declared.Answer.{Answer}
+use Rattle.rules.specs.declared.Form.{Form}
+use Rattle.rules.specs.declared.Form.the-variants.{Words}
+use Rattle.rules.specs.Route.{published, routeOf}
+use Rattle.rules.specs.Compose.{result, composed, composedOut}
+use Rattle.rules.proofs.ComposeLaws.{result-length}
+use Rattle.rules.proofs.Compositions.{compose-fine, composed-accepts}
+use Rattle.intersect_by_rank.proofs.VerdictLaws.{compose-accepted}
 use Rattle.text.specs.declared.find.Found.the-variants.{Masks, Malformed}
 use Rattle.text.specs.Text.{WellFormed, rowsIn, selfIn, rankIn, decWell, parsed, lines, linesOf, wordsIn, answerOf, resultOf, answerFor, textOf, withText, shorter, writtenFor, textOut}
 use Rattle.text.specs.Parts.{foundIn, answerWords, toldWords}

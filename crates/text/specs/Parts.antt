@@ -8,10 +8,10 @@ use lib.Dec.{eqb}
 use Rattle.rows.specs.Rows.{count, compose}
 use Rattle.rows.specs.Words.{view}
 use Rattle.rows.specs.Table.{choose}
-use Rattle.mask.specs.declared.Answer.{Answer}
-use Rattle.mask.specs.declared.Form.the-variants.{Words}
-use Rattle.intersect_by_rank.specs.Route.{published}
-use Rattle.intersect_by_rank.specs.Compose.{composed}
+use Rattle.rules.specs.declared.Answer.{Answer}
+use Rattle.rules.specs.declared.Form.the-variants.{Words}
+use Rattle.rules.specs.Route.{published}
+use Rattle.rules.specs.Compose.{composed}
 use Rattle.text.specs.declared.find.Found.{Found}
 use Rattle.text.specs.declared.find.Found.the-variants.{Masks, Malformed}
 use Rattle.text.specs.Text.{selfIn, rankIn, decWell, linesOf}

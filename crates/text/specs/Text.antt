@@ -16,12 +16,12 @@ use Rattle.rows.specs.Rows.{count, compose}
 use Rattle.rows.specs.Words.{wordsOf}
 use Rattle.rows.specs.Laid.{wordsFor}
 use Rattle.rows.specs.Table.{choose, refusal}
-use Rattle.mask.specs.Answer.{answered}
-use Rattle.mask.specs.declared.Answer.{Answer}
-use Rattle.mask.specs.declared.Form.{Form}
-use Rattle.mask.specs.declared.Form.the-variants.{Words}
-use Rattle.intersect_by_rank.specs.Route.{published}
-use Rattle.intersect_by_rank.specs.Compose.{composed}
+use Rattle.rules.specs.declared.Answer.{Answer}
+use Rattle.rules.specs.declared.Form.{Form}
+use Rattle.rules.specs.declared.Form.the-variants.{Words}
+use Rattle.rules.specs.Answer.{answered}
+use Rattle.rules.specs.Route.{published}
+use Rattle.rules.specs.Compose.{composed}
 use Rattle.text.specs.declared.Written.{Written}
 
 -- ---- the grammar

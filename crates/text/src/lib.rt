@@ -3,9 +3,9 @@ ghost use mathlib.Core.Path.{_≡_};
 ghost use lib.ListN.{length};
 ghost use denote.Ref.{now};
 ghost use Rattle.text.specs.Text.{writtenFor, textOut};
-use mask::Answer;
 use mask::inner::refused;
 use rows::Refusal;
+use rules::Answer;
 
 mod find;
 mod put;

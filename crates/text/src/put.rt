@@ -9,7 +9,7 @@ ghost use Rattle.rows.specs.Words.{view};
 ghost use Rattle.rows.specs.Table.{choose};
 ghost use Rattle.text.specs.Text.{digits, line, bitsKey, decimal, lines, linesOf, withText};
 use super::Written;
-use mask::Answer;
+use rules::Answer;
 
 // All of bytes.
 pub fn put_bytes(bytes: &[u8], at: usize, out: &mut [u8]) -> usize

@@ -17,9 +17,9 @@ use lent::inner::clear_last;
 use lent::inner::count_view;
 use lent::inner::put;
 use lent::inner::words_for;
-use mask::Form;
 use mask::inner::refused;
 use rows::Refusal;
+use rules::Form;
 
 // The n digits from index at on as words, row 0 in bit 0.
 fn pack(input: &[u8], at: usize, n: usize, words: &mut [u64])

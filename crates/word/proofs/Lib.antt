@@ -11,5 +11,3 @@ pub mod GatherLaws
 pub mod NetworkLaws
 pub mod ByteLaw
 pub mod Bytewise
-pub mod Theorems
-pub mod Examples

@@ -1,24 +1,14 @@
 // The word layer: word deposit, in the crate's portable forms, and select. The two entry points take any numbers.
 ghost use mathlib.Core.Path.{_≡_};
-ghost use Rattle.word.specs.Answer.{deposited, selected};
+ghost use Rattle.rows.specs.WordAnswer.{deposited, selected};
+pub use rows::Deposited;
 use rows::Refusal;
+pub use rows::Selected;
 
 mod forms;
 pub mod inner;
 mod network;
 mod num;
-
-// What deposit answers: a refusal, or its place empty, and the word.
-pub struct Deposited {
-    pub refusal: Refusal,
-    pub word: u64,
-}
-
-// What select answers: a refusal, or its place empty, and the position.
-pub struct Selected {
-    pub refusal: Refusal,
-    pub position: u64,
-}
 
 // Bit k of the source at the k-th set bit of the mask. The claimed count must be the mask's: refusal 4.
 pub fn deposit(source: u64, mask: u64, claimed: u64) -> Deposited

@@ -3,7 +3,8 @@
 use mathlib.Core.Path.{refl, sym, _∙_}
 use lib.ListN.{length}
 use denote.Ref.{now}
-use Rattle.bitops.proofs.SetLaws.{taken-flat, one-fine, one-accepted, one-refused}
+use Rattle.rules.proofs.SetOperations.{one-fine}
+use Rattle.bitops.proofs.VerdictLaws.{taken-flat, one-accepted, one-refused}
 use borrow.Author.Needs.{needs}
 use Rattle.bitops.proofs.not.Statement.{statement}
 use Rattle.bitops.proofs.not.Tie as tie

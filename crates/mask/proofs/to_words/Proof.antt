@@ -12,10 +12,10 @@ use Rattle.rows.specs.declared.Verdict.the-variants.{Fine, Refused}
 use Rattle.rows.specs.Rows.{count}
 use Rattle.rows.specs.Laid.{wordsFor, written}
 use Rattle.rows.specs.Table.{need, first, noRefusal, ifFine}
-use Rattle.mask.specs.Operand.{rowsOf, lengthOf, operandChecks}
-use Rattle.mask.specs.Answer.{densityOf, noRoute, answered}
-use Rattle.mask.specs.Convert.{toWordsChecks, toWords, toWordsOut}
-use Rattle.mask.proofs.OperandLaws.{accepted-length, accepted-count, accepted-limit, accepted-few}
+use Rattle.rules.specs.Operand.{rowsOf, lengthOf, operandChecks}
+use Rattle.rules.specs.Answer.{densityOf, noRoute, answered}
+use Rattle.rules.specs.Convert.{toWordsChecks, toWords, toWordsOut}
+use Rattle.rules.proofs.OperandLaws.{accepted-length, accepted-count, accepted-limit, accepted-few}
 use Rattle.mask.proofs.ConvertLaws.{judged-fine}
 use borrow.Author.Needs.{needs}
 use Rattle.mask.proofs.to_words.Statement.{statement}

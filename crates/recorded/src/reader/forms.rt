@@ -1,7 +1,7 @@
 // An operand's form, told as its kind, length, start and claimed count.
 use super::Cursor;
 use super::digits::read_number;
-use mask::Form;
+use rules::Form;
 
 pub struct Told {
     pub form: Form,

@@ -8,7 +8,7 @@ use lib.Seq.{length-take-le}
 use denote.Ref.{now}
 use borrow.Author.Needs.{needs}
 use Rattle.rows.specs.Rows.{splice}
-use Rattle.mask.specs.declared.Answer.{Answer}
+use Rattle.rules.specs.declared.Answer.{Answer}
 use Rattle.text.specs.declared.Written.{Written}
 use Rattle.text.specs.Text.{textOf, withText}
 use Rattle.text.proofs.ToldLaws.{no-room, room}

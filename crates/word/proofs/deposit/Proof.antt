@@ -10,9 +10,9 @@ use Rattle.rows.specs.Rows.{count}
 use Rattle.rows.specs.Word.{bitsOf}
 use Rattle.rows.specs.Pdep.{pdep}
 use Rattle.rows.specs.Table.{refusal, noRefusal}
+use Rattle.rows.specs.WordAnswer.{depositChecks, depositedBy, deposited}
 use Rattle.rows.proofs.WordLaws.{count-bits}
 use Rattle.rows.proofs.TableLaws.{first-is}
-use Rattle.word.specs.Answer.{depositChecks, depositedBy, deposited}
 use Rattle.word.proofs.deposit.Statement.{statement}
 use Rattle.word.proofs.deposit.Tie as tie
 

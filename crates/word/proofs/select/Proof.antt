@@ -10,9 +10,9 @@ use Rattle.rows.specs.Rows.{count}
 use Rattle.rows.specs.Word.{bitsOf}
 use Rattle.rows.specs.Lists.{select}
 use Rattle.rows.specs.Table.{refusal, noRefusal}
+use Rattle.rows.specs.WordAnswer.{selectChecks, selectedBy, selected}
 use Rattle.rows.proofs.WordLaws.{count-bits}
 use Rattle.rows.proofs.TableLaws.{first-is}
-use Rattle.word.specs.Answer.{selectChecks, selectedBy, selected}
 use Rattle.word.proofs.select.Statement.{statement}
 use Rattle.word.proofs.select.Tie as tie
 

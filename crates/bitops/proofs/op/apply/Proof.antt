@@ -3,8 +3,8 @@
 use Prim.Native.Nat.{ℕ}
 use mathlib.Core.Path.{_≡_, sym, ap, _∙_}
 use Rattle.rows.specs.Word.{bitsOf, wordOf, both}
-use Rattle.bitops.specs.declared.op.Operation.{Operation}
-use Rattle.bitops.specs.SetOps.{rowOf}
+use Rattle.rules.specs.declared.Operation.{Operation}
+use Rattle.rules.specs.SetOps.{rowOf}
 use Rattle.bitops.proofs.OpLaws.{and-word, or-word, and-not-word, not-word}
 use borrow.Author.Needs.{needs}
 use Rattle.bitops.proofs.op.apply.Statement.{statement}

@@ -7,15 +7,15 @@ use native.Mathlib.Omega.{arith}
 use lib.Bits.{bitAnd}
 use denote.Ref.{now}
 use Rattle.rows.specs.Word.{bitsOf, wordOf, both}
-use Rattle.mask.specs.Operand.{rowsOf}
-use Rattle.mask.proofs.OperandLaws.{flat-length}
+use Rattle.rows.proofs.BothLaws.{both-part}
+use Rattle.rules.specs.Operand.{rowsOf}
+use Rattle.rules.specs.SetOps.{rowOf}
+use Rattle.mask.proofs.FlatLaws.{flat-length}
 use Rattle.mask.proofs.ChunkLaws.{chunk-bits}
-use Rattle.bitops.specs.SetOps.{rowOf}
-use Rattle.bitops.proofs.BothLaws.{both-part}
 use Rattle.bitops.proofs.OpLaws.{cut-word}
-use borrow.Author.Needs.{needs}
 use Rattle.bitops.proofs.op.chunk.Statement.{statement}
 use Rattle.bitops.proofs.op.chunk.Tie as tie
+use borrow.Author.Needs.{needs}
 
 chunk-of-requires : tie.Need-chunk-of-requires
 chunk-of-requires c κs = search needs

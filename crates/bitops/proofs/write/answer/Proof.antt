@@ -9,14 +9,14 @@ use denote.Ref.{now}
 use Rattle.rows.specs.Word.{both}
 use Rattle.rows.specs.Table.{noRefusal}
 use Rattle.rows.proofs.RowLaws.{count-le-length}
-use Rattle.mask.specs.Operand.{rowsOf, lengthOf}
-use Rattle.mask.specs.Answer.{densityOf}
-use Rattle.mask.proofs.OperandLaws.{flat-limit}
-use Rattle.bitops.specs.SetOps.{rowOf}
-use Rattle.bitops.proofs.SetLaws.{result-length}
-use borrow.Author.Needs.{needs}
+use Rattle.rules.specs.Operand.{rowsOf, lengthOf}
+use Rattle.rules.specs.Answer.{densityOf}
+use Rattle.rules.specs.SetOps.{rowOf}
+use Rattle.mask.proofs.FlatLaws.{flat-limit}
+use Rattle.bitops.proofs.VerdictLaws.{result-length}
 use Rattle.bitops.proofs.write.answer.Statement.{statement}
 use Rattle.bitops.proofs.write.answer.Tie as tie
+use borrow.Author.Needs.{needs}
 
 write-requires : tie.Need-write-requires
 write-requires c κs = search needs

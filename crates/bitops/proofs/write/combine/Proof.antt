@@ -3,8 +3,9 @@
 use mathlib.Core.Path.{sym, _∙_}
 use lib.ListN.{length}
 use denote.Ref.{now}
-use Rattle.bitops.specs.SetOps.{rowOf}
-use Rattle.bitops.proofs.SetLaws.{taken-flat, pair-fine, pair-accepted, pair-refused}
+use Rattle.rules.specs.SetOps.{rowOf}
+use Rattle.rules.proofs.SetOperations.{pair-fine}
+use Rattle.bitops.proofs.VerdictLaws.{taken-flat, pair-accepted, pair-refused}
 use borrow.Author.Needs.{needs}
 use Rattle.bitops.proofs.write.combine.Statement.{statement}
 use Rattle.bitops.proofs.write.combine.Tie as tie

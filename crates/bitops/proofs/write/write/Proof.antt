@@ -9,9 +9,9 @@ use Rattle.rows.specs.Word.{both}
 use Rattle.rows.specs.Laid.{laid, lastCleared}
 use Rattle.rows.proofs.LaidLaws.{below-all}
 use Rattle.rows.proofs.WrittenLaws.{laid-written}
-use Rattle.mask.specs.Operand.{rowsOf, lengthOf}
-use Rattle.bitops.specs.SetOps.{rowOf}
-use Rattle.bitops.proofs.SetLaws.{result-length}
+use Rattle.rules.specs.Operand.{rowsOf, lengthOf}
+use Rattle.rules.specs.SetOps.{rowOf}
+use Rattle.bitops.proofs.VerdictLaws.{result-length}
 use borrow.Author.Needs.{needs}
 use Rattle.bitops.proofs.write.write.Statement.{statement}
 use Rattle.bitops.proofs.write.write.Tie as tie

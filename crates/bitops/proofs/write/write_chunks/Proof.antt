@@ -13,14 +13,14 @@ use Rattle.rows.specs.Rows.{count}
 use Rattle.rows.specs.Word.{bitsOf, both}
 use Rattle.rows.specs.Laid.{laid}
 use Rattle.rows.proofs.LaidLaws.{below-all, laid-nil, laid-length}
-use Rattle.mask.specs.Operand.{rowsOf, lengthOf}
-use Rattle.mask.proofs.OperandLaws.{flat-limit}
-use Rattle.bitops.specs.SetOps.{rowOf}
-use Rattle.bitops.proofs.SetLaws.{result-length}
+use Rattle.rules.specs.Operand.{rowsOf, lengthOf}
+use Rattle.rules.specs.SetOps.{rowOf}
+use Rattle.mask.proofs.FlatLaws.{flat-limit}
+use Rattle.bitops.proofs.VerdictLaws.{result-length}
 use Rattle.bitops.proofs.WriteLaws.{turn-few, turn-count, turn-laid}
-use borrow.Author.Needs.{needs}
 use Rattle.bitops.proofs.write.write_chunks.Statement.{statement}
 use Rattle.bitops.proofs.write.write_chunks.Tie as tie
+use borrow.Author.Needs.{needs}
 
 abbrev Inv-loop : tie.InvT-loop
 Inv-loop op a awords b bwords out₀ len sum₀ row₀ out sum row =

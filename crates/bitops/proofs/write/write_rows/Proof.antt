@@ -14,8 +14,8 @@ use Rattle.rows.specs.Word.{bitsOf, both}
 use Rattle.rows.specs.Words.{view}
 use Rattle.rows.specs.Laid.{laid}
 use Rattle.rows.proofs.RowLaws.{count-take-le}
-use Rattle.bitops.specs.SetOps.{rowOf}
-use Rattle.bitops.proofs.SetLaws.{result-length}
+use Rattle.rules.specs.SetOps.{rowOf}
+use Rattle.bitops.proofs.VerdictLaws.{result-length}
 use Rattle.bitops.proofs.WriteLaws.{turn-few, turn-count, turn-laid, whole-part}
 use borrow.Author.Needs.{needs}
 use Rattle.bitops.proofs.write.write_rows.Statement.{statement}

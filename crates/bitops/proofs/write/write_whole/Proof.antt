@@ -14,7 +14,7 @@ use Rattle.rows.specs.Word.{bitsOf, wordOf, both}
 use Rattle.rows.specs.Words.{Below, view}
 use Rattle.rows.specs.Laid.{laid}
 use Rattle.rows.proofs.LaidLaws.{below-all, below-set, laid-nil, laid-word}
-use Rattle.bitops.specs.SetOps.{rowOf}
+use Rattle.rules.specs.SetOps.{rowOf}
 use Rattle.bitops.proofs.WriteLaws.{turn-few, turn-count, turn-laid, whole-length, whole-word}
 use borrow.Author.Needs.{needs}
 use Rattle.bitops.proofs.write.write_whole.Statement.{statement}

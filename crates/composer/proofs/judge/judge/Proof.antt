@@ -3,8 +3,8 @@
 use mathlib.Core.Path.{_≡_, refl, sym, _∙_}
 use native.Mathlib.Omega.{arith}
 use denote.Ref.{now}
-use Rattle.composer.specs.Stream.{Pair, lent, pairOf}
-use Rattle.composer.proofs.StreamLaws.{opening, opening-refuses, opening-passes, opening-small}
+use Rattle.rules.specs.Stream.{Pair, lent, pairOf}
+use Rattle.composer.proofs.OpeningLaws.{opening, opening-refuses, opening-passes, opening-small}
 use borrow.Author.Needs.{needs}
 use Rattle.composer.proofs.judge.judge.Statement.{statement}
 use Rattle.composer.proofs.judge.judge.Tie as tie

@@ -7,7 +7,7 @@ use Rattle.rows.specs.declared.Verdict.{Verdict}
 use Rattle.rows.specs.Laid.{wordsFor}
 use Rattle.rows.specs.Table.{Line, first, need, ifFine}
 use Rattle.rows.proofs.TableLaws.{first-append}
-use Rattle.mask.specs.Operand.{limit}
+use Rattle.rules.specs.Operand.{limit}
 use borrow.Author.Needs.{needs}
 use Rattle.composer.proofs.judge.judge_lengths.Statement.{statement}
 use Rattle.composer.proofs.judge.judge_lengths.Tie as tie

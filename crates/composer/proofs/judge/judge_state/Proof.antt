@@ -6,7 +6,7 @@ use native.Mathlib.Decide.{decLe}
 use Rattle.rows.specs.declared.Verdict.{Verdict}
 use Rattle.rows.specs.Table.{Line, first, need, ifFine}
 use Rattle.rows.proofs.TableLaws.{first-append}
-use Rattle.mask.specs.Operand.{limit}
+use Rattle.rules.specs.Operand.{limit}
 use borrow.Author.Needs.{needs}
 use Rattle.composer.proofs.judge.judge_state.Statement.{statement}
 use Rattle.composer.proofs.judge.judge_state.Tie as tie

@@ -4,8 +4,9 @@ use mathlib.Core.Path.{refl}
 use native.Mathlib.Omega.{arith}
 use lib.ListN.{length}
 use denote.Ref.{now}
-use Rattle.composer.specs.Stream.{Pair, lent, pairOf}
-use Rattle.composer.proofs.StreamLaws.{feed-takes, moved-within, self-length, self-count, kept-count}
+use Rattle.rules.specs.Stream.{Pair, lent, pairOf}
+use Rattle.rules.proofs.StreamLaws.{moved-within, self-length, self-count, kept-count}
+use Rattle.rules.proofs.Feeds.{feed-takes}
 use borrow.Author.Needs.{needs}
 use Rattle.composer.proofs.step.step.Statement.{statement}
 use Rattle.composer.proofs.step.step.Tie as tie

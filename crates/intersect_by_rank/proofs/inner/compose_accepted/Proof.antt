@@ -7,13 +7,13 @@ use denote.Ref.{now}
 use Rattle.rows.specs.Laid.{laid, lastCleared}
 use Rattle.rows.proofs.LaidLaws.{below-all}
 use Rattle.rows.proofs.WrittenLaws.{laid-written}
-use Rattle.mask.specs.Operand.{lengthOf}
-use Rattle.mask.proofs.OperandLaws.{accepted-limit}
-use Rattle.intersect_by_rank.specs.Compose.{result}
-use Rattle.intersect_by_rank.proofs.ComposeLaws.{result-length}
-use borrow.Author.Needs.{needs}
+use Rattle.rules.specs.Operand.{lengthOf}
+use Rattle.rules.specs.Compose.{result}
+use Rattle.rules.proofs.OperandLaws.{accepted-limit}
+use Rattle.rules.proofs.ComposeLaws.{result-length}
 use Rattle.intersect_by_rank.proofs.inner.compose_accepted.Statement.{statement}
 use Rattle.intersect_by_rank.proofs.inner.compose_accepted.Tie as tie
+use borrow.Author.Needs.{needs}
 
 length-of-requires : tie.Need-length-of-requires
 length-of-requires c κs = search needs

@@ -11,14 +11,15 @@ use Rattle.rows.specs.Rows.{count, compose}
 use Rattle.rows.specs.Words.{bitsOfAll, view}
 use Rattle.rows.specs.Lists.{listed}
 use Rattle.rows.specs.Laid.{laid}
-use Rattle.mask.specs.Operand.{lengthOf, startOf}
-use Rattle.intersect_by_rank.specs.declared.route.Route.{Route}
-use Rattle.intersect_by_rank.specs.Route.{Fits}
-use Rattle.intersect_by_rank.specs.Compose.{result}
+use Rattle.rules.specs.declared.Route.{Route}
+use Rattle.rules.specs.Operand.{lengthOf}
+use Rattle.rules.specs.Compose.{result}
+use Rattle.mask.specs.Flat.{startOf}
+use Rattle.intersect_by_rank.specs.Fits.{Fits}
 use Rattle.intersect_by_rank.proofs.FitsLaws.{in-words, by-full-self, full-length, by-full-rank, by-empty, words-ascends, words-listed, words-read, list-ascends, list-length, list-ranks, list-listed, list-read}
-use borrow.Author.Needs.{needs}
 use Rattle.intersect_by_rank.proofs.inner.compose_at.Statement.{statement}
 use Rattle.intersect_by_rank.proofs.inner.compose_at.Tie as tie
+use borrow.Author.Needs.{needs}
 
 length-of-requires : tie.Need-length-of-requires
 length-of-requires c κs = search needs

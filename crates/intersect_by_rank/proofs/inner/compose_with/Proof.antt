@@ -3,7 +3,8 @@
 use mathlib.Core.Path.{sym, _∙_}
 use lib.ListN.{length}
 use denote.Ref.{now}
-use Rattle.intersect_by_rank.proofs.ComposeLaws.{compose-fine, compose-accepted, compose-refused}
+use Rattle.rules.proofs.Compositions.{compose-fine}
+use Rattle.intersect_by_rank.proofs.VerdictLaws.{compose-accepted, compose-refused}
 use borrow.Author.Needs.{needs}
 use Rattle.intersect_by_rank.proofs.inner.compose_with.Statement.{statement}
 use Rattle.intersect_by_rank.proofs.inner.compose_with.Tie as tie

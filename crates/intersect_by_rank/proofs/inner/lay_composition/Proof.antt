@@ -3,14 +3,15 @@
 use mathlib.Core.Path.{refl, sym, ap, subst, _∙_}
 use native.Mathlib.Omega.{arith}
 use denote.Ref.{now}
-use Rattle.mask.proofs.OperandLaws.{accepted-limit, accepted-few}
-use Rattle.intersect_by_rank.specs.declared.route.Route.{Route}
-use Rattle.intersect_by_rank.specs.Route.{Fits, numberOf}
+use Rattle.rules.specs.declared.Route.{Route}
+use Rattle.rules.specs.Route.{numberOf}
+use Rattle.rules.proofs.OperandLaws.{accepted-limit, accepted-few}
+use Rattle.rules.proofs.ComposeLaws.{result-length, result-count}
+use Rattle.intersect_by_rank.specs.Fits.{Fits}
 use Rattle.intersect_by_rank.proofs.FitsLaws.{route-fits}
-use Rattle.intersect_by_rank.proofs.ComposeLaws.{result-length, result-count}
-use borrow.Author.Needs.{needs}
 use Rattle.intersect_by_rank.proofs.inner.lay_composition.Statement.{statement}
 use Rattle.intersect_by_rank.proofs.inner.lay_composition.Tie as tie
+use borrow.Author.Needs.{needs}
 
 choose-route-requires : tie.Need-choose-route-requires
 choose-route-requires c κs =

@@ -9,12 +9,13 @@ use Rattle.rows.specs.Rows.{count, compose}
 use Rattle.rows.specs.Words.{view}
 use Rattle.rows.specs.Lists.{listed}
 use Rattle.rows.specs.Laid.{laid}
-use Rattle.mask.specs.Operand.{lengthOf, startOf}
-use Rattle.intersect_by_rank.specs.Compose.{result}
+use Rattle.rules.specs.Operand.{lengthOf}
+use Rattle.rules.specs.Compose.{result}
+use Rattle.mask.specs.Flat.{startOf}
 use Rattle.intersect_by_rank.proofs.FitsLaws.{in-words, words-count, words-ascends, words-listed, words-words, rank-in-words}
-use borrow.Author.Needs.{needs}
 use Rattle.intersect_by_rank.proofs.inner.lay_mask_driven.Statement.{statement}
 use Rattle.intersect_by_rank.proofs.inner.lay_mask_driven.Tie as tie
+use borrow.Author.Needs.{needs}
 
 length-of-requires : tie.Need-length-of-requires
 length-of-requires c κs = search needs

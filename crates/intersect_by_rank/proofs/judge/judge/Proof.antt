@@ -8,8 +8,8 @@ use Rattle.rows.specs.declared.Verdict.{Verdict}
 use Rattle.rows.specs.Laid.{wordsFor}
 use Rattle.rows.specs.Table.{Line, first, need, ifFine}
 use Rattle.rows.proofs.TableLaws.{parts-first, parts-last}
-use Rattle.mask.specs.Operand.{lengthOf, countOf}
-use Rattle.intersect_by_rank.specs.Compose.{bothChecks}
+use Rattle.rules.specs.Operand.{lengthOf, countOf}
+use Rattle.rules.specs.Compose.{bothChecks}
 use borrow.Author.Needs.{needs}
 use Rattle.intersect_by_rank.proofs.judge.judge.Statement.{statement}
 use Rattle.intersect_by_rank.proofs.judge.judge.Tie as tie

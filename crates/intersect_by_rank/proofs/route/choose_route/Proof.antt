@@ -1,7 +1,7 @@
 -- `intersect_by_rank::route::choose_route` meets its contract: each return is the first line of the table that fits.
 -- By what each test ensures, the lines before it passed. Assumes nothing.
 use mathlib.Core.Path.{sym, _∙_}
-use Rattle.intersect_by_rank.specs.Route.{routeOf}
+use Rattle.rules.specs.Route.{routeOf}
 use Rattle.intersect_by_rank.proofs.RouteLaws.{picked, passed}
 use borrow.Author.Needs.{needs}
 use Rattle.intersect_by_rank.proofs.route.choose_route.Statement.{statement}

@@ -3,7 +3,7 @@
 use Prim.Native.Nat.{ℕ, _*_}
 use mathlib.Core.Path.{sym, ap, ap₂, _∙_}
 use lib.Dec.{ltb}
-use Rattle.intersect_by_rank.specs.declared.route.Route.the-variants.{Gathered, Read}
+use Rattle.rules.specs.declared.Route.the-variants.{Gathered, Read}
 use Rattle.intersect_by_rank.proofs.RouteLaws.{picked, passed}
 use borrow.Author.Needs.{needs}
 use Rattle.intersect_by_rank.proofs.route.words_route.Statement.{statement}

@@ -10,8 +10,8 @@ use borrow.Author.Tests.{lt-ltb, le-ltb}
 use lib.Dec.{ltb}
 use lib.ListN.{length, drop, getD}
 use denote.Ref.{now}
-use Rattle.mask.specs.Operand.{climbs}
-use Rattle.mask.proofs.OperandLaws.{climbs-step, climbs-end}
+use Rattle.rules.specs.Operand.{climbs}
+use Rattle.mask.proofs.ClimbLaws.{climbs-step, climbs-end}
 use Rattle.mask.proofs.check.ascends.Statement.{statement}
 use Rattle.mask.proofs.check.ascends.Tie as tie
 

@@ -6,7 +6,7 @@ use native.Mathlib.Omega.{arith}
 use Rattle.rows.specs.declared.Verdict.the-variants.{Fine, Refused}
 use Rattle.rows.specs.Table.{refusal}
 use Rattle.rows.proofs.TableLaws.{first-is}
-use Rattle.mask.specs.Operand.{lengthChecks}
+use Rattle.rules.specs.Operand.{lengthChecks}
 use borrow.Author.Needs.{needs}
 use Rattle.mask.proofs.check.check_length.Statement.{statement}
 use Rattle.mask.proofs.check.check_length.Tie as tie

@@ -8,7 +8,7 @@ use Rattle.rows.specs.declared.Verdict.the-variants.{Fine, Refused}
 use Rattle.rows.specs.Table.{refusal}
 use Rattle.rows.proofs.TableLaws.{first-is, is-true, is-false}
 use borrow.Author.Tests.{not-true, not-false}
-use Rattle.mask.specs.Operand.{listChecks}
+use Rattle.rules.specs.Operand.{listChecks}
 use borrow.Author.Needs.{needs}
 use Rattle.mask.proofs.check.check_list.Statement.{statement}
 use Rattle.mask.proofs.check.check_list.Tie as tie

@@ -6,16 +6,16 @@ use mathlib.Core.Logic.{inl, inr}
 use native.Mathlib.Omega.{arith}
 use lib.Dec.{T, eqb, eqb→eq, eqb-refl}
 use denote.Ref.{now}
+use Rattle.rows.specs.declared.Verdict.the-variants.{Fine, Refused}
 use Rattle.rows.specs.Rows.{count}
 use Rattle.rows.specs.Words.{view}
-use Rattle.rows.specs.declared.Verdict.the-variants.{Fine, Refused}
 use Rattle.rows.specs.Table.{refusal}
 use Rattle.rows.proofs.TableLaws.{first-is, is-true, is-false}
-use Rattle.mask.specs.Operand.{wordsChecks}
-use borrow.Author.Needs.{needs}
-use borrow.Author.Tests.{not-true, not-false}
+use Rattle.rules.specs.Operand.{wordsChecks}
 use Rattle.mask.proofs.check.check_words.Statement.{statement}
 use Rattle.mask.proofs.check.check_words.Tie as tie
+use borrow.Author.Needs.{needs}
+use borrow.Author.Tests.{not-true, not-false}
 
 refuse-requires : tie.Need-refuse-requires
 refuse-requires c κs = search needs

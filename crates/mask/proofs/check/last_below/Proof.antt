@@ -5,7 +5,7 @@ use Prim.Native.Nat.{_-_}
 use native.Mathlib.Omega.{arith}
 use lib.ListN.{length}
 use denote.Ref.{now}
-use Rattle.mask.proofs.OperandLaws.{last-at, last-none}
+use Rattle.mask.proofs.ClimbLaws.{last-at, last-none}
 use borrow.Author.Needs.{needs}
 use Rattle.mask.proofs.check.last_below.Statement.{statement}
 use Rattle.mask.proofs.check.last_below.Tie as tie

@@ -4,14 +4,13 @@ use mathlib.Core.Path.{refl, sym, ap, _∙_}
 use mathlib.Core.Logic.{inr}
 use denote.Ref.{now}
 use Rattle.rows.specs.declared.Verdict.the-variants.{Refused}
-use Rattle.rows.specs.Table.{refusal}
+use Rattle.rows.specs.Table.{refusal, need, decT}
 use Rattle.rows.proofs.TableLaws.{first-is, met-skips, is-true, is-false}
-use mathlib.Core.Bool.{not}
-use Rattle.rows.specs.Table.{need, decT}
-use Rattle.mask.specs.Operand.{isList, setChecks, operandChecks}
-use borrow.Author.Needs.{needs}
+use Rattle.rules.specs.Operand.{isList, setChecks, operandChecks}
 use Rattle.mask.proofs.inner.check_set.Statement.{statement}
 use Rattle.mask.proofs.inner.check_set.Tie as tie
+use mathlib.Core.Bool.{not}
+use borrow.Author.Needs.{needs}
 
 is-list-requires : tie.Need-is-list-requires
 is-list-requires c κs = search needs

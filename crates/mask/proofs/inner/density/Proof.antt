@@ -7,7 +7,7 @@ use native.Mathlib.Omega.{arith}
 use lib.Dec.{T, leb, le→leb}
 use lib.Ieee.{ofBits, inFloat}
 use Rattle.rows.proofs.TableLaws.{chosen, passed-over}
-use Rattle.mask.specs.Answer.{noDensity, densityOf}
+use Rattle.rules.specs.Answer.{noDensity, densityOf}
 use Rattle.mask.proofs.Quotient.{quotient}
 use Rattle.mask.proofs.inner.density.Statement.{statement}
 use Rattle.mask.proofs.inner.density.Tie as tie

@@ -6,7 +6,7 @@ use native.Mathlib.Omega.{arith}
 use lib.Dec.{eqb}
 use borrow.Author.Tests.{lt-ltb, le-ltb}
 use denote.Ref.{now}
-use Rattle.mask.specs.Operand.{lengthOf, countOf}
+use Rattle.rules.specs.Operand.{lengthOf, countOf}
 use borrow.Author.Needs.{needs}
 use Rattle.mask.proofs.inner.is_full.Statement.{statement}
 use Rattle.mask.proofs.inner.is_full.Tie as tie

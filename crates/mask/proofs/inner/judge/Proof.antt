@@ -2,14 +2,14 @@
 -- By the law of two tables, one after the other. Assumes nothing.
 use mathlib.Core.Path.{sym, _∙_}
 use denote.Ref.{now}
-use Rattle.rows.proofs.TableLaws.{append-refused, append-fine}
-use mathlib.Core.List.{[], _∷_}
-use native.Mathlib.Decide.{decLe}
 use Rattle.rows.specs.Table.{need}
-use Rattle.mask.specs.Operand.{operandChecks}
-use borrow.Author.Needs.{needs}
+use Rattle.rows.proofs.TableLaws.{append-refused, append-fine}
+use Rattle.rules.specs.Operand.{operandChecks}
 use Rattle.mask.proofs.inner.judge.Statement.{statement}
 use Rattle.mask.proofs.inner.judge.Tie as tie
+use mathlib.Core.List.{[], _∷_}
+use native.Mathlib.Decide.{decLe}
+use borrow.Author.Needs.{needs}
 
 check-requires : tie.Need-check-requires
 check-requires c κs = search needs

@@ -7,8 +7,9 @@ use mathlib.Core.List.{List}
 use denote.Ref.{now}
 use Rattle.rows.specs.Lists.{listed}
 use Rattle.rows.specs.Laid.{laid}
-use Rattle.mask.specs.Operand.{isList}
-use Rattle.mask.proofs.OperandLaws.{accepted-list, accepted-flat, list-rows, flat-rows}
+use Rattle.rules.specs.Operand.{isList}
+use Rattle.rules.proofs.OperandLaws.{accepted-list, list-rows}
+use Rattle.mask.proofs.FlatLaws.{accepted-flat, flat-rows}
 use borrow.Author.Needs.{needs}
 use Rattle.mask.proofs.inner.lay_rows.Statement.{statement}
 use Rattle.mask.proofs.inner.lay_rows.Tie as tie

@@ -6,8 +6,8 @@ use denote.Ref.{now}
 use Rattle.rows.specs.Laid.{laid, lastCleared}
 use Rattle.rows.proofs.LaidLaws.{below-all}
 use Rattle.rows.proofs.WrittenLaws.{laid-written}
-use Rattle.mask.specs.Operand.{rowsOf, lengthOf}
-use Rattle.mask.proofs.OperandLaws.{accepted-length}
+use Rattle.rules.specs.Operand.{rowsOf, lengthOf}
+use Rattle.rules.proofs.OperandLaws.{accepted-length}
 use borrow.Author.Needs.{needs}
 use Rattle.mask.proofs.inner.write_rows.Statement.{statement}
 use Rattle.mask.proofs.inner.write_rows.Tie as tie

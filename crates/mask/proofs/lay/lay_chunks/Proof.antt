@@ -12,8 +12,8 @@ use denote.Ref.{now}
 use Rattle.rows.specs.Word.{bitsOf}
 use Rattle.rows.specs.Laid.{laid}
 use Rattle.rows.proofs.LaidLaws.{below-all, laid-nil, laid-length, laid-append}
-use Rattle.mask.specs.Operand.{rowsOf, lengthOf}
-use Rattle.mask.proofs.OperandLaws.{flat-length}
+use Rattle.rules.specs.Operand.{rowsOf, lengthOf}
+use Rattle.mask.proofs.FlatLaws.{flat-length}
 use Rattle.mask.proofs.ChunkLaws.{chunk-bits, chunk-next}
 use Rattle.mask.proofs.lay.lay_chunks.Statement.{statement}
 use Rattle.mask.proofs.lay.lay_chunks.Tie as tie

@@ -12,13 +12,13 @@ use Rattle.rows.specs.Rows.{count, splice}
 use Rattle.rows.specs.Word.{bitsOf, wordOf}
 use Rattle.rows.specs.Lists.{setRows}
 use Rattle.rows.proofs.SpliceLaws.{splice-nil, splice-length}
-use Rattle.mask.specs.Operand.{rowsOf, lengthOf}
-use Rattle.mask.proofs.OperandLaws.{flat-length, flat-limit}
 use Rattle.rows.proofs.PartLaws.{count-part}
+use Rattle.rules.specs.Operand.{rowsOf, lengthOf}
+use Rattle.mask.proofs.FlatLaws.{flat-length, flat-limit}
 use Rattle.mask.proofs.ListOutLaws.{list-count, list-turn}
-use borrow.Author.Needs.{needs}
 use Rattle.mask.proofs.list.list_flat.Statement.{statement}
 use Rattle.mask.proofs.list.list_flat.Tie as tie
+use borrow.Author.Needs.{needs}
 
 abbrev Inv-loop : tie.InvT-loop
 Inv-loop form words out₀ len k₀ row₀ out k row =

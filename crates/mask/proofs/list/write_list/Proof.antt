@@ -10,8 +10,9 @@ use denote.Ref.{now}
 use Rattle.rows.specs.Rows.{count, splice}
 use Rattle.rows.specs.Lists.{setRows}
 use Rattle.rows.proofs.ListLaws.{rows-listed, rows-count}
-use Rattle.mask.specs.Operand.{rowsOf, lengthOf, countOf, isList}
-use Rattle.mask.proofs.OperandLaws.{accepted-list, accepted-flat, accepted-count, list-rows, list-count, flat-rows}
+use Rattle.rules.specs.Operand.{rowsOf, lengthOf, countOf, isList}
+use Rattle.rules.proofs.OperandLaws.{accepted-list, accepted-count, list-rows, list-count}
+use Rattle.mask.proofs.FlatLaws.{accepted-flat, flat-rows}
 use Rattle.mask.proofs.ListOutLaws.{list-front}
 use borrow.Author.Needs.{needs}
 use Rattle.mask.proofs.list.write_list.Statement.{statement}

@@ -11,9 +11,9 @@ use Rattle.rows.specs.Rows.{count}
 use Rattle.rows.specs.Word.{bitsOf}
 use Rattle.rows.specs.Pdep.{pdep}
 use Rattle.rows.specs.Table.{refusal, noRefusal}
+use Rattle.rows.specs.WordAnswer.{depositChecks, depositedBy, deposited}
 use Rattle.rows.proofs.WordLaws.{count-bits}
 use Rattle.rows.proofs.TableLaws.{first-is}
-use Rattle.word.specs.Answer.{depositChecks, depositedBy, deposited}
 use Rattle.probe.proofs.call.deposit_by_loop.Statement.{statement}
 use Rattle.probe.proofs.call.deposit_by_loop.Tie as tie
 

@@ -7,7 +7,7 @@ use lib.ListN.{length, take}
 use denote.Ref.{now}
 use borrow.Author.Needs.{needs}
 use Rattle.rows.specs.Rows.{splice}
-use Rattle.mask.specs.declared.Answer.{Answer}
+use Rattle.rules.specs.declared.Answer.{Answer}
 use Rattle.text.specs.declared.Written.{Written}
 use Rattle.text.specs.Text.{linesOf, answerFor, textOf, withText}
 use Rattle.text.proofs.ToldLaws.{answer-ill, text-ill, found-ill, text-front}

@@ -8,9 +8,9 @@ use denote.Ref.{now}
 use borrow.Author.Needs.{needs}
 use Rattle.rows.specs.Rows.{count, splice}
 use Rattle.rows.specs.Words.{view}
-use Rattle.mask.specs.declared.Form.{Form}
-use Rattle.intersect_by_rank.specs.Route.{published}
-use Rattle.intersect_by_rank.specs.Compose.{composed, composedOut}
+use Rattle.rules.specs.declared.Form.{Form}
+use Rattle.rules.specs.Route.{published}
+use Rattle.rules.specs.Compose.{composed, composedOut}
 use Rattle.text.specs.Text.{withText}
 use Rattle.text.proofs.ToldLaws.{rows-ignored, rows-ignored-out, words-answered, words-told}
 use Rattle.text.proofs.tell.tell_words.Statement.{statement}

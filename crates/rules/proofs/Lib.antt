@@ -1,0 +1,17 @@
+pub mod OperandLaws
+pub mod Conversions
+pub mod OperandExamples
+pub mod RoundTrips
+pub mod Writes
+pub mod Densities
+pub mod NearestLaws
+pub mod ComposeLaws
+pub mod Compositions
+pub mod RouteExamples
+pub mod SetOperations
+pub mod StreamLaws
+pub mod Feeds
+pub mod Demand3
+pub mod Examples
+pub mod WordExamples
+pub mod ReadExamples

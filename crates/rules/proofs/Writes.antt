@@ -1,0 +1,68 @@
+-- What an accepted operation leaves, for any that writes its rows as whole words from the start: the answer's numbers, the rows
+-- bit by bit, the last word's tail 0, later words as before; and for one that writes them as a list. By the laws of whole words.
+-- Assumes nothing.
+use Prim.Native.Nat.{ℕ, _*_, _≤_, _<_}
+use mathlib.Core.Path.{_≡_, refl, sym, ap, _∙_}
+use mathlib.Core.Logic.{_↔_}
+use mathlib.Core.Bool.{Bool, true, false, _&&_, false≢true}
+use mathlib.Core.List.{List}
+use lib.ListN.{length, take, drop, getD}
+use lib.Seq.{getD-take}
+use Rattle.rows.specs.declared.Verdict.{Verdict}
+use Rattle.rows.specs.declared.Verdict.the-variants.{Fine}
+use Rattle.rows.specs.Rows.{count}
+use Rattle.rows.specs.Words.{bitsOfAll}
+use Rattle.rows.specs.Lists.{setRows}
+use Rattle.rows.specs.Laid.{wordsFor, written}
+use Rattle.rows.specs.Table.{noRefusal, ifFine}
+use Rattle.rows.proofs.WrittenLaws.{written-rows, written-tail, written-later}
+use Rattle.rules.specs.declared.Answer.{Answer}
+use Rattle.rules.specs.declared.Form.{Form}
+use Rattle.rules.specs.Operand.{rowsOf}
+use Rattle.rules.specs.Answer.{answered, densityOf}
+
+abbrev pub bitAt : List ℕ → ℕ → Bool
+bitAt ws i = getD (bitsOfAll 64 ws) i false
+
+-- row i of an operand
+abbrev pub row : Form → List ℕ → List ℕ → ℕ → Bool
+row f ws es i = getD (rowsOf f ws es) i false
+
+-- accepted by a route, with n rows that are as said, their own count and density
+pub record Writes (n : ℕ) (rowAt : ℕ → Bool) (by : ℕ) (answer : Answer) (left out : List ℕ) : Type 0 where
+  pub accepted : answer .refusal ≡ noRefusal
+  pub rows : (i : ℕ) → i < n → bitAt left i ≡ rowAt i
+  pub counted : answer .summary .count ≡ count (take n (bitsOfAll 64 left))
+  pub route : answer .summary .route ≡ by
+  pub dense : answer .summary .density ≡ densityOf (answer .summary .count) n
+  pub tail : (i : ℕ) → n ≤ i → i < wordsFor n * 64 → bitAt left i ≡ false
+  pub later : drop (wordsFor n) left ≡ drop (wordsFor n) out
+
+-- accepted, with the set rows among these n as entries from the start on: as many as it counts, route 0, their density
+pub record Lists (n : ℕ) (rows : List Bool) (answer : Answer) (left out : List ℕ) : Type 0 where
+  pub accepted : answer .refusal ≡ noRefusal
+  pub counted : answer .summary .count ≡ count rows
+  pub entries : take (answer .summary .count) left ≡ setRows 0 rows
+  pub route : answer .summary .route ≡ 0
+  pub dense : answer .summary .density ≡ densityOf (answer .summary .count) n
+  pub later : drop (answer .summary .count) left ≡ drop (answer .summary .count) out
+
+pub writes : (v : Verdict) → v ≡ Fine → (n : ℕ) (rows : List Bool) (by : ℕ) (out : List ℕ) → length rows ≡ n → (rowAt : ℕ → Bool) → ((i : ℕ) → i < n → getD rows i false ≡ rowAt i)
+    → Writes n rowAt by (answered v rows by) (ifFine v (written n rows out) out) out
+writes v e n rows by out long rowAt law =
+    rw e
+    (record {
+      accepted = refl;
+      rows = λ i h. sym (getD-take n (bitsOfAll 64 (written n rows out)) i false h) ∙ ap (λ (l : List Bool). getD l i false) (written-rows n rows out long) ∙ law i h;
+      counted = ap count (sym (written-rows n rows out long));
+      route = refl;
+      dense = ap (densityOf (count rows)) long;
+      tail = written-tail n rows out long;
+      later = written-later n rows out long;
+    })
+
+-- ---- what is said of a row by a Bool, as a proposition
+
+pub in-both : (x y : Bool) → ((x && y) ≡ true) ↔ ((x ≡ true) × (y ≡ true))
+in-both true y = (λ e. (refl, e), λ p. p .1)
+in-both false y = (λ e. absurd (false≢true e), λ p. p .0)

@@ -1,0 +1,31 @@
+-- An answer, from its verdict and its rows: a refusal's count, route and density are 0.
+-- Assumes nothing.
+use Prim.Native.Nat.{ℕ}
+use native.Mathlib.Decide.{ℕ-discrete}
+use mathlib.Core.Bool.{Bool, false}
+use mathlib.Core.List.{List}
+use lib.IntN.{pos}
+use lib.Ieee.{Float, fin, binary64, round}
+use lib.ListN.{length}
+use Rattle.rows.specs.declared.Verdict.{Verdict}
+use Rattle.rows.specs.declared.Verdict.the-variants.{Fine, Refused}
+use Rattle.rows.specs.Rows.{count}
+use Rattle.rows.specs.Table.{choose, noRefusal}
+use Rattle.rules.specs.declared.Answer.{Answer}
+
+abbrev pub noDensity : Float
+noDensity = fin false 0 (pos 0)
+
+-- the quotient of count and length rounded once, 0.0 at length 0: `round f s num den` is the value of the format f that is nearest to
+-- num / den, ties to even
+unfoldable pub densityOf : ℕ → ℕ → Float
+densityOf n len = choose (ℕ-discrete len 0) noDensity (round binary64 false n len)
+
+-- the route that is told outside composition
+abbrev pub noRoute : ℕ
+noRoute = 0
+
+-- the answer whose result is these rows, by this route
+abbrev pub answered : Verdict → List Bool → ℕ → Answer
+answered Fine rows route = record { refusal = noRefusal; summary = record { count = count rows; route = route; density = densityOf (count rows) (length rows) } }
+answered (Refused r) rows route = record { refusal = r; summary = record { count = 0; route = 0; density = noDensity } }

@@ -1,0 +1,43 @@
+-- Document 01's route table: the first line that fits, after all checks.
+-- Assumes nothing.
+use Prim.Native.Nat.{ℕ, _*_}
+use mathlib.Core.Bool.{cond}
+use mathlib.Core.List.{List}
+use lib.Dec.{ltb}
+use Rattle.rows.specs.declared.Way.{Way}
+use Rattle.rows.specs.declared.Way.the-variants.{Network, Loop}
+use Rattle.rules.specs.declared.Form.{Form}
+use Rattle.rules.specs.declared.Factors.{Factors}
+use Rattle.rules.specs.declared.Route.{Route}
+use Rattle.rules.specs.declared.Route.the-variants.{RankMask, SelfMask, NoRows, EntryAtRank, EntryIfSet, MaskDriven, Gathered, Read}
+use Rattle.rules.specs.Operand.{lengthOf, countOf, empty, full, isList}
+
+-- the loop form where 16 x self count < self length
+abbrev pub wayOf : Factors → Form → List ℕ → Way
+wayOf k s ses = cond (ltb (k .sparse * countOf s ses) (lengthOf s)) Loop Network
+
+unfoldable pub routeOf : Factors → Form → List ℕ → Form → List ℕ → Route
+routeOf k s ses r res =
+    cond (full s ses) RankMask
+    (cond (full r res) SelfMask
+    (cond (empty s ses) NoRows
+    (cond (empty r res) NoRows
+    (cond (isList s) (cond (isList r) EntryAtRank EntryIfSet)
+    (cond (ltb (k .driven * countOf r res) (lengthOf r)) MaskDriven
+    (cond (isList r) (Gathered (wayOf k s ses)) (Read (wayOf k s ses))))))))
+
+abbrev pub numberOf : Route → ℕ
+numberOf RankMask = 1
+numberOf SelfMask = 2
+numberOf NoRows = 3
+numberOf EntryAtRank = 4
+numberOf EntryIfSet = 5
+numberOf MaskDriven = 6
+numberOf (Gathered Network) = 7
+numberOf (Gathered Loop) = 8
+numberOf (Read Network) = 9
+numberOf (Read Loop) = 10
+
+-- document 01's factors
+abbrev pub published : Factors
+published = record { sparse = 16; driven = 32 }

@@ -1,0 +1,77 @@
+// The book of rules: the types that a user sees; what is right of every operation stands in specs/, and the theorems about it in proofs/.
+// No code.
+use rows::Rank;
+use rows::Refusal;
+use rows::Row;
+use rows::Way;
+
+// The form of an operand. Words and rows are lent beside it, and a slice that the form does not use is ignored.
+pub enum Form {
+    All {
+        length: u64,
+    },
+    None {
+        length: u64,
+    },
+    Words {
+        start: u64,
+        length: u64,
+        claimed: u64,
+    },
+    List {
+        length: u64,
+    },
+}
+
+// What every operation returns of its result: the count of its set rows, the route, 0 outside composition, and the density.
+pub struct Summary {
+    pub count: u64,
+    pub route: u8,
+    pub density: f64,
+}
+
+// An answer: a refusal, or its place empty, and the summary.
+pub struct Answer {
+    pub refusal: Refusal,
+    pub summary: Summary,
+}
+
+// What the counts are multiplied by before they are held against the lengths: 16 for the loop form, 32 for mask-driven.
+pub struct Factors {
+    pub sparse: u32,
+    pub driven: u32,
+}
+
+// The ways of the route table, as its last column names them.
+pub enum Route {
+    RankMask,
+    SelfMask,
+    NoRows,
+    EntryAtRank,
+    EntryIfSet,
+    MaskDriven,
+    Gathered(Way),
+    Read(Way),
+}
+
+// The set operations. Not is of the first operand.
+pub enum Operation {
+    And,
+    Or,
+    AndNot,
+    Not,
+}
+
+// A stream's state: the rows fed, the ranks fed, which are the set rows among them, and how many rows were kept. The rows fed are the
+// next piece's first row, and the ranks fed its first rank; kept is a count and stands for neither.
+pub struct State {
+    pub done: Row,
+    pub ranks: Rank,
+    pub kept: u64,
+}
+
+// What a feed gives: its answer, and the state to hand to the next feed.
+pub struct Fed {
+    pub answer: Answer,
+    pub state: State,
+}
