@@ -7,9 +7,9 @@ use mask::inner::refused;
 use rows::Rank;
 use rows::Row;
 use rows::Verdict;
-pub use rules::Fed;
+use rules::Fed;
 use rules::Form;
-pub use rules::State;
+use rules::State;
 use step::step;
 
 mod judge;

@@ -4,9 +4,8 @@ ghost use mathlib.Core.Path.{_≡_};
 ghost use denote.Ref.{now};
 ghost use Rattle.rules.specs.Convert.{toWords, toWordsOut, toList, toListOut};
 use rows::Verdict;
-pub use rules::Answer;
-pub use rules::Form;
-pub use rules::Summary;
+use rules::Answer;
+use rules::Form;
 
 mod check;
 pub mod inner;

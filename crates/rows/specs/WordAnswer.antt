@@ -1,4 +1,6 @@
 -- What is right of deposit, of select and of rank read: a refusal and word or position 0, or no refusal and what document 01 says.
+-- Hold it against document 01, parts 2, 3 and 4; its refusals 4 ("deposit: in the mask word"), 9 and 2; and "A refusal carries .. word or
+-- position 0". None of the three names an operand.
 -- Assumes nothing.
 use Prim.Native.Nat.{ℕ, _+_}
 use native.Mathlib.Decide.{ℕ-discrete, decLt, decLe}

@@ -1,4 +1,6 @@
 -- An answer, from its verdict and its rows: a refusal's count, route and density are 0.
+-- Hold it against document 01: "Count, route (0 outside composition) and density. The density is the f64 quotient of the result's count and
+-- length, rounded once, and 0.0 at length 0."; and "A refusal carries count 0, route 0, density 0.0".
 -- Assumes nothing.
 use Prim.Native.Nat.{ℕ}
 use native.Mathlib.Decide.{ℕ-discrete}

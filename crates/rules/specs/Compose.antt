@@ -1,4 +1,7 @@
 -- What is right of a composition: its checks, its answer, and the output as it is left.
+-- Hold it against demand 2: "Where both masks pass 01's checks, the output has room and the rank mask's length equals the set rows of the
+-- self mask, row i of the result is set exactly if self has i and the rank mask has i's rank."; and document 01: "then the first operand,
+-- then the second, .. then 7, 11, 8", where 11 is a feed's.
 -- Assumes nothing.
 use Prim.Native.Nat.{ℕ}
 use native.Mathlib.Decide.{ℕ-discrete, decLe}

@@ -1,4 +1,6 @@
 -- What is right of a conversion: any form to words, any form to a list of its set rows. One operand, which is operand 1.
+-- Hold it against document 01, part 5: "any form to words, any form to a list, same length and rows"; "List output needs one u32 entry for
+-- each set row, ascending; later entries stay."; and its refusal 8.
 -- Assumes nothing.
 use Prim.Native.Nat.{ℕ}
 use native.Mathlib.Decide.{decLe}

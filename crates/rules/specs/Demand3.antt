@@ -1,4 +1,5 @@
 -- Demand 3, said of runs of the function that the contract of `feed` cites.
+-- Hold it against demand 3: its two sentences stand above `Forward` and `Converse`.
 -- Assumes nothing.
 use Prim.Native.Nat.{ℕ, zero, suc, _+_}
 use mathlib.Core.Path.{_≡_}

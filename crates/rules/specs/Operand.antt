@@ -1,4 +1,6 @@
 -- An operand: a form with what is lent beside it; its rows, and document 01's checks of it in document 01's order.
+-- Hold it against document 01: "An operand comes in one of four forms", to "Limits"; the lines 1 to 6 and 12 of its refusals; and "each
+-- through 12, 1, 2, 3, 4 (words) or 12, 1, 5, 6 (list), as they apply".
 -- Assumes nothing.
 use Prim.Native.Nat.{ℕ, _+_}
 use native.Mathlib.Decide.{ℕ-discrete, decLe}

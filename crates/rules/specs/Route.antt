@@ -1,4 +1,5 @@
 -- Document 01's route table: the first line that fits, after all checks.
+-- Hold it against the table, line by line; "8 and 10 apply when 16 x self count < self length"; and "self words, 32 x rank count < rank length".
 -- Assumes nothing.
 use Prim.Native.Nat.{ℕ, _*_}
 use mathlib.Core.Bool.{cond}

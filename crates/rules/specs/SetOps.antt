@@ -1,4 +1,6 @@
 -- What is right of a set operation: and, or, and-not by what they do to a row of each operand; not, of one operand.
+-- Hold it against document 01, part 8: "all, none and words in, words out. Row i is in both (and), in either (or), in the first only
+-- (and-not), or not in the one operand (not)."; its refusal 12; and 7: "set operands differ in length".
 -- Assumes nothing.
 use Prim.Native.Nat.{ℕ}
 use native.Mathlib.Decide.{ℕ-discrete, decLe}

@@ -1,4 +1,5 @@
 -- What is right of a feed, and of feeds run one after the other on one output, each handed the state that the one before gave back.
+-- Hold it against document 01, "Stream composer", sentence by sentence; and its refusals: "10 first for a feed; .. then 7, 11, 8".
 -- Assumes nothing.
 use Prim.Native.Nat.{ℕ, _+_}
 use native.Mathlib.Decide.{ℕ-discrete, decLe}

@@ -1,9 +1,9 @@
 // The word layer: word deposit, in the crate's portable forms, and select. The two entry points take any numbers.
 ghost use mathlib.Core.Path.{_≡_};
 ghost use Rattle.rows.specs.WordAnswer.{deposited, selected};
-pub use rows::Deposited;
+use rows::Deposited;
 use rows::Refusal;
-pub use rows::Selected;
+use rows::Selected;
 
 mod forms;
 pub mod inner;
