@@ -113,10 +113,10 @@ module _ (s : Form) (sws ses : List ℕ) (r : Form) (rws res : List ℕ) where
   table-numbered room = numbered-append (bothChecks s sws ses r rws res) (need (ℕ-discrete (lengthOf r) (countOf s ses)) 7 0 ∷ eight room) both-numbered (omega arith, (omega arith, tt))
 
   -- the needs part by part; `search` finds each where it stands, so that the order is the theorem's alone to say
-  pub compose-met : (room : ℕ) → Met (composeChecks s sws ses r rws res room) ↔ (Paired s sws ses r rws res × (wordsFor (lengthOf s) ≤ room))
+  pub compose-met : (room : ℕ) → Met (composeChecks s sws ses r rws res room) ↔ Accepts room
   compose-met room = (to, from)
     where
-      to : Met (composeChecks s sws ses r rws res room) → Paired s sws ses r rws res × (wordsFor (lengthOf s) ≤ room)
+      to : Met (composeChecks s sws ses r rws res room) → Accepts room
       to m =
           let p = parts-met _ _ .0 m in
           let q = parts-met _ _ .0 (p .1) in
@@ -124,13 +124,13 @@ module _ (s : Form) (sws ses : List ℕ) (r : Form) (rws res : List ℕ) where
           let a = both-met s sws ses r rws res .0 (search) in
           (record { self = a .0; rank = a .1; ranks = search }, search)
 
-      from : Paired s sws ses r rws res × (wordsFor (lengthOf s) ≤ room) → Met (composeChecks s sws ses r rws res room)
+      from : Accepts room → Met (composeChecks s sws ses r rws res room)
       from t =
           let both = both-met s sws ses r rws res .1 (t .0 .self, t .0 .rank) in
           let ranks = t .0 .ranks in
           parts-met _ _ .1 (search, parts-met _ _ .1 (search, parts-met _ _ .1 (search, none-met)))
 
-  pub compose-fine : (room : ℕ) → (first (composeChecks s sws ses r rws res room) ≡ Fine) ↔ (Paired s sws ses r rws res × (wordsFor (lengthOf s) ≤ room))
+  pub compose-fine : (room : ℕ) → (first (composeChecks s sws ses r rws res room) ≡ Fine) ↔ Accepts room
   compose-fine room = (λ e. compose-met room .0 (fine-exactly (composeChecks s sws ses r rws res room) .0 e), λ t. fine-exactly (composeChecks s sws ses r rws res room) .1 (compose-met room .1 t))
 
   module _ (k : Factors) (out : List ℕ) where

@@ -133,10 +133,10 @@ module _ (a : Form) (aws aes : List ℕ) (b : Form) (bws bes : List ℕ) where
       (numbered-append (setChecks 2 b bws bes) (lengths room) (set-numbered 2 b bws bes) (omega arith, (omega arith, tt)))
 
   -- the needs part by part; `search` finds each where it stands, so that the order is the theorem's alone to say
-  pub pair-met : (room : ℕ) → Met (pairChecks a aws aes b bws bes room) ↔ (Taken a aws aes × Taken b bws bes × (lengthOf a ≡ lengthOf b) × (wordsFor (lengthOf a) ≤ room))
+  pub pair-met : (room : ℕ) → Met (pairChecks a aws aes b bws bes room) ↔ Accepts room
   pair-met room = (to, from)
     where
-      to : Met (pairChecks a aws aes b bws bes room) → Taken a aws aes × Taken b bws bes × (lengthOf a ≡ lengthOf b) × (wordsFor (lengthOf a) ≤ room)
+      to : Met (pairChecks a aws aes b bws bes room) → Accepts room
       to m =
           let p = parts-met _ _ .0 m in
           let q = parts-met _ _ .0 (p .1) in
@@ -146,13 +146,13 @@ module _ (a : Form) (aws aes : List ℕ) (b : Form) (bws bes : List ℕ) where
           let tb = taken-as 2 b bws bes .0 in
           (ta (search), tb (search), search, search)
 
-      from : Taken a aws aes × Taken b bws bes × (lengthOf a ≡ lengthOf b) × (wordsFor (lengthOf a) ≤ room) → Met (pairChecks a aws aes b bws bes room)
+      from : Accepts room → Met (pairChecks a aws aes b bws bes room)
       from t =
           let ma = taken-as 1 a aws aes .1 (t .0) in
           let mb = taken-as 2 b bws bes .1 (t .1) in
           parts-met _ _ .1 (search, parts-met _ _ .1 (search, parts-met _ _ .1 (search, parts-met _ _ .1 (search, none-met))))
 
-  pub pair-fine : (room : ℕ) → (first (pairChecks a aws aes b bws bes room) ≡ Fine) ↔ (Taken a aws aes × Taken b bws bes × (lengthOf a ≡ lengthOf b) × (wordsFor (lengthOf a) ≤ room))
+  pub pair-fine : (room : ℕ) → (first (pairChecks a aws aes b bws bes room) ≡ Fine) ↔ Accepts room
   pair-fine room = (λ e. pair-met room .0 (fine-exactly (pairChecks a aws aes b bws bes room) .0 e), λ t. fine-exactly (pairChecks a aws aes b bws bes room) .1 (pair-met room .1 t))
 
   module _ (g : Bool → Bool → Bool) (out : List ℕ) where
@@ -217,13 +217,13 @@ module _ (a : Form) (aws aes : List ℕ) where
   unfolding inOrder
   one-numbered room = numbered-append (setChecks 1 a aws aes) (space room) (set-numbered 1 a aws aes) (omega arith, tt)
 
-  pub one-met : (room : ℕ) → Met (notChecks a aws aes room) ↔ (Taken a aws aes × (wordsFor (lengthOf a) ≤ room))
+  pub one-met : (room : ℕ) → Met (notChecks a aws aes room) ↔ NotAccepts room
   one-met room = (
     λ m. (let p = parts-met _ _ .0 m in (taken-as 1 a aws aes .0 (p .0), parts-met _ _ .0 (p .1) .0 .0)),
     λ t. parts-met _ _ .1 (taken-as 1 a aws aes .1 (t .0), parts-met _ _ .1 ((t .1, tt), none-met)),
   )
 
-  pub one-fine : (room : ℕ) → (first (notChecks a aws aes room) ≡ Fine) ↔ (Taken a aws aes × (wordsFor (lengthOf a) ≤ room))
+  pub one-fine : (room : ℕ) → (first (notChecks a aws aes room) ≡ Fine) ↔ NotAccepts room
   one-fine room = (λ e. one-met room .0 (fine-exactly (notChecks a aws aes room) .0 e), λ t. fine-exactly (notChecks a aws aes room) .1 (one-met room .1 t))
 
   module _ (out : List ℕ) where
