@@ -10,12 +10,13 @@ use Rattle.rows.proofs.WordsLaws.{view-length}
 use Rattle.rules.specs.declared.Form.{Form}
 use Rattle.rules.specs.declared.Form.the-variants.{All, None, Words, List as Listed}
 use Rattle.rules.specs.Operand.{rowsOf, lengthOf, isList, limit, Accepted}
+use Rattle.rules.proofs.OperandLaws.{words-reach}
 use Rattle.mask.specs.Flat.{Flat}
 
 pub accepted-flat : (f : Form) (ws es : List ℕ) → isList f ≡ false → Accepted f ws es → Flat f ws
 accepted-flat (All n) ws es e m = m .0
 accepted-flat (None n) ws es e m = m .0
-accepted-flat (Words start len claimed) ws es e m = (m .0, m .1 .0, omega (arith, m .1 .1 .0))
+accepted-flat (Words start len claimed) ws es e m = (m .0, m .1 .0, omega (arith, words-reach start len claimed ws es m))
 accepted-flat (Listed len) ws es e m = absurd (false≢true (sym e))
 
 pub flat-rows : (f : Form) (ws es : List ℕ) → Flat f ws → rowsOf f ws es ≡ rowsOf f ws []

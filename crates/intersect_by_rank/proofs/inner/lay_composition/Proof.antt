@@ -38,7 +38,7 @@ accepted-requires : tie.Need-accepted-requires
 accepted-requires c κs =
     let a = (c .before .before .before .before .before .before .before .before .before .before .before .before .before) .args in
     let p = (c .before .before .before .before .before .before .before .before .before .before .before .before .before) .pre .0 in
-    (omega (arith, c .before .before .count-of .ensures, accepted-few (a .r) (now (a .rwords)) (now (a .rrows)) (p .rank)), omega (arith, c .length-of .ensures, accepted-limit (a .s) (now (a .swords)) (now (a .srows)) (p .self)))
+    (omega (arith, c .before .before .count-of .ensures, accepted-few (a .r) (now (a .rwords)) (now (a .rrows)) (p .rank), accepted-few (a .s) (now (a .swords)) (now (a .srows)) (p .self)), omega (arith, c .length-of .ensures, accepted-limit (a .s) (now (a .swords)) (now (a .srows)) (p .self)))
 
 same-length : tie.Need-same-length
 same-length c = search needs
