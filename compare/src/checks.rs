@@ -3,10 +3,10 @@ use std::fmt::Debug;
 use std::panic::{AssertUnwindSafe, catch_unwind};
 
 use crate::answer::{Answer, COUNT};
+use crate::given::Given;
 use crate::operand::{Operand, shown_words};
 use crate::ours::Told;
 use crate::rules::Expected;
-use crate::theirs::Given;
 
 pub type Outcome<T = ()> = Result<T, String>;
 

@@ -4,6 +4,7 @@ use vortex_mask_inside::private;
 
 use crate::answer::{COUNT, ROUTE};
 use crate::checks::{Outcome, asked, by_the_crate, by_the_rules, same, with_input};
+use crate::given::Given;
 use crate::operand::{Operand, count, fitting_form, lend, length_around_words, random_rows};
 use crate::ours::Told;
 use crate::random::Random;
@@ -144,7 +145,7 @@ fn by_every_kernel(a: &Operand, b: &Operand, told: &Told<u64>) -> Outcome {
 }
 
 /// Masks made anew, since the crate keeps index lists that it built; `cached` says for which it has one beforehand.
-fn crate_composes(a: &Operand, b: &Operand, cached: (bool, bool), bmi2: bool) -> (usize, theirs::Given) {
+fn crate_composes(a: &Operand, b: &Operand, cached: (bool, bool), bmi2: bool) -> (usize, Given) {
     let (a, b) = (theirs::mask(a), theirs::mask(b));
     if cached.0 {
         theirs::cache_indices(&a);

@@ -5,6 +5,7 @@ pub mod checks;
 pub mod compositions;
 pub mod examples;
 pub mod feeds;
+pub mod given;
 pub mod lent;
 #[cfg(feature = "mirror")]
 #[rustfmt::skip] // an operand's eight parts stay together

@@ -5,9 +5,9 @@ use std::slice;
 use std::sync::LazyLock;
 
 use crate::answer::{Answer, COUNT, ROUTE};
+use crate::given::Given;
 use crate::operand::{LIST, Operand, WORDS};
 use crate::rules::{self, Expected};
-use crate::theirs::Given;
 
 static FAULT: LazyLock<String> = LazyLock::new(|| std::env::var("COMPARE_FAULT").unwrap_or_default());
 

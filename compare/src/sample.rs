@@ -5,9 +5,9 @@ use vortex_buffer::BitBuffer;
 use vortex_mask_inside::private;
 
 use crate::checks::{Outcome, asked};
+use crate::given::Given;
 use crate::operand::{NONE, Operand, WORDS, count, fitting_form, lend, lend_at, random_rows};
 use crate::random::Random;
-use crate::theirs::Given;
 use crate::words::{mask_word, random_offset, source_word};
 use crate::{rules, telling, theirs};
 

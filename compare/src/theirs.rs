@@ -3,15 +3,8 @@ use switched_std::cpu;
 use vortex_buffer::BitBuffer;
 use vortex_mask::{AllOr, Mask};
 
+use crate::given::Given;
 use crate::operand::{ALL, NONE, Operand, WORDS};
-
-/// Of a mask: its rows as words from bit 0 on, its count, its density's bits.
-#[derive(PartialEq)]
-pub struct Given {
-    pub words: Vec<u64>,
-    pub count: u64,
-    pub density: u64,
-}
 
 pub fn mask(operand: &Operand) -> Mask {
     let length = operand.length as usize;
