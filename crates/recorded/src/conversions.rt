@@ -6,7 +6,7 @@ use super::answer::outcome_of;
 use super::answer::read_expected;
 use super::reader::Cursor;
 use super::reader::digits::read_number;
-use super::reader::forms::read_form;
+use super::reader::operands::read_operand;
 use rules::Form;
 
 // The conversion over an output slice that holds what it is to hold before.
@@ -30,11 +30,12 @@ fn answer_list(
     form: Form,
     words: &[u64],
     rows: &[u32],
+    elements: &mut [u64],
     out: &mut [u32],
 ) -> Outcome {
     let answer = mask::to_list(form, words, rows, out);
     let expected = read_expected(text, cursor);
-    let after = super::reader::lists::compare(text, expected.next, out);
+    let after = super::reader::lists::compare(text, expected.next, elements, out);
     outcome_of(finding_of(answer, expected), after.same, after.next)
 }
 
@@ -51,17 +52,27 @@ fn run_to_words(
     answer_words(text, before.next, form, words, rows, &mut out[..size])
 }
 
+// No words are written here, so those of the output are free to take a list's elements.
 fn run_to_list(
     text: &[u8],
     cursor: Cursor,
     form: Form,
     words: &[u64],
     rows: &[u32],
+    elements: &mut [u64],
     out: &mut [u32],
 ) -> Outcome {
-    let before = super::reader::lists::fill(text, cursor, out);
+    let before = super::reader::lists::fill(text, cursor, elements, out);
     let size = before.length;
-    answer_list(text, before.next, form, words, rows, &mut out[..size])
+    answer_list(
+        text,
+        before.next,
+        form,
+        words,
+        rows,
+        elements,
+        &mut out[..size],
+    )
 }
 
 pub fn run_case(
@@ -73,17 +84,23 @@ pub fn run_case(
     outrows: &mut [u32],
 ) -> Outcome {
     let operation = read_number(text, cursor);
-    let told = read_form(text, operation.next);
+    let told = read_operand(text, operation.next, words, rows);
     let chosen = operation.value;
     let form = told.form;
-    let lent = super::reader::words::fill(text, told.next, words);
-    let listed = super::reader::lists::fill(text, lent.next, rows);
-    let next = listed.next;
-    let size = lent.length;
-    let entries = listed.length;
+    let next = told.next;
+    let size = told.size;
+    let entries = told.entries;
     match chosen {
         1 => run_to_words(text, next, form, &words[..size], &rows[..entries], outwords),
-        2 => run_to_list(text, next, form, &words[..size], &rows[..entries], outrows),
+        2 => run_to_list(
+            text,
+            next,
+            form,
+            &words[..size],
+            &rows[..entries],
+            outwords,
+            outrows,
+        ),
         _ => Outcome {
             finding: Finding::Malformed,
             next,

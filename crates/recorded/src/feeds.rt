@@ -7,8 +7,8 @@ use super::answer::outcome_of;
 use super::answer::read_expected;
 use super::reader::Cursor;
 use super::reader::digits::read_number;
-use super::reader::forms::read_form;
 use super::reader::if_held;
+use super::reader::operands::read_operand;
 use composer::Composer;
 use rows::Rank;
 use rows::Row;
@@ -119,15 +119,13 @@ fn run_second(
     rrows: &mut [u32],
     out: &mut [u64],
 ) -> Step {
-    let told = read_form(text, cursor);
+    let told = read_operand(text, cursor, rwords, rrows);
     let r = told.form;
-    let lent = super::reader::words::fill(text, told.next, rwords);
-    let listed = super::reader::lists::fill(text, lent.next, rrows);
-    let size = lent.length;
-    let entries = listed.length;
+    let size = told.size;
+    let entries = told.entries;
     answer(
         text,
-        listed.next,
+        told.next,
         state,
         s,
         swords,
@@ -151,15 +149,13 @@ fn run_feed(
 ) -> Step {
     let handed = read_handed(text, cursor, back);
     let state = handed.state;
-    let told = read_form(text, handed.next);
+    let told = read_operand(text, handed.next, swords, srows);
     let s = told.form;
-    let lent = super::reader::words::fill(text, told.next, swords);
-    let listed = super::reader::lists::fill(text, lent.next, srows);
-    let size = lent.length;
-    let entries = listed.length;
+    let size = told.size;
+    let entries = told.entries;
     run_second(
         text,
-        listed.next,
+        told.next,
         state,
         s,
         &swords[..size],

@@ -6,8 +6,8 @@ use super::answer::read_expected;
 use super::reader::Cursor;
 use super::reader::Number;
 use super::reader::digits::read_number;
-use super::reader::forms::read_form;
 use super::reader::if_held;
+use super::reader::operands::read_operand;
 use rules::Answer;
 use rules::Form;
 
@@ -100,15 +100,13 @@ fn run_second(
     brows: &mut [u32],
     out: &mut [u64],
 ) -> Outcome {
-    let told = read_form(text, cursor);
+    let told = read_operand(text, cursor, bwords, brows);
     let b = told.form;
-    let lent = super::reader::words::fill(text, told.next, bwords);
-    let listed = super::reader::lists::fill(text, lent.next, brows);
-    let size = lent.length;
-    let entries = listed.length;
+    let size = told.size;
+    let entries = told.entries;
     run_operation(
         text,
-        listed.next,
+        told.next,
         operation,
         a,
         awords,
@@ -130,15 +128,13 @@ pub fn run_case(
     out: &mut [u64],
 ) -> Outcome {
     let operation = read_operation(text, cursor);
-    let told = read_form(text, operation.next);
+    let told = read_operand(text, operation.next, awords, arows);
     let a = told.form;
-    let lent = super::reader::words::fill(text, told.next, awords);
-    let listed = super::reader::lists::fill(text, lent.next, arows);
-    let size = lent.length;
-    let entries = listed.length;
+    let size = told.size;
+    let entries = told.entries;
     run_second(
         text,
-        listed.next,
+        told.next,
         operation.value,
         a,
         &awords[..size],

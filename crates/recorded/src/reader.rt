@@ -5,6 +5,7 @@ use digits::read_number;
 pub mod digits;
 pub mod forms;
 pub mod lists;
+pub mod operands;
 pub mod words;
 
 // Where the reader stands, and whether all that it has read was well formed.

@@ -1,4 +1,4 @@
-// Slices of row numbers told as runs: the number of runs, then each run.
+// Lists of row numbers. A list is told as a slice of words is, and is read as one, by way of words that are lent for its elements.
 ghost use mathlib.Core.Path.{_≡_};
 ghost use Prim.Native.Nat.{_≤_};
 ghost use lib.ListN.{length, take};
@@ -6,94 +6,56 @@ ghost use denote.Ref.{now};
 use super::Compared;
 use super::Cursor;
 use super::Filled;
-use super::Run;
-use super::after_run;
-use super::digits::read_number;
-use super::is_whole;
-use super::read_run;
+use super::if_held;
 
-// The told slice laid over the front of `into`. One that has no room there is malformed. Of the two facts about the length
-// the second follows from the first; both are what a caller has to show who lends `&into[..length]`.
-pub fn fill(text: &[u8], cursor: Cursor, into: &mut [u32]) -> Filled
-    ensures { λ r. ⌜ (r .length ≤ length (now (into .exit))) × (r .length ≡ length (take (r .length) (now (into .exit)))) ⌝ }
+// The told list laid over the front of `rows`, as `words::fill` lays words. One that has no room there is malformed.
+pub fn fill(text: &[u8], cursor: Cursor, elements: &mut [u64], rows: &mut [u32]) -> Filled
+    ensures { λ r. ⌜ (r .length ≤ length (now (rows .exit))) × (r .length ≡ length (take (r .length) (now (rows .exit)))) ⌝ }
 {
-    let runs = read_number(text, cursor);
-    let mut next = runs.next;
-    let mut at: usize = 0;
-    let mut left = runs.value;
-    while left > 0 {
-        let run = read_run(text, next);
-        let end = lay(run, at, into);
-        next = after_run(run, is_whole(run, at, end));
-        at = end;
-        if !next.fine {
-            return Filled { length: at, next };
-        }
-        left -= 1;
-    }
-    Filled { length: at, next }
+    let told = super::words::fill(text, cursor, elements);
+    let size = told.length;
+    let laid = narrow(&elements[..size], rows);
+    let next = if_held(told.next, laid == size);
+    Filled { length: laid, next }
 }
 
-// As many of the run's elements as have room from place `from` on; the place after them.
-fn lay(run: Run, from: usize, into: &mut [u32]) -> usize
-    requires { ⌜ from ≤ length (now into) ⌝ }
-    ensures { λ r. ⌜ r ≤ length (now (into .entry)) ⌝ }
+// The low halves of as many elements as have room in `rows`; their number.
+fn narrow(elements: &[u64], rows: &mut [u32]) -> usize
+    ensures { λ r. ⌜ (r ≤ length (now (rows .exit))) × (r ≡ length (take r (now (rows .exit)))) ⌝ }
 {
-    let mut value = run.first;
-    let mut left = run.count;
-    let mut at = from;
-    while at < into.len() {
-        if left == 0 {
+    let mut at: usize = 0;
+    while at < rows.len() {
+        if at >= elements.len() {
             return at;
         }
-        into[at] = low_half(value);
-        value = std::num::wrapping_add_u64(value, run.step);
-        left -= 1;
+        rows[at] = low_half(elements[at]);
         at += 1;
     }
     at
 }
 
-// Whether `slice` is the told slice, neither longer nor shorter. Where they differ it still reads to the told slice's end.
-pub fn compare(text: &[u8], cursor: Cursor, slice: &[u32]) -> Compared {
-    let runs = read_number(text, cursor);
-    let mut next = runs.next;
-    let mut same = true;
-    let mut at: usize = 0;
-    let mut left = runs.value;
-    while left > 0 {
-        let run = read_run(text, next);
-        let end = follow(run, at, slice);
-        if !is_whole(run, at, end) {
-            same = false;
-        }
-        next = run.next;
-        at = end;
-        if !next.fine {
-            return Compared { same: false, next };
-        }
-        left -= 1;
+// Whether `rows` is the told list, neither longer nor shorter. The rows are made words, and not the told elements rows: one of 2^32 or
+// more equals no row.
+pub fn compare(text: &[u8], cursor: Cursor, elements: &mut [u64], rows: &[u32]) -> Compared {
+    let size = widen(rows, elements);
+    let after = super::words::compare(text, cursor, &elements[..size]);
+    let next = after.next;
+    if size < rows.len() {
+        return Compared { same: false, next };
     }
-    if at < slice.len() {
-        same = false;
-    }
-    Compared { same, next }
+    after
 }
 
-// The place from `from` on up to which the slice follows the run.
-fn follow(run: Run, from: usize, slice: &[u32]) -> usize {
-    let mut value = run.first;
-    let mut left = run.count;
-    let mut at = from;
-    while at < slice.len() {
-        if left == 0 {
+// As many of the rows as have room in `elements`; their number.
+fn widen(rows: &[u32], elements: &mut [u64]) -> usize
+    ensures { λ r. ⌜ (r ≤ length (now (elements .exit))) × (r ≡ length (take r (now (elements .exit)))) ⌝ }
+{
+    let mut at: usize = 0;
+    while at < elements.len() {
+        if at >= rows.len() {
             return at;
         }
-        if wide(slice[at]) != value {
-            return at;
-        }
-        value = std::num::wrapping_add_u64(value, run.step);
-        left -= 1;
+        elements[at] = wide(rows[at]);
         at += 1;
     }
     at
