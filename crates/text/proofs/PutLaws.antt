@@ -6,18 +6,19 @@ use native.Mathlib.Nat.{pow-suc, mod-eq-of-lt, mod-lt, zero-lt-suc, one-le-pow, 
 use native.Mathlib.Decide.{ℕ-discrete, decLe}
 use mathlib.Core.Path.{_≡_, refl, sym, ap, ap₂, _∙_}
 use mathlib.Core.Bool.{Bool, true, false}
-use mathlib.Core.List.{List, [], _∷_, _++_}
+use mathlib.Core.List.{List, [], _∷_, _++_, append-nil, append-assoc}
 use native.Mathlib.Omega.{arith}
-use lib.ListN.{length, take, drop, getD, set, length-append}
-use lib.Seq.{take-suc, length-take-le}
+use lib.ListN.{length, take, drop, set, length-append, length-drop, drop-of-length-le}
+use lib.Seq.{take-all, take-length, drop-drop}
 use borrow.Author.Tests.{lt-ltb, le-ltb}
+use borrow.Rule.Slice.PartMut.{midOf, putMid}
 use Rattle.io.specs.Digits.{glyph, Fewest}
 use Rattle.io.specs.Digits as ioText
 use Rattle.rows.specs.Rows.{splice}
 use Rattle.rows.specs.Word.{wordOf}
 use Rattle.rows.specs.Words.{fit, bitsOfAll, view}
 use Rattle.rows.specs.Table.{choose}
-use Rattle.rows.proofs.SpliceLaws.{splice-one, splice-append}
+use Rattle.rows.proofs.SpliceLaws.{splice-one, splice-append, splice-eq}
 use Rattle.rows.proofs.WordLaws.{wordOf-lt}
 use Rattle.rows.proofs.WordsLaws.{fit-length}
 use Rattle.rows.proofs.FitLaws.{view-step}
@@ -25,13 +26,19 @@ use Rattle.rules.specs.declared.Answer.{Answer}
 use Rattle.text.specs.Text.{digitOf, digits, line, bitsKey, decimalIn, decimal, lines, linesOf}
 use Rattle.text.proofs.SaidLaws.{digits-length}
 
--- ---- one byte more
+-- ---- bytes
 
+-- one more
 pub one-more : (at i y : ℕ) (out done : List ℕ) → length done ≡ i → set (splice at out done) (at + i) y ≡ splice at out (done ++ y ∷ [])
 one-more at i y out done e = sym (splice-one (at + i) (splice at out done) y) ∙ ap (λ (k : ℕ). splice (at + k) (splice at out done) (y ∷ [])) (sym e) ∙ splice-append at out done (y ∷ [])
 
-pub put-next : (at i : ℕ) (out bytes : List ℕ) → i < length bytes → set (splice at out (take i bytes)) (at + i) (getD bytes i 0) ≡ splice at out (take (suc i) bytes)
-put-next at i out bytes h = one-more at i (getD bytes i 0) out (take i bytes) (length-take-le i bytes (omega arith)) ∙ ap (splice at out) (sym (take-suc bytes i 0 h))
+-- bytes copied to the front of the part from `at` on
+pub put-part : (at : ℕ) (out bytes : List ℕ) → at + length bytes ≤ length out
+    → putMid at (length out - at) out (take (length bytes) bytes ++ drop (length bytes) (midOf at (length out - at) out)) ≡ splice at out bytes
+put-part at out bytes h =
+    let few : length (drop at out) ≤ length out - at = omega (arith, length-drop at out) in
+    rw (splice-eq at out bytes h, take-length bytes, take-all (length out - at) (drop at out) few, drop-of-length-le (drop at out) few, append-nil, drop-drop)
+    (sym (append-assoc (take at out) bytes (drop (at + length bytes) out)))
 
 -- parts one after the other: the next part stands where the last one ended
 pub put-after : (at next : ℕ) (out xs ys : List ℕ) → next ≡ at + length xs → splice next (splice at out xs) ys ≡ splice at out (xs ++ ys)

@@ -16,12 +16,7 @@ pub fn put_bytes(bytes: &[u8], at: usize, out: &mut [u8]) -> usize
     requires { ⌜ at + length (now bytes) ≤ length (now out) ⌝ }
     ensures { λ r. ⌜ (r ≡ at + length (now (bytes .entry))) × (now (out .exit) ≡ splice at (now (out .entry)) (now (bytes .entry))) ⌝ }
 {
-    let mut i: usize = 0;
-    while i < bytes.len() {
-        out[at + i] = bytes[i];
-        i += 1;
-    }
-    at + i
+    at + bytes::copy(bytes, &mut out[at..])
 }
 
 // A number in decimal, which has at most 20 digits.

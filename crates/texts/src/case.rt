@@ -2,11 +2,11 @@
 ghost use Prim.Native.Nat.{_≤_};
 ghost use lib.ListN.{length};
 ghost use denote.Ref.{now};
-use super::bytes::MARK;
-use super::bytes::same;
-use super::bytes::untouched;
 use super::files::read_answer;
 use super::files::read_file;
+use super::output::MARK;
+use super::output::same;
+use super::output::untouched;
 use text::Written;
 
 pub enum Finding {

@@ -3,7 +3,6 @@ ghost use Prim.Native.Nat.{_≤_};
 ghost use lib.ListN.{length};
 ghost use denote.Ref.{now};
 ghost use Rattle.io.specs.Counts.{Counts};
-use super::bytes::put;
 use super::input::Got;
 use super::input::read_all;
 
@@ -29,7 +28,7 @@ pub fn read_answer(name: &[u8], out: &mut [u8]) -> Got
     ensures { λ g. ⌜ Counts (g .len) (now (out .exit)) ⌝ }
 {
     let mut path = [0u8; 39];
-    let dot = put(name, 0, &mut path);
-    let end = put(b".answer", dot, &mut path);
+    let dot = bytes::copy(name, &mut path);
+    let end = dot + bytes::copy(b".answer", &mut path[dot..]);
     read_file(&path[..end], out)
 }

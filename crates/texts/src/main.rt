@@ -9,10 +9,10 @@ use case::run_case;
 use files::read_file;
 use libc::STDOUT_FILENO;
 
-mod bytes;
 mod case;
 mod files;
 mod input;
+mod output;
 
 // How many cases agreed, and whether these are all.
 struct Tally {

@@ -1,79 +1,42 @@
 -- `text::put::put_bytes` meets its contract.
--- The invariant: the bytes before `i` are laid. Assumes nothing.
-use Prim.Native.Nat.{ℕ, _+_, _-_, _≤_}
-use native.Mathlib.Numerals.{add-one}
-use mathlib.Core.Path.{_≡_, refl, sym, ap, _∙_}
-use mathlib.Core.List.{List}
+-- What `bytes::copy` leaves of the part from `at` on, with what stands before it, is the splice. Assumes nothing.
+use Prim.Native.Nat.{_-_}
+use mathlib.Core.Path.{ap, _∙_}
 use native.Mathlib.Omega.{arith}
-use lib.ListN.{length, take, getD, set, length-set}
-use lib.Seq.{take-all}
+use lib.ListN.{length}
 use denote.Ref.{now}
 use borrow.Author.Needs.{needs}
-use Rattle.rows.specs.Rows.{splice}
-use Rattle.rows.proofs.SpliceLaws.{splice-nil}
-use Rattle.text.proofs.PutLaws.{put-next}
+use borrow.Rule.Slice.PartMut.{putMid}
+use Rattle.text.proofs.PutLaws.{put-part}
 use Rattle.text.proofs.put.put_bytes.Statement.{statement}
 use Rattle.text.proofs.put.put_bytes.Tie as tie
 
-abbrev Inv-loop : tie.InvT-loop
-Inv-loop bytes at out₀ i₀ out i = (i ≤ length bytes) × (length out ≡ length out₀) × (out ≡ splice at out₀ (take i bytes))
+sub-copy : tie.Need-sub-copy
+sub-copy c = search needs
 
-abbrev μ-loop : tie.MeasureT-loop
-μ-loop bytes at out₀ i₀ out i = length bytes - i
+part-copy-start : tie.Need-part-copy-start
+part-copy-start c = search needs
 
-loop-holds : tie.Need-loop-holds Inv-loop μ-loop
-loop-holds c = (omega arith, refl, sym (splice-nil (c .args .at) (now (c .args .out))))
+part-copy-end : tie.Need-part-copy-end
+part-copy-end c = search needs
 
-shared-slice-read-out : tie.Need-shared-slice-read-out Inv-loop μ-loop
-shared-slice-read-out c = search needs
+copy-requires : tie.Need-copy-requires
+copy-requires c κs = search needs
 
-add-out : tie.Need-add-out Inv-loop μ-loop
-add-out c = search needs
-
-slice-write-out : tie.Need-slice-write-out Inv-loop μ-loop
-slice-write-out c = search needs
-
-add-i : tie.Need-add-i Inv-loop μ-loop
-add-i c = search needs
-
-loop-less : tie.Need-loop-less Inv-loop μ-loop
-loop-less c = search needs
-
-loop-again : tie.Need-loop-again Inv-loop μ-loop
-loop-again c =
-    let a = c .before .before .before .args in
-    let l = c .before .before .loop in
-    let y = getD (now (a .bytes)) (l .i) 0 in (
-      omega arith,
-      length-set (l .out) (a .at + l .i) y ∙ l .inv .1,
-      rw (add-one (l .i)) (ap (λ (o : List ℕ). set o (a .at + l .i) y) (l .inv .2) ∙ put-next (a .at) (l .i) (now (a .out)) (now (a .bytes)) (omega arith)),
-    )
-
-add-result : tie.Need-add-result Inv-loop μ-loop
+add-result : tie.Need-add-result
 add-result c = search needs
 
-same-length : tie.Need-same-length Inv-loop μ-loop
+same-length : tie.Need-same-length
 same-length c = search needs
 
-returns : tie.Need-returns Inv-loop μ-loop
+returns : tie.Need-returns
 returns c =
-    let a = c .before .before .args in
-    let l = c .before .loop in
-    (omega arith, l .inv .2 ∙ ap (splice (a .at) (now (a .out))) (take-all (l .i) (now (a .bytes)) (omega arith)))
+    let a = c .before .before .before .before .before .before .args in
+    let k = c .before .before .copy in
+    let n = length (now (a .out)) - a .at in
+    (omega (arith, k .ensures .0), ap (putMid (a .at) n (now (a .out))) (k .ensures .1) ∙ put-part (a .at) (now (a .out)) (now (a .bytes)) (omega arith))
 
 pub put-bytes-spec : {M : Type 1} → statement M
 put-bytes-spec =
     tie.close
-    (tie.spec
-    Inv-loop
-    μ-loop
-    loop-holds
-    shared-slice-read-out
-    add-out
-    slice-write-out
-    add-i
-    loop-less
-    loop-again
-    add-result
-    same-length
-    returns)
+    (tie.spec sub-copy part-copy-start part-copy-end copy-requires add-result same-length returns)

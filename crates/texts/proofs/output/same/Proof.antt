@@ -1,10 +1,10 @@
--- `texts::bytes::same` is safe and ends.
+-- `texts::output::same` is safe and ends.
 -- The measure is what is left of the bytes. Assumes nothing.
 use Prim.Native.Nat.{_-_}
 use lib.ListN.{length}
 use borrow.Author.Needs.{needs}
-use Rattle.texts.proofs.bytes.same.Statement.{statement}
-use Rattle.texts.proofs.bytes.same.Tie as tie
+use Rattle.texts.proofs.output.same.Statement.{statement}
+use Rattle.texts.proofs.output.same.Tie as tie
 
 abbrev Inv-loop : tie.InvT-loop
 Inv-loop a b i₀ i = Unit {0}

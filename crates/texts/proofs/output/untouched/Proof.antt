@@ -1,10 +1,10 @@
--- `texts::bytes::untouched` is safe and ends.
+-- `texts::output::untouched` is safe and ends.
 -- The measure is what is left of the bytes. Assumes nothing.
 use Prim.Native.Nat.{_-_}
 use lib.ListN.{length}
 use borrow.Author.Needs.{needs}
-use Rattle.texts.proofs.bytes.untouched.Statement.{statement}
-use Rattle.texts.proofs.bytes.untouched.Tie as tie
+use Rattle.texts.proofs.output.untouched.Statement.{statement}
+use Rattle.texts.proofs.output.untouched.Tie as tie
 
 abbrev Inv-loop : tie.InvT-loop
 Inv-loop bytes i₀ i = Unit {0}

@@ -1,8 +1,4 @@
-// Bytes, compared and copied.
-ghost use Prim.Native.Nat.{_+_, _≤_};
-ghost use mathlib.Core.Path.{_≡_};
-ghost use lib.ListN.{length};
-ghost use denote.Ref.{now};
+// An output's bytes, compared.
 
 // What stands in an output before it is lent. No text has this byte.
 pub const MARK: u8 = 170;
@@ -31,17 +27,4 @@ pub fn untouched(bytes: &[u8]) -> bool {
         i += 1;
     }
     true
-}
-
-// All of bytes into out from index at on; the index after them.
-pub fn put(bytes: &[u8], at: usize, out: &mut [u8]) -> usize
-    requires { ⌜ at + length (now bytes) ≤ length (now out) ⌝ }
-    ensures { λ r. ⌜ r ≡ at + length (now (bytes .entry)) ⌝ }
-{
-    let mut i: usize = 0;
-    while i < bytes.len() {
-        out[at + i] = bytes[i];
-        i += 1;
-    }
-    at + i
 }
