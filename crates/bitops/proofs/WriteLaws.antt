@@ -19,7 +19,7 @@ use Rattle.rows.proofs.WordsLaws.{view-length}
 use Rattle.rows.proofs.PartLaws.{view-chunk}
 use Rattle.rows.proofs.LaidLaws.{laid-append}
 use Rattle.rows.proofs.BothLaws.{both-length, both-take, both-part}
-use Rattle.mask.proofs.ChunkLaws.{chunk-bits, chunk-next}
+use Rattle.rows.proofs.ChunkLaws.{chunk-bits, chunk-next}
 
 module _ (row n : ℕ) (rows : List Bool) where
   -- a chunk has no more set rows than rows

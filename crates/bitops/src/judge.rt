@@ -3,13 +3,14 @@ ghost use mathlib.Core.Path.{_≡_};
 ghost use denote.Ref.{now};
 ghost use Rattle.rows.specs.Table.{first};
 ghost use Rattle.rules.specs.SetOps.{pairChecks, notChecks};
+ghost use Rattle.rules.specs.Operand.{lent};
 use lent::inner::words_for;
-use mask::inner::check_set;
-use mask::inner::equal;
-use mask::inner::has_room;
-use mask::inner::length_of;
-use mask::inner::then;
+use mask::inner::checks::check_set;
+use mask::inner::forms::length_of;
 use rows::Verdict;
+use rows::inner::verdicts::equal;
+use rows::inner::verdicts::has_room;
+use rows::inner::verdicts::then;
 use rules::Form;
 
 // Two operands.
@@ -22,7 +23,7 @@ pub fn judge_two(
     brows: &[u32],
     room: u64,
 ) -> Verdict
-    ensures { λ r. ⌜ r ≡ first (pairChecks a (now (awords .entry)) (now (arows .entry)) b (now (bwords .entry)) (now (brows .entry)) room) ⌝ }
+    ensures { λ r. ⌜ r ≡ first (pairChecks (lent a (now (awords .entry)) (now (arows .entry))) (lent b (now (bwords .entry)) (now (brows .entry))) room) ⌝ }
 {
     let one = check_set(1, a, awords, arows);
     let two = check_set(2, b, bwords, brows);
@@ -33,7 +34,7 @@ pub fn judge_two(
 
 // One operand.
 pub fn judge_one(a: Form, awords: &[u64], arows: &[u32], room: u64) -> Verdict
-    ensures { λ r. ⌜ r ≡ first (notChecks a (now (awords .entry)) (now (arows .entry)) room) ⌝ }
+    ensures { λ r. ⌜ r ≡ first (notChecks (lent a (now (awords .entry)) (now (arows .entry))) room) ⌝ }
 {
     let one = check_set(1, a, awords, arows);
     let space = has_room(words_for(length_of(a)), room);

@@ -3,8 +3,9 @@ ghost use mathlib.Core.Path.{_≡_};
 ghost use mathlib.Core.Bool.{_&&_, _||_};
 ghost use denote.Ref.{now};
 ghost use Rattle.rules.specs.SetOps.{andNot, combined, combinedOut, negated, negatedOut};
+ghost use Rattle.rules.specs.Operand.{lent};
 use judge::judge_one;
-use mask::inner::refused;
+use mask::inner::answers::refused;
 use rows::Verdict;
 use rules::Answer;
 use rules::Form;
@@ -26,8 +27,8 @@ pub fn and(
     brows: &[u32],
     out: &mut [u64],
 ) -> Answer
-    ensures { λ r. ⌜ (r ≡ combined _&&_ a (now (awords .entry)) (now (arows .entry)) b (now (bwords .entry)) (now (brows .entry)) (now (out .entry)))
-        × (now (out .exit) ≡ combinedOut _&&_ a (now (awords .entry)) (now (arows .entry)) b (now (bwords .entry)) (now (brows .entry)) (now (out .entry))) ⌝ }
+    ensures { λ r. ⌜ (r ≡ combined _&&_ (lent a (now (awords .entry)) (now (arows .entry))) (lent b (now (bwords .entry)) (now (brows .entry))) (now (out .entry)))
+        × (now (out .exit) ≡ combinedOut _&&_ (lent a (now (awords .entry)) (now (arows .entry))) (lent b (now (bwords .entry)) (now (brows .entry))) (now (out .entry))) ⌝ }
 {
     combine(Operation::And, a, awords, arows, b, bwords, brows, out)
 }
@@ -42,8 +43,8 @@ pub fn or(
     brows: &[u32],
     out: &mut [u64],
 ) -> Answer
-    ensures { λ r. ⌜ (r ≡ combined _||_ a (now (awords .entry)) (now (arows .entry)) b (now (bwords .entry)) (now (brows .entry)) (now (out .entry)))
-        × (now (out .exit) ≡ combinedOut _||_ a (now (awords .entry)) (now (arows .entry)) b (now (bwords .entry)) (now (brows .entry)) (now (out .entry))) ⌝ }
+    ensures { λ r. ⌜ (r ≡ combined _||_ (lent a (now (awords .entry)) (now (arows .entry))) (lent b (now (bwords .entry)) (now (brows .entry))) (now (out .entry)))
+        × (now (out .exit) ≡ combinedOut _||_ (lent a (now (awords .entry)) (now (arows .entry))) (lent b (now (bwords .entry)) (now (brows .entry))) (now (out .entry))) ⌝ }
 {
     combine(Operation::Or, a, awords, arows, b, bwords, brows, out)
 }
@@ -58,16 +59,16 @@ pub fn and_not(
     brows: &[u32],
     out: &mut [u64],
 ) -> Answer
-    ensures { λ r. ⌜ (r ≡ combined andNot a (now (awords .entry)) (now (arows .entry)) b (now (bwords .entry)) (now (brows .entry)) (now (out .entry)))
-        × (now (out .exit) ≡ combinedOut andNot a (now (awords .entry)) (now (arows .entry)) b (now (bwords .entry)) (now (brows .entry)) (now (out .entry))) ⌝ }
+    ensures { λ r. ⌜ (r ≡ combined andNot (lent a (now (awords .entry)) (now (arows .entry))) (lent b (now (bwords .entry)) (now (brows .entry))) (now (out .entry)))
+        × (now (out .exit) ≡ combinedOut andNot (lent a (now (awords .entry)) (now (arows .entry))) (lent b (now (bwords .entry)) (now (brows .entry))) (now (out .entry))) ⌝ }
 {
     combine(Operation::AndNot, a, awords, arows, b, bwords, brows, out)
 }
 
 // The rows not in the one operand, which is lent to the loop twice.
 pub fn not(a: Form, awords: &[u64], arows: &[u32], out: &mut [u64]) -> Answer
-    ensures { λ r. ⌜ (r ≡ negated a (now (awords .entry)) (now (arows .entry)) (now (out .entry)))
-        × (now (out .exit) ≡ negatedOut a (now (awords .entry)) (now (arows .entry)) (now (out .entry))) ⌝ }
+    ensures { λ r. ⌜ (r ≡ negated (lent a (now (awords .entry)) (now (arows .entry))) (now (out .entry)))
+        × (now (out .exit) ≡ negatedOut (lent a (now (awords .entry)) (now (arows .entry))) (now (out .entry))) ⌝ }
 {
     match judge_one(a, awords, arows, out.len() as u64) {
         Verdict::Refused(refusal) => refused(refusal),

@@ -1,15 +1,16 @@
 // The four operations, on words and on a chunk of two operands.
 ghost use mathlib.Core.Path.{_≡_};
 ghost use mathlib.Core.List.{[]};
-ghost use Prim.Native.Nat.{_+_, _≤_, _<_};
+ghost use Prim.Native.Nat.{_+_, _≤_};
 ghost use lib.ListN.{take, drop};
 ghost use denote.Ref.{now};
 ghost use Rattle.rows.specs.Word.{bitsOf, wordOf, both};
-ghost use Rattle.rules.specs.Operand.{rowsOf, lengthOf};
-ghost use Rattle.rules.specs.SetOps.{rowOf};
-ghost use Rattle.mask.specs.Flat.{Flat};
+ghost use Rattle.rows.specs.Asks.{Chunk};
+ghost use Rattle.rules.specs.Operand.{lent, lengthOf};
+ghost use Rattle.rules.specs.SetOps.{combination, rowOf};
+ghost use Rattle.mask.specs.Flat.{Abreast};
 use lent::inner::ones;
-use mask::inner::chunk_of;
+use mask::inner::chunks::chunk_of;
 use rules::Form;
 use rules::Operation;
 
@@ -34,8 +35,8 @@ pub fn chunk(
     row: u64,
     n: u64,
 ) -> u64
-    requires { ⌜ Flat a (now awords) × Flat b (now bwords) × (lengthOf a ≡ lengthOf b) × (0 < n) × (n ≤ 64) × (row + n ≤ lengthOf a) ⌝ }
-    ensures { λ r. ⌜ r ≡ wordOf (take n (drop row (both (rowOf op) (rowsOf a (now (awords .entry)) []) (rowsOf b (now (bwords .entry)) [])))) ⌝ }
+    requires { ⌜ Abreast (lent a (now awords) []) (lent b (now bwords) []) × Chunk n × (row + n ≤ lengthOf a) ⌝ }
+    ensures { λ r. ⌜ r ≡ wordOf (take n (drop row (combination (rowOf op) (lent a (now (awords .entry)) []) (lent b (now (bwords .entry)) [])))) ⌝ }
 {
     let x = chunk_of(a, awords, row, n);
     let y = chunk_of(b, bwords, row, n);

@@ -9,10 +9,11 @@ ghost use Rattle.rows.specs.Rows.{count};
 ghost use Rattle.rows.specs.Word.{both};
 ghost use Rattle.rows.specs.Words.{view};
 ghost use Rattle.rows.specs.Laid.{wordsFor, laid, written};
-ghost use Rattle.rules.specs.Operand.{rowsOf, lengthOf};
+ghost use Rattle.rows.specs.Asks.{InView};
+ghost use Rattle.rules.specs.Operand.{lent, lengthOf};
 ghost use Rattle.rules.specs.Answer.{answered};
-ghost use Rattle.rules.specs.SetOps.{rowOf, combined, combinedOut};
-ghost use Rattle.mask.specs.Flat.{Flat};
+ghost use Rattle.rules.specs.SetOps.{combination, rowOf, combined, combinedOut};
+ghost use Rattle.mask.specs.Flat.{Abreast};
 use super::judge::judge_two;
 use super::op::apply;
 use super::op::chunk;
@@ -20,10 +21,10 @@ use lent::inner::chunk_len;
 use lent::inner::clear_last;
 use lent::inner::put;
 use lent::inner::whole_word;
-use mask::inner::NO_ROUTE;
-use mask::inner::accepted;
-use mask::inner::length_of;
-use mask::inner::refused;
+use mask::inner::answers::NO_ROUTE;
+use mask::inner::answers::accepted;
+use mask::inner::answers::refused;
+use mask::inner::forms::length_of;
 use rows::Verdict;
 use rules::Answer;
 use rules::Form;
@@ -39,7 +40,7 @@ fn write_whole(
     n: usize,
     out: &mut [u64],
 ) -> u64
-    requires { ⌜ (n ≤ 16384) × (astart ≤ 63) × (astart + n * 64 ≤ length (now awords) * 64) × (bstart ≤ 63) × (bstart + n * 64 ≤ length (now bwords) * 64) × (n ≤ length (now out)) ⌝ }
+    requires { ⌜ InView astart (n * 64) (now awords) × InView bstart (n * 64) (now bwords) × (n ≤ length (now out)) ⌝ }
     ensures { λ r. ⌜ (r ≡ count (both (rowOf op) (view astart (n * 64) (now (awords .entry))) (view bstart (n * 64) (now (bwords .entry)))))
         × (now (out .exit) ≡ laid 0 (both (rowOf op) (view astart (n * 64) (now (awords .entry))) (view bstart (n * 64) (now (bwords .entry)))) (now (out .entry))) ⌝ }
 {
@@ -65,9 +66,9 @@ fn write_chunks(
     bwords: &[u64],
     out: &mut [u64],
 ) -> u64
-    requires { ⌜ Flat a (now awords) × Flat b (now bwords) × (lengthOf a ≡ lengthOf b) × (lengthOf a ≤ length (now out) * 64) ⌝ }
-    ensures { λ r. ⌜ (r ≡ count (both (rowOf op) (rowsOf a (now (awords .entry)) []) (rowsOf b (now (bwords .entry)) [])))
-        × (now (out .exit) ≡ laid 0 (both (rowOf op) (rowsOf a (now (awords .entry)) []) (rowsOf b (now (bwords .entry)) [])) (now (out .entry))) ⌝ }
+    requires { ⌜ Abreast (lent a (now awords) []) (lent b (now bwords) []) × (lengthOf a ≤ length (now out) * 64) ⌝ }
+    ensures { λ r. ⌜ (r ≡ count (combination (rowOf op) (lent a (now (awords .entry)) []) (lent b (now (bwords .entry)) [])))
+        × (now (out .exit) ≡ laid 0 (combination (rowOf op) (lent a (now (awords .entry)) []) (lent b (now (bwords .entry)) [])) (now (out .entry))) ⌝ }
 {
     let len = length_of(a);
     let mut sum: u64 = 0;
@@ -92,9 +93,9 @@ fn write_rows(
     bwords: &[u64],
     out: &mut [u64],
 ) -> u64
-    requires { ⌜ Flat a (now awords) × Flat b (now bwords) × (lengthOf a ≡ lengthOf b) × (lengthOf a ≤ length (now out) * 64) ⌝ }
-    ensures { λ r. ⌜ (r ≡ count (both (rowOf op) (rowsOf a (now (awords .entry)) []) (rowsOf b (now (bwords .entry)) [])))
-        × (now (out .exit) ≡ laid 0 (both (rowOf op) (rowsOf a (now (awords .entry)) []) (rowsOf b (now (bwords .entry)) [])) (now (out .entry))) ⌝ }
+    requires { ⌜ Abreast (lent a (now awords) []) (lent b (now bwords) []) × (lengthOf a ≤ length (now out) * 64) ⌝ }
+    ensures { λ r. ⌜ (r ≡ count (combination (rowOf op) (lent a (now (awords .entry)) []) (lent b (now (bwords .entry)) [])))
+        × (now (out .exit) ≡ laid 0 (combination (rowOf op) (lent a (now (awords .entry)) []) (lent b (now (bwords .entry)) [])) (now (out .entry))) ⌝ }
 {
     let Form::Words {
         start: astart,
@@ -124,9 +125,9 @@ fn write_rows(
 
 // The result's rows as whole words from the start on, and how many of them are set.
 fn write(op: Operation, a: Form, awords: &[u64], b: Form, bwords: &[u64], out: &mut [u64]) -> u64
-    requires { ⌜ Flat a (now awords) × Flat b (now bwords) × (lengthOf a ≡ lengthOf b) × (wordsFor (lengthOf a) ≤ length (now out)) ⌝ }
-    ensures { λ r. ⌜ (r ≡ count (both (rowOf op) (rowsOf a (now (awords .entry)) []) (rowsOf b (now (bwords .entry)) [])))
-        × (now (out .exit) ≡ written (lengthOf a) (both (rowOf op) (rowsOf a (now (awords .entry)) []) (rowsOf b (now (bwords .entry)) [])) (now (out .entry))) ⌝ }
+    requires { ⌜ Abreast (lent a (now awords) []) (lent b (now bwords) []) × (wordsFor (lengthOf a) ≤ length (now out)) ⌝ }
+    ensures { λ r. ⌜ (r ≡ count (combination (rowOf op) (lent a (now (awords .entry)) []) (lent b (now (bwords .entry)) [])))
+        × (now (out .exit) ≡ written (lengthOf a) (combination (rowOf op) (lent a (now (awords .entry)) []) (lent b (now (bwords .entry)) [])) (now (out .entry))) ⌝ }
 {
     let len = length_of(a);
     clear_last(out, len);
@@ -142,9 +143,9 @@ pub fn answer(
     bwords: &[u64],
     out: &mut [u64],
 ) -> Answer
-    requires { ⌜ Flat a (now awords) × Flat b (now bwords) × (lengthOf a ≡ lengthOf b) × (wordsFor (lengthOf a) ≤ length (now out)) ⌝ }
-    ensures { λ r. ⌜ (r ≡ answered Fine (both (rowOf op) (rowsOf a (now (awords .entry)) []) (rowsOf b (now (bwords .entry)) [])) 0)
-        × (now (out .exit) ≡ written (lengthOf a) (both (rowOf op) (rowsOf a (now (awords .entry)) []) (rowsOf b (now (bwords .entry)) [])) (now (out .entry))) ⌝ }
+    requires { ⌜ Abreast (lent a (now awords) []) (lent b (now bwords) []) × (wordsFor (lengthOf a) ≤ length (now out)) ⌝ }
+    ensures { λ r. ⌜ (r ≡ answered Fine (combination (rowOf op) (lent a (now (awords .entry)) []) (lent b (now (bwords .entry)) [])) 0)
+        × (now (out .exit) ≡ written (lengthOf a) (combination (rowOf op) (lent a (now (awords .entry)) []) (lent b (now (bwords .entry)) [])) (now (out .entry))) ⌝ }
 {
     let count = write(op, a, awords, b, bwords, out);
     accepted(count, NO_ROUTE, length_of(a))
@@ -161,8 +162,8 @@ pub fn combine(
     brows: &[u32],
     out: &mut [u64],
 ) -> Answer
-    ensures { λ r. ⌜ (r ≡ combined (rowOf op) a (now (awords .entry)) (now (arows .entry)) b (now (bwords .entry)) (now (brows .entry)) (now (out .entry)))
-        × (now (out .exit) ≡ combinedOut (rowOf op) a (now (awords .entry)) (now (arows .entry)) b (now (bwords .entry)) (now (brows .entry)) (now (out .entry))) ⌝ }
+    ensures { λ r. ⌜ (r ≡ combined (rowOf op) (lent a (now (awords .entry)) (now (arows .entry))) (lent b (now (bwords .entry)) (now (brows .entry))) (now (out .entry)))
+        × (now (out .exit) ≡ combinedOut (rowOf op) (lent a (now (awords .entry)) (now (arows .entry))) (lent b (now (bwords .entry)) (now (brows .entry))) (now (out .entry))) ⌝ }
 {
     match judge_two(a, awords, arows, b, bwords, brows, out.len() as u64) {
         Verdict::Refused(refusal) => refused(refusal),

@@ -1,7 +1,10 @@
 pub mod Composition
+pub mod Conversions
+pub mod Examples
 pub mod Once
 pub mod OnceInner
 pub mod Program
 pub mod SetOperations
 pub mod Streams
 pub mod TwoWays
+pub mod Words

@@ -9,18 +9,18 @@ use Rattle.host.proofs.boltamber_deposit.Kinds as host-boltamber-deposit-kinds
 use Rattle.host.proofs.boltamber_deposit.Reads as host-boltamber-deposit
 use Rattle.host.proofs.boltamber_select.Kinds as host-boltamber-select-kinds
 use Rattle.host.proofs.boltamber_select.Reads as host-boltamber-select
-use Rattle.intersect_by_rank.proofs.inner.few.Kinds as intersect-by-rank-few-kinds
-use Rattle.intersect_by_rank.proofs.inner.few.Reads as intersect-by-rank-few
-use Rattle.intersect_by_rank.proofs.inner.compose_at.Kinds as intersect-by-rank-compose-at-kinds
-use Rattle.intersect_by_rank.proofs.inner.compose_at.Reads as intersect-by-rank-compose-at
-use Rattle.intersect_by_rank.proofs.inner.lay_composition.Kinds as intersect-by-rank-lay-composition-kinds
-use Rattle.intersect_by_rank.proofs.inner.lay_composition.Reads as intersect-by-rank-lay-composition
-use Rattle.intersect_by_rank.proofs.inner.document_factors.Kinds as intersect-by-rank-document-factors-kinds
-use Rattle.intersect_by_rank.proofs.inner.document_factors.Reads as intersect-by-rank-document-factors
-use Rattle.intersect_by_rank.proofs.inner.judge_both.Kinds as intersect-by-rank-judge-both-kinds
-use Rattle.intersect_by_rank.proofs.inner.judge_both.Reads as intersect-by-rank-judge-both
-use Rattle.intersect_by_rank.proofs.inner.compose_with.Kinds as intersect-by-rank-compose-with-kinds
-use Rattle.intersect_by_rank.proofs.inner.compose_with.Reads as intersect-by-rank-compose-with
+use Rattle.intersect_by_rank.proofs.inner.route.few.Kinds as intersect-by-rank-few-kinds
+use Rattle.intersect_by_rank.proofs.inner.route.few.Reads as intersect-by-rank-few
+use Rattle.intersect_by_rank.proofs.inner.lay.compose_at.Kinds as intersect-by-rank-compose-at-kinds
+use Rattle.intersect_by_rank.proofs.inner.lay.compose_at.Reads as intersect-by-rank-compose-at
+use Rattle.intersect_by_rank.proofs.inner.lay.lay_composition.Kinds as intersect-by-rank-lay-composition-kinds
+use Rattle.intersect_by_rank.proofs.inner.lay.lay_composition.Reads as intersect-by-rank-lay-composition
+use Rattle.intersect_by_rank.proofs.inner.route.document_factors.Kinds as intersect-by-rank-document-factors-kinds
+use Rattle.intersect_by_rank.proofs.inner.route.document_factors.Reads as intersect-by-rank-document-factors
+use Rattle.intersect_by_rank.proofs.inner.judge.judge_both.Kinds as intersect-by-rank-judge-both-kinds
+use Rattle.intersect_by_rank.proofs.inner.judge.judge_both.Reads as intersect-by-rank-judge-both
+use Rattle.intersect_by_rank.proofs.inner.compose.compose_with.Kinds as intersect-by-rank-compose-with-kinds
+use Rattle.intersect_by_rank.proofs.inner.compose.compose_with.Reads as intersect-by-rank-compose-with
 use Rattle.kernels.proofs.inner.lay_entry_at_rank.Kinds as kernels-lay-entry-at-rank-kinds
 use Rattle.kernels.proofs.inner.lay_entry_at_rank.Reads as kernels-lay-entry-at-rank
 use Rattle.kernels.proofs.inner.lay_entry_if_set.Kinds as kernels-lay-entry-if-set-kinds
@@ -61,50 +61,72 @@ use Rattle.lent.proofs.inner.words_for.Kinds as lent-words-for-kinds
 use Rattle.lent.proofs.inner.words_for.Reads as lent-words-for
 use Rattle.lent.proofs.inner.clear_last.Kinds as lent-clear-last-kinds
 use Rattle.lent.proofs.inner.clear_last.Reads as lent-clear-last
-use Rattle.mask.proofs.inner.check.Kinds as mask-check-kinds
-use Rattle.mask.proofs.inner.check.Reads as mask-check
-use Rattle.mask.proofs.inner.check_set.Kinds as mask-check-set-kinds
-use Rattle.mask.proofs.inner.check_set.Reads as mask-check-set
-use Rattle.mask.proofs.inner.judge.Kinds as mask-judge-kinds
-use Rattle.mask.proofs.inner.judge.Reads as mask-judge
-use Rattle.mask.proofs.inner.at_most.Kinds as mask-at-most-kinds
-use Rattle.mask.proofs.inner.at_most.Reads as mask-at-most
-use Rattle.mask.proofs.inner.has_room.Kinds as mask-has-room-kinds
-use Rattle.mask.proofs.inner.has_room.Reads as mask-has-room
-use Rattle.mask.proofs.inner.equal.Kinds as mask-equal-kinds
-use Rattle.mask.proofs.inner.equal.Reads as mask-equal
-use Rattle.mask.proofs.inner.then.Kinds as mask-then-kinds
-use Rattle.mask.proofs.inner.then.Reads as mask-then
-use Rattle.mask.proofs.inner.length_of.Kinds as mask-length-of-kinds
-use Rattle.mask.proofs.inner.length_of.Reads as mask-length-of
-use Rattle.mask.proofs.inner.start_of.Kinds as mask-start-of-kinds
-use Rattle.mask.proofs.inner.start_of.Reads as mask-start-of
-use Rattle.mask.proofs.inner.count_of.Kinds as mask-count-of-kinds
-use Rattle.mask.proofs.inner.count_of.Reads as mask-count-of
-use Rattle.mask.proofs.inner.is_empty.Kinds as mask-is-empty-kinds
-use Rattle.mask.proofs.inner.is_empty.Reads as mask-is-empty
-use Rattle.mask.proofs.inner.is_full.Kinds as mask-is-full-kinds
-use Rattle.mask.proofs.inner.is_full.Reads as mask-is-full
-use Rattle.mask.proofs.inner.is_list.Kinds as mask-is-list-kinds
-use Rattle.mask.proofs.inner.is_list.Reads as mask-is-list
-use Rattle.mask.proofs.inner.chunk_of.Kinds as mask-chunk-of-kinds
-use Rattle.mask.proofs.inner.chunk_of.Reads as mask-chunk-of
-use Rattle.mask.proofs.inner.lay_rows.Kinds as mask-lay-rows-kinds
-use Rattle.mask.proofs.inner.lay_rows.Reads as mask-lay-rows
-use Rattle.mask.proofs.inner.write_rows.Kinds as mask-write-rows-kinds
-use Rattle.mask.proofs.inner.write_rows.Reads as mask-write-rows
-use Rattle.mask.proofs.inner.density.Kinds as mask-density-kinds
-use Rattle.mask.proofs.inner.density.Reads as mask-density
-use Rattle.mask.proofs.inner.accepted.Kinds as mask-accepted-kinds
-use Rattle.mask.proofs.inner.accepted.Reads as mask-accepted
-use Rattle.mask.proofs.inner.refused.Kinds as mask-refused-kinds
-use Rattle.mask.proofs.inner.refused.Reads as mask-refused
+use Rattle.mask.proofs.inner.checks.check.Kinds as mask-check-kinds
+use Rattle.mask.proofs.inner.checks.check.Reads as mask-check
+use Rattle.mask.proofs.inner.checks.check_set.Kinds as mask-check-set-kinds
+use Rattle.mask.proofs.inner.checks.check_set.Reads as mask-check-set
+use Rattle.mask.proofs.inner.forms.length_of.Kinds as mask-length-of-kinds
+use Rattle.mask.proofs.inner.forms.length_of.Reads as mask-length-of
+use Rattle.mask.proofs.inner.forms.start_of.Kinds as mask-start-of-kinds
+use Rattle.mask.proofs.inner.forms.start_of.Reads as mask-start-of
+use Rattle.mask.proofs.inner.forms.count_of.Kinds as mask-count-of-kinds
+use Rattle.mask.proofs.inner.forms.count_of.Reads as mask-count-of
+use Rattle.mask.proofs.inner.forms.is_empty.Kinds as mask-is-empty-kinds
+use Rattle.mask.proofs.inner.forms.is_empty.Reads as mask-is-empty
+use Rattle.mask.proofs.inner.forms.is_full.Kinds as mask-is-full-kinds
+use Rattle.mask.proofs.inner.forms.is_full.Reads as mask-is-full
+use Rattle.mask.proofs.inner.chunks.chunk_of.Kinds as mask-chunk-of-kinds
+use Rattle.mask.proofs.inner.chunks.chunk_of.Reads as mask-chunk-of
+use Rattle.mask.proofs.inner.lay.lay_rows.Kinds as mask-lay-rows-kinds
+use Rattle.mask.proofs.inner.lay.lay_rows.Reads as mask-lay-rows
+use Rattle.mask.proofs.inner.lay.write_rows.Kinds as mask-write-rows-kinds
+use Rattle.mask.proofs.inner.lay.write_rows.Reads as mask-write-rows
+use Rattle.mask.proofs.inner.answers.density.Kinds as mask-density-kinds
+use Rattle.mask.proofs.inner.answers.density.Reads as mask-density
+use Rattle.mask.proofs.inner.answers.accepted.Kinds as mask-accepted-kinds
+use Rattle.mask.proofs.inner.answers.accepted.Reads as mask-accepted
+use Rattle.mask.proofs.inner.answers.refused.Kinds as mask-refused-kinds
+use Rattle.mask.proofs.inner.answers.refused.Reads as mask-refused
 use Rattle.word.proofs.inner.deposit_portable.Kinds as word-deposit-portable-kinds
 use Rattle.word.proofs.inner.deposit_portable.Reads as word-deposit-portable
 use Rattle.word.proofs.inner.deposit_portable_loop.Kinds as word-deposit-portable-loop-kinds
 use Rattle.word.proofs.inner.deposit_portable_loop.Reads as word-deposit-portable-loop
 use Rattle.word.proofs.inner.select_bit_position.Kinds as word-select-bit-position-kinds
 use Rattle.word.proofs.inner.select_bit_position.Reads as word-select-bit-position
+use Rattle.rows.proofs.inner.verdicts.refusal.Kinds as rows-refusal-kinds
+use Rattle.rows.proofs.inner.verdicts.refusal.Reads as rows-refusal
+use Rattle.rows.proofs.inner.verdicts.no_refusal.Kinds as rows-no-refusal-kinds
+use Rattle.rows.proofs.inner.verdicts.no_refusal.Reads as rows-no-refusal
+use Rattle.rows.proofs.inner.verdicts.refuse.Kinds as rows-refuse-kinds
+use Rattle.rows.proofs.inner.verdicts.refuse.Reads as rows-refuse
+use Rattle.rows.proofs.inner.verdicts.at_most.Kinds as rows-at-most-kinds
+use Rattle.rows.proofs.inner.verdicts.at_most.Reads as rows-at-most
+use Rattle.rows.proofs.inner.verdicts.has_room.Kinds as rows-has-room-kinds
+use Rattle.rows.proofs.inner.verdicts.has_room.Reads as rows-has-room
+use Rattle.rows.proofs.inner.verdicts.equal.Kinds as rows-equal-kinds
+use Rattle.rows.proofs.inner.verdicts.equal.Reads as rows-equal
+use Rattle.rows.proofs.inner.verdicts.then.Kinds as rows-then-kinds
+use Rattle.rows.proofs.inner.verdicts.then.Reads as rows-then
+use Rattle.rows.proofs.inner.answers.deposit_answer.Kinds as rows-deposit-answer-kinds
+use Rattle.rows.proofs.inner.answers.deposit_answer.Reads as rows-deposit-answer
+use Rattle.rows.proofs.inner.answers.select_answer.Kinds as rows-select-answer-kinds
+use Rattle.rows.proofs.inner.answers.select_answer.Reads as rows-select-answer
+use Rattle.rows.proofs.inner.answers.read_answer.Kinds as rows-read-answer-kinds
+use Rattle.rows.proofs.inner.answers.read_answer.Reads as rows-read-answer
+use Rattle.word.proofs.inner.deposit_by.Kinds as word-deposit-by-kinds
+use Rattle.word.proofs.inner.deposit_by.Reads as word-deposit-by
+use Rattle.mask.proofs.inner.forms.counts_as_list.Kinds as mask-counts-as-list-kinds
+use Rattle.mask.proofs.inner.forms.counts_as_list.Reads as mask-counts-as-list
+use Rattle.mask.proofs.inner.forms.has_row_numbers.Kinds as mask-has-row-numbers-kinds
+use Rattle.mask.proofs.inner.forms.has_row_numbers.Reads as mask-has-row-numbers
+use Rattle.intersect_by_rank.proofs.inner.route.number.Kinds as intersect-by-rank-number-kinds
+use Rattle.intersect_by_rank.proofs.inner.route.number.Reads as intersect-by-rank-number
+use Rattle.intersect_by_rank.proofs.inner.route.choose_route.Kinds as intersect-by-rank-choose-route-kinds
+use Rattle.intersect_by_rank.proofs.inner.route.choose_route.Reads as intersect-by-rank-choose-route
+use Rattle.intersect_by_rank.proofs.inner.judge.judge.Kinds as intersect-by-rank-judge-kinds
+use Rattle.intersect_by_rank.proofs.inner.judge.judge.Reads as intersect-by-rank-judge
+use Rattle.lent.proofs.inner.copy_words.Kinds as lent-copy-words-kinds
+use Rattle.lent.proofs.inner.copy_words.Reads as lent-copy-words
 
 pub host-boltamber-deposit-one : OneAnswer 0 host-boltamber-deposit-kinds.ps host-boltamber-deposit-kinds.r host-boltamber-deposit.Pre host-boltamber-deposit.Post
 host-boltamber-deposit-one κs a p x y v w hv hw = (hv ∙ sym hw, refl)
@@ -196,21 +218,6 @@ mask-check-one κs a p x y v w hv hw = (hv ∙ sym hw, refl)
 pub mask-check-set-one : OneAnswer 2 mask-check-set-kinds.ps mask-check-set-kinds.r mask-check-set.Pre mask-check-set.Post
 mask-check-set-one κs a p x y v w hv hw = (hv ∙ sym hw, refl)
 
-pub mask-judge-one : OneAnswer 2 mask-judge-kinds.ps mask-judge-kinds.r mask-judge.Pre mask-judge.Post
-mask-judge-one κs a p x y v w hv hw = (hv ∙ sym hw, refl)
-
-pub mask-at-most-one : OneAnswer 0 mask-at-most-kinds.ps mask-at-most-kinds.r mask-at-most.Pre mask-at-most.Post
-mask-at-most-one κs a p x y v w hv hw = (hv ∙ sym hw, refl)
-
-pub mask-has-room-one : OneAnswer 0 mask-has-room-kinds.ps mask-has-room-kinds.r mask-has-room.Pre mask-has-room.Post
-mask-has-room-one κs a p x y v w hv hw = (hv ∙ sym hw, refl)
-
-pub mask-equal-one : OneAnswer 0 mask-equal-kinds.ps mask-equal-kinds.r mask-equal.Pre mask-equal.Post
-mask-equal-one κs a p x y v w hv hw = (hv ∙ sym hw, refl)
-
-pub mask-then-one : OneAnswer 0 mask-then-kinds.ps mask-then-kinds.r mask-then.Pre mask-then.Post
-mask-then-one κs a p x y v w hv hw = (hv ∙ sym hw, refl)
-
 pub mask-length-of-one : OneAnswer 0 mask-length-of-kinds.ps mask-length-of-kinds.r mask-length-of.Pre mask-length-of.Post
 mask-length-of-one κs a p x y v w hv hw = (hv ∙ sym hw, refl)
 
@@ -225,9 +232,6 @@ mask-is-empty-one κs a p x y v w hv hw = (hv ∙ sym hw, refl)
 
 pub mask-is-full-one : OneAnswer 1 mask-is-full-kinds.ps mask-is-full-kinds.r mask-is-full.Pre mask-is-full.Post
 mask-is-full-one κs a p x y v w hv hw = (hv ∙ sym hw, refl)
-
-pub mask-is-list-one : OneAnswer 0 mask-is-list-kinds.ps mask-is-list-kinds.r mask-is-list.Pre mask-is-list.Post
-mask-is-list-one κs a p x y v w hv hw = (hv ∙ sym hw, refl)
 
 pub mask-chunk-of-one : OneAnswer 1 mask-chunk-of-kinds.ps mask-chunk-of-kinds.r mask-chunk-of.Pre mask-chunk-of.Post
 mask-chunk-of-one κs a p x y v w hv hw = (hv ∙ sym hw, refl)
@@ -255,3 +259,54 @@ word-deposit-portable-loop-one κs a p x y v w hv hw = (hv ∙ sym hw, refl)
 
 pub word-select-bit-position-one : OneAnswer 0 word-select-bit-position-kinds.ps word-select-bit-position-kinds.r word-select-bit-position.Pre word-select-bit-position.Post
 word-select-bit-position-one κs a p x y v w hv hw = (hv ∙ sym hw, refl)
+
+pub rows-refusal-one : OneAnswer 0 rows-refusal-kinds.ps rows-refusal-kinds.r rows-refusal.Pre rows-refusal.Post
+rows-refusal-one κs a p x y v w hv hw = (hv ∙ sym hw, refl)
+
+pub rows-no-refusal-one : OneAnswer 0 rows-no-refusal-kinds.ps rows-no-refusal-kinds.r rows-no-refusal.Pre rows-no-refusal.Post
+rows-no-refusal-one κs a p x y v w hv hw = (hv ∙ sym hw, refl)
+
+pub rows-refuse-one : OneAnswer 0 rows-refuse-kinds.ps rows-refuse-kinds.r rows-refuse.Pre rows-refuse.Post
+rows-refuse-one κs a p x y v w hv hw = (hv ∙ sym hw, refl)
+
+pub rows-at-most-one : OneAnswer 0 rows-at-most-kinds.ps rows-at-most-kinds.r rows-at-most.Pre rows-at-most.Post
+rows-at-most-one κs a p x y v w hv hw = (hv ∙ sym hw, refl)
+
+pub rows-has-room-one : OneAnswer 0 rows-has-room-kinds.ps rows-has-room-kinds.r rows-has-room.Pre rows-has-room.Post
+rows-has-room-one κs a p x y v w hv hw = (hv ∙ sym hw, refl)
+
+pub rows-equal-one : OneAnswer 0 rows-equal-kinds.ps rows-equal-kinds.r rows-equal.Pre rows-equal.Post
+rows-equal-one κs a p x y v w hv hw = (hv ∙ sym hw, refl)
+
+pub rows-then-one : OneAnswer 0 rows-then-kinds.ps rows-then-kinds.r rows-then.Pre rows-then.Post
+rows-then-one κs a p x y v w hv hw = (hv ∙ sym hw, refl)
+
+pub rows-deposit-answer-one : OneAnswer 0 rows-deposit-answer-kinds.ps rows-deposit-answer-kinds.r rows-deposit-answer.Pre rows-deposit-answer.Post
+rows-deposit-answer-one κs a p x y v w hv hw = (hv ∙ sym hw, refl)
+
+pub rows-select-answer-one : OneAnswer 0 rows-select-answer-kinds.ps rows-select-answer-kinds.r rows-select-answer.Pre rows-select-answer.Post
+rows-select-answer-one κs a p x y v w hv hw = (hv ∙ sym hw, refl)
+
+pub rows-read-answer-one : OneAnswer 0 rows-read-answer-kinds.ps rows-read-answer-kinds.r rows-read-answer.Pre rows-read-answer.Post
+rows-read-answer-one κs a p x y v w hv hw = (hv ∙ sym hw, refl)
+
+pub word-deposit-by-one : OneAnswer 0 word-deposit-by-kinds.ps word-deposit-by-kinds.r word-deposit-by.Pre word-deposit-by.Post
+word-deposit-by-one κs a p x y v w hv hw = (hv ∙ sym hw, refl)
+
+pub mask-counts-as-list-one : OneAnswer 0 mask-counts-as-list-kinds.ps mask-counts-as-list-kinds.r mask-counts-as-list.Pre mask-counts-as-list.Post
+mask-counts-as-list-one κs a p x y v w hv hw = (hv ∙ sym hw, refl)
+
+pub mask-has-row-numbers-one : OneAnswer 0 mask-has-row-numbers-kinds.ps mask-has-row-numbers-kinds.r mask-has-row-numbers.Pre mask-has-row-numbers.Post
+mask-has-row-numbers-one κs a p x y v w hv hw = (hv ∙ sym hw, refl)
+
+pub intersect-by-rank-number-one : OneAnswer 0 intersect-by-rank-number-kinds.ps intersect-by-rank-number-kinds.r intersect-by-rank-number.Pre intersect-by-rank-number.Post
+intersect-by-rank-number-one κs a p x y v w hv hw = (hv ∙ sym hw, refl)
+
+pub intersect-by-rank-choose-route-one : OneAnswer 2 intersect-by-rank-choose-route-kinds.ps intersect-by-rank-choose-route-kinds.r intersect-by-rank-choose-route.Pre intersect-by-rank-choose-route.Post
+intersect-by-rank-choose-route-one κs a p x y v w hv hw = (hv ∙ sym hw, refl)
+
+pub intersect-by-rank-judge-one : OneAnswer 4 intersect-by-rank-judge-kinds.ps intersect-by-rank-judge-kinds.r intersect-by-rank-judge.Pre intersect-by-rank-judge.Post
+intersect-by-rank-judge-one κs a p x y v w hv hw = (hv ∙ sym hw, refl)
+
+pub lent-copy-words-one : OneAnswer 2 lent-copy-words-kinds.ps lent-copy-words-kinds.r lent-copy-words.Pre lent-copy-words.Post
+lent-copy-words-one κs a p x y v w hv hw = (refl, ap (λ (l : List ℕ). (tt, (tt, (tt, (l, tt))))) (hv ∙ sym hw))

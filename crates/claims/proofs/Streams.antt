@@ -1,7 +1,7 @@
 -- Demands 1 and 3 for the stream composer, of whatever the contract of `feed` allows: of one call, x is what it gives and `left` what
 -- then stands in the output; of calls one after the other, each is handed the state that the one before gave back and the output as it
 -- left it. By the theorems about the definitions. Assumes nothing.
-use mathlib.Core.Path.{_≡_, refl, sym, ap, subst, _∙_}
+use mathlib.Core.Path.{_≡_, refl, sym, ap, _∙_}
 use mathlib.Core.Logic.{_↔_, _≢_}
 use mathlib.Core.Bool.{Bool, true, false}
 use mathlib.Core.List.{List, [], _∷_}
@@ -12,20 +12,21 @@ use contract.Lifetimes.{Lfts}
 use borrow.Fn.Kinds.{Dens, resT, endedOf}
 use denote.Ref.{now}
 use denote.Triple.Clauses.{Lasts, atExit}
+use Rattle.rows.specs.declared.Refusal.{Refusal}
 use Rattle.rows.specs.Rows.{rankAt}
 use Rattle.rows.specs.Words.{bitsOfAll}
-use Rattle.rows.specs.Table.{refusal}
 use Rattle.rules.specs.declared.State.{State}
 use Rattle.rules.specs.declared.Fed.{Fed}
+use Rattle.rules.specs.Operand.{lent, inWords, rowsOf, Accepted}
 use Rattle.rules.specs.Route.{published}
-use Rattle.rules.specs.Stream.{Pair, lent, pairOf, rows, long, fresh, fed, fedOut, Run, after, run}
-use Rattle.rules.specs.Demand3.{once, onceOut, WellFormed, Pieces, Joins, AllAccepted, taken, Whole}
-use Rattle.rules.proofs.Conversions.{Bare}
-use Rattle.rules.proofs.Writes.{bitAt}
+use Rattle.rules.specs.Stream.{Pair, pairOf, long, fresh, fed, fedOut, Run, after, run}
+use Rattle.rules.specs.Demand3.{once, onceOut, Pieces, joined, Joins, AllAccepted, taken, Whole}
+use Rattle.rules.proofs.AnswerLaws.{Bare}
+use Rattle.rules.proofs.Writes.{bitAt, row}
 use Rattle.rules.proofs.Compositions.{composed-accepts, composed-row}
 use Rattle.rules.proofs.StreamLaws.{Within, Accepts}
 use Rattle.rules.proofs.Feeds.{Refuses, Feeds, fed-refuses, fed-accepts, fed-refused, fed-within, fed-feeds}
-use Rattle.rules.proofs.Demand3.{forward, converse}
+use Rattle.rules.proofs.Demand3.{forward, converse, converse-in-words}
 use Rattle.composer.proofs.feed.Kinds as kinds
 use Rattle.composer.proofs.feed.Reads as reads
 
@@ -49,12 +50,12 @@ module _ (κs : Lfts 5) (a : Dens κs kinds.ps) where
     gave = x
 
     -- 10, each operand's number, 7, 11 and 8, each with its operand exactly when document 01 says, in its order
-    pub feed-refuses-exactly : (n j : ℕ) → zero < n → (gave .answer .refusal ≡ refusal n j) ↔ Refuses state pair (length out) n j
-    feed-refuses-exactly n j p = subst (λ (y : Fed). (y .answer .refusal ≡ refusal n j) ↔ Refuses state pair (length out) n j) (sym (allowed .0)) (fed-refuses state pair out n j p)
+    pub feed-refuses-exactly : (x : Refusal) → zero < x .number → (gave .answer .refusal ≡ x) ↔ Refuses state pair (length out) x
+    feed-refuses-exactly = rw (allowed .0) (fed-refuses state pair out)
 
     -- accepted exactly otherwise
     pub feed-accepts-exactly : (gave .answer .refusal .number ≡ 0) ↔ Accepts state pair (length out)
-    feed-accepts-exactly = subst (λ (y : Fed). (y .answer .refusal .number ≡ 0) ↔ Accepts state pair (length out)) (sym (allowed .0)) (fed-accepts state pair out)
+    feed-accepts-exactly = rw (allowed .0) (fed-accepts state pair out)
 
     -- a refusal hands the state back as given, changes no lent word, and reports count 0, route 0 and density 0.0
     pub refused-feed-changes-nothing : gave .answer .refusal .number ≢ 0 → (gave .state ≡ state) × (left v ≡ out) × Bare (gave .answer)
@@ -103,16 +104,19 @@ pub pieces-are-the-whole : (whole : Pair) (before : List ℕ) (ps : List Pair) (
 pieces-are-the-whole whole before ps t cs = rw (calls-run cs) (forward whole before ps)
 
 -- conversely, any feeds so run, refused ones between: the accepted ones' pieces joined are the whole
-pub accepted-pieces-are-a-whole : (whole : Pair) (before : List ℕ) (ps : List Pair) (t : Run) → Calls fresh before ps t → WellFormed (whole .self) → WellFormed (whole .rank) → Joins whole (taken ps (t .answers))
+pub accepted-pieces-are-a-whole : (whole : Pair) (before : List ℕ) (ps : List Pair) (t : Run) → Calls fresh before ps t → Accepted (whole .self) → Accepted (whole .rank) → Joins whole (taken ps (t .answers))
     → Whole whole before t
 accepted-pieces-are-a-whole whole before ps t cs = rw (calls-run cs) (converse whole before ps)
 
+-- and there is such a whole: the accepted pieces joined, in words
+pub accepted-pieces-joined : (before : List ℕ) (ps : List Pair) (t : Run) → Calls fresh before ps t
+    → let qs = taken ps (t .answers) in Whole (pairOf (inWords (joined (λ p. p .self) qs)) (inWords (joined (λ p. p .rank) qs))) before t
+accepted-pieces-joined before ps t cs = rw (calls-run cs) (converse-in-words before ps)
+
 -- demand 2's rows: row i is set exactly if self has i and the rank mask has i's rank
 pub whole-row-exactly : (whole : Pair) (before : List ℕ) (t : Run) → Whole whole before t → (i : ℕ) → i < long whole
-    → (bitAt (t .out) i ≡ true) ↔ ((getD (rows (whole .self)) i false ≡ true) × (getD (rows (whole .rank)) (rankAt (rows (whole .self)) i) false ≡ true))
+    → (bitAt (t .out) i ≡ true) ↔ ((row (whole .self) i ≡ true) × (row (whole .rank) (rankAt (rowsOf (whole .self)) i) ≡ true))
 whole-row-exactly w before t q i h =
-    let s = w .self in
-    let r = w .rank in
-    let a = composed-accepts (s .form) (s .words) (s .listed) (r .form) (r .words) (r .listed) published before .0 (q .accepted) in
+    let a = composed-accepts (w .self) (w .rank) published before .0 (q .accepted) in
     let same = sym (getD-take (long w) (bitsOfAll 64 (t .out)) i false h) ∙ ap (λ (l : List Bool). getD l i false) (q .rows) ∙ getD-take (long w) (bitsOfAll 64 (onceOut w before)) i false h in
-    rw same (composed-row (s .form) (s .words) (s .listed) (r .form) (r .words) (r .listed) before a i h)
+    rw same (composed-row (w .self) (w .rank) before a i h)

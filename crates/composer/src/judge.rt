@@ -2,17 +2,18 @@
 ghost use mathlib.Core.Path.{_≡_};
 ghost use denote.Ref.{now};
 ghost use Rattle.rows.specs.Table.{first};
-ghost use Rattle.rules.specs.Stream.{lent, pairOf, stateChecks, pieceChecks, judged};
+ghost use Rattle.rules.specs.Operand.{lent};
+ghost use Rattle.rules.specs.Stream.{pairOf, stateChecks, pieceChecks, judged};
 use super::Composer;
-use intersect_by_rank::inner::judge_both;
+use intersect_by_rank::inner::judge::judge_both;
 use lent::inner::words_for;
-use mask::inner::at_most;
-use mask::inner::count_of;
-use mask::inner::equal;
-use mask::inner::has_room;
-use mask::inner::length_of;
-use mask::inner::then;
+use mask::inner::forms::count_of;
+use mask::inner::forms::length_of;
 use rows::Verdict;
+use rows::inner::verdicts::at_most;
+use rows::inner::verdicts::equal;
+use rows::inner::verdicts::has_room;
+use rows::inner::verdicts::then;
 use rules::Form;
 use rules::State;
 

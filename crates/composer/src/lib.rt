@@ -1,9 +1,10 @@
 // The stream composer: self and the rank mask in pieces, laid back piece by piece onto one output. Document 01, part 9.
 ghost use mathlib.Core.Path.{_≡_};
 ghost use denote.Ref.{now};
-ghost use Rattle.rules.specs.Stream.{lent, pairOf, fresh, fed, fedOut};
+ghost use Rattle.rules.specs.Operand.{lent};
+ghost use Rattle.rules.specs.Stream.{pairOf, fresh, fed, fedOut};
 use judge::judge;
-use mask::inner::refused;
+use mask::inner::answers::refused;
 use rows::Rank;
 use rows::Row;
 use rows::Verdict;

@@ -1,9 +1,9 @@
 -- The line of a route, in rows: what it says of the operands is what its kernel asks for, and its kernel's rows are the composition.
 -- By the cases of the table, and the laws of a full, an empty and an accepted operand.
 -- Assumes nothing.
-use Prim.Native.Nat.{ℕ, zero, suc, _+_, _*_, _≤_}
+use Prim.Native.Nat.{ℕ, zero, suc, _*_}
 use mathlib.Core.Path.{_≡_, refl, sym, ap, ap₂, _∙_, subst}
-use mathlib.Core.Bool.{Bool, true, false, _&&_, cond}
+use mathlib.Core.Bool.{Bool, true, false, _&&_, cond, false≢true}
 use mathlib.Core.Logic.{_⊎_, inl, inr}
 use mathlib.Core.List.{List}
 use native.Mathlib.Omega.{arith}
@@ -14,6 +14,8 @@ use Rattle.rows.specs.declared.Way.{Way}
 use Rattle.rows.specs.Rows.{count, compose}
 use Rattle.rows.specs.Words.{bitsOfAll, view}
 use Rattle.rows.specs.Lists.{listed, Ascending}
+use Rattle.rows.specs.Asks.{InView}
+use Rattle.rows.specs.Table.{Met}
 use Rattle.rows.proofs.RowLaws.{compose-full, compose-by-full, compose-empty, compose-by-empty}
 use Rattle.rows.proofs.FitLaws.{compose-cut}
 use Rattle.rows.proofs.ListLaws.{eqb-same, listed-count}
@@ -21,19 +23,20 @@ use Rattle.rules.specs.declared.Form.{Form}
 use Rattle.rules.specs.declared.Form.the-variants.{All, None, Words, List as Listed}
 use Rattle.rules.specs.declared.Factors.{Factors}
 use Rattle.rules.specs.declared.Route.the-variants.{RankMask, SelfMask, NoRows, EntryAtRank, EntryIfSet, MaskDriven, Gathered, Read}
-use Rattle.rules.specs.Operand.{rowsOf, lengthOf, countOf, empty, full, isList, Accepted}
+use Rattle.rules.specs.Operand.{Operand, rowsOf, lengthOf, countBy, countOf, empty, full, countsAsList, checksBy, rowsBy, Accepted}
 use Rattle.rules.specs.Route.{routeOf, wayOf}
 use Rattle.rules.specs.Compose.{Paired, result}
-use Rattle.rules.proofs.OperandLaws.{accepted-list, accepted-length, accepted-count, list-rows, list-count}
-use Rattle.mask.specs.Flat.{startOf}
-use Rattle.mask.proofs.FlatLaws.{accepted-flat}
-use Rattle.intersect_by_rank.specs.Fits.{InWords, Fits}
+use Rattle.rules.proofs.OperandLaws.{accepted-length, accepted-count, words-reach}
+use Rattle.rules.proofs.ComposeLaws.{ranks-length}
+use Rattle.mask.specs.Flat.{hasRowNumbers, startOf}
+use Rattle.mask.proofs.NumberLaws.{accepted-list, list-numbers, list-rows, list-count}
+use Rattle.intersect_by_rank.specs.Fits.{AsList, InWords, Fits}
 
 -- ---- the chosen route's line fits, whatever the factors are
 
-module _ (s : Form) (ses : List ℕ) (r : Form) (res : List ℕ) where
-  line : (fs fr es er sl rl driven : Bool) (way : Way) → full s ses ≡ fs → full r res ≡ fr → empty s ses ≡ es → empty r res ≡ er → isList s ≡ sl → isList r ≡ rl
-      → Fits (cond fs RankMask (cond fr SelfMask (cond es NoRows (cond er NoRows (cond sl (cond rl EntryAtRank EntryIfSet) (cond driven MaskDriven (cond rl (Gathered way) (Read way)))))))) s ses r res
+module _ (s r : Operand) where
+  line : (fs fr es er sl rl driven : Bool) (way : Way) → full s ≡ fs → full r ≡ fr → empty s ≡ es → empty r ≡ er → countsAsList (s .form) ≡ sl → countsAsList (r .form) ≡ rl
+      → Fits (cond fs RankMask (cond fr SelfMask (cond es NoRows (cond er NoRows (cond sl (cond rl EntryAtRank EntryIfSet) (cond driven MaskDriven (cond rl (Gathered way) (Read way)))))))) s r
   line true fr es er sl rl d w a b c e f g = a
   line false true es er sl rl d w a b c e f g = b
   line false false true er sl rl d w a b c e f g = inl c
@@ -45,32 +48,29 @@ module _ (s : Form) (ses : List ℕ) (r : Form) (res : List ℕ) where
   line false false false false false true false w a b c e f g = ((f, a, c), g)
   line false false false false false false false w a b c e f g = ((f, a, c), (g, b, e))
 
-  pub route-fits : (k : Factors) → Fits (routeOf k s ses r res) s ses r res
+  pub route-fits : (k : Factors) → Fits (routeOf k s r) s r
   unfolding routeOf
-  route-fits k = line (full s ses) (full r res) (empty s ses) (empty r res) (isList s) (isList r) (ltb (k .driven * countOf r res) (lengthOf r)) (wayOf k s ses) refl refl refl refl refl refl
+  route-fits k = line (full s) (full r) (empty s) (empty r) (countsAsList (s .form)) (countsAsList (r .form)) (ltb (k .driven * countOf r) (lengthOf (r .form))) (wayOf k s) refl refl refl refl refl refl
 
--- ---- an operand in words
+-- ---- an operand in words: where its rows stand
 
-pub record Lent (f : Form) (ws es : List ℕ) : Type 0 where
-  pub rows : rowsOf f ws es ≡ view (startOf f) (lengthOf f) ws
-  pub few : lengthOf f ≤ 1048576
-  pub start : startOf f ≤ 63
-  pub reach : startOf f + lengthOf f ≤ length ws * 64
+pub record Viewed (o : Operand) : Type 0 where
+  pub rows : rowsOf o ≡ view (startOf (o .form)) (lengthOf (o .form)) (o .words)
+  pub inView : InView (startOf (o .form)) (lengthOf (o .form)) (o .words)
 
 both-same : (n : ℕ) → (ltb 0 n && eqb n n) ≡ false → eqb n 0 ≡ false → ⊥
-both-same zero e h = let z : _≡_ {A = ℕ} 0 1 = cc in omega arith
-both-same (suc n) e h =
-    let t = sym (ap₂ _&&_ (lt-ltb 0 (suc n) (omega arith)) (eqb-same (suc n))) ∙ e in
-    let z : _≡_ {A = ℕ} 0 1 = cc in
-    omega arith
+both-same zero e h = false≢true (sym h)
+both-same (suc n) e h = false≢true (sym e ∙ ap₂ _&&_ (lt-ltb 0 (suc n) (omega arith)) (eqb-same (suc n)))
 
-pub in-words : (f : Form) (ws es : List ℕ) → InWords f es → Accepted f ws es → Lent f ws es
-in-words (All n) ws es w a = absurd (both-same n (w .1) (w .2))
-in-words (None n) ws es w a = absurd (let h = w .2 in let z : _≡_ {A = ℕ} 0 1 = cc in omega arith)
-in-words (Words start len claimed) ws es w a =
-    let t = accepted-flat (Words start len claimed) ws es refl a in
-    record { rows = refl; few = t .0; start = t .1; reach = t .2 }
-in-words (Listed len) ws es w a = absurd (let h = w .0 in let z : _≡_ {A = ℕ} 0 1 = cc in omega arith)
+pub in-words : (o : Operand) → InWords o → Accepted o → Viewed o
+in-words o w a = let v = by (o .form) w a in record { rows = v .0; inView = v .1 }
+  where
+    by : (f : Form) → (countsAsList f ≡ false) × ((ltb 0 (lengthOf f) && eqb (countBy f (o .numbers)) (lengthOf f)) ≡ false) × (eqb (countBy f (o .numbers)) 0 ≡ false) → Met (checksBy f 0 o)
+        → (rowsBy f o ≡ view (startOf f) (lengthOf f) (o .words)) × InView (startOf f) (lengthOf f) (o .words)
+    by (All n) w m = absurd (both-same n (w .1) (w .2))
+    by (None n) w m = absurd (false≢true (sym (w .2)))
+    by (Words start len claimed) w m = (refl, (m .0, m .1 .0, omega (arith, words-reach start len claimed o m)))
+    by (Listed len) w m = absurd (false≢true (sym (w .0)))
 
 -- ---- full and empty
 
@@ -79,89 +79,100 @@ full-count n len e = go (ltb 0 len) e
   where
     go : (b : Bool) → (b && eqb n len) ≡ true → n ≡ len
     go true h = eqb-true n len h
-    go false h = absurd (let z : _≡_ {A = ℕ} 0 1 = cc in omega arith)
+    go false h = absurd (false≢true h)
 
-pub full-rows : (f : Form) (ws es : List ℕ) → full f es ≡ true → Accepted f ws es → count (rowsOf f ws es) ≡ length (rowsOf f ws es)
-full-rows f ws es e a = accepted-count f ws es a ∙ full-count (countOf f es) (lengthOf f) e ∙ sym (accepted-length f ws es a)
+full-rows : (o : Operand) → full o ≡ true → Accepted o → count (rowsOf o) ≡ length (rowsOf o)
+full-rows o e a = accepted-count o a ∙ full-count (countOf o) (lengthOf (o .form)) e ∙ sym (accepted-length o a)
 
-pub empty-rows : (f : Form) (ws es : List ℕ) → empty f es ≡ true → Accepted f ws es → count (rowsOf f ws es) ≡ 0
-empty-rows f ws es e a = accepted-count f ws es a ∙ eqb-true (countOf f es) 0 e
+empty-rows : (o : Operand) → empty o ≡ true → Accepted o → count (rowsOf o) ≡ 0
+empty-rows o e a = accepted-count o a ∙ eqb-true (countOf o) 0 e
 
 -- ---- each line's rows are the composition's
 
-module _ (s : Form) (sws ses : List ℕ) (r : Form) (rws res : List ℕ) (p : Paired s sws ses r rws res) where
+module _ (s r : Operand) (p : Paired s r) where
   abbrev self : List Bool
-  self = rowsOf s sws ses
+  self = rowsOf s
 
   abbrev rank : List Bool
-  rank = rowsOf r rws res
+  rank = rowsOf r
 
-  pub ranks-count : lengthOf r ≡ count (rowsOf s sws ses)
-  ranks-count = p .ranks ∙ sym (accepted-count s sws ses (p .self))
+  ranks-count : lengthOf (r .form) ≡ count self
+  ranks-count = p .ranks ∙ sym (accepted-count s (p .self))
 
-  paired : length rank ≡ count self
-  paired = accepted-length r rws res (p .rank) ∙ ranks-count
+  pub by-full-self : full s ≡ true → rowsOf r ≡ result s r
+  by-full-self e = sym (compose-full self rank (full-rows s e (p .self)) (ranks-length s r p))
 
-  pub by-full-self : full s ses ≡ true → rowsOf r rws res ≡ result s sws ses r rws res
-  by-full-self e = sym (compose-full self rank (full-rows s sws ses e (p .self)) paired)
+  pub full-length : full s ≡ true → lengthOf (r .form) ≡ lengthOf (s .form)
+  full-length e = p .ranks ∙ full-count (countOf s) (lengthOf (s .form)) e
 
-  pub full-length : full s ses ≡ true → lengthOf r ≡ lengthOf s
-  full-length e = p .ranks ∙ full-count (countOf s ses) (lengthOf s) e
+  pub by-full-rank : full r ≡ true → rowsOf s ≡ result s r
+  by-full-rank e = sym (compose-by-full self rank (full-rows r e (p .rank)) (ranks-length s r p))
 
-  pub by-full-rank : full r res ≡ true → rowsOf s sws ses ≡ result s sws ses r rws res
-  by-full-rank e = sym (compose-by-full self rank (full-rows r rws res e (p .rank)) paired)
+  pub by-empty : (empty s ≡ true) ⊎ (empty r ≡ true) → replicate (lengthOf (s .form)) false ≡ result s r
+  by-empty (inl e) = ap (λ (k : ℕ). replicate k false) (sym (accepted-length s (p .self))) ∙ sym (compose-empty self rank (empty-rows s e (p .self)))
+  by-empty (inr e) = ap (λ (k : ℕ). replicate k false) (sym (accepted-length s (p .self))) ∙ sym (compose-by-empty self rank (empty-rows r e (p .rank)))
 
-  pub by-empty : (empty s ses ≡ true) ⊎ (empty r res ≡ true) → replicate (lengthOf s) false ≡ result s sws ses r rws res
-  by-empty (inl e) = ap (λ (k : ℕ). replicate k false) (sym (accepted-length s sws ses (p .self))) ∙ sym (compose-empty self rank (empty-rows s sws ses e (p .self)))
-  by-empty (inr e) = ap (λ (k : ℕ). replicate k false) (sym (accepted-length s sws ses (p .self))) ∙ sym (compose-by-empty self rank (empty-rows r rws res e (p .rank)))
-
-  -- self in words: `lent` says where its rows stand
-  module _ (w : InWords s ses) where
+  -- self in words: `in-words` says where its rows stand
+  module _ (w : InWords s) where
     abbrev shown : List Bool
-    shown = view (startOf s) (lengthOf s) sws
+    shown = view (startOf (s .form)) (lengthOf (s .form)) (s .words)
 
-    same : rowsOf s sws ses ≡ shown
-    same = in-words s sws ses w (p .self) .rows
+    same : rowsOf s ≡ shown
+    same = in-words s w (p .self) .rows
 
-    pub words-count : lengthOf r ≡ count (view (startOf s) (lengthOf s) sws)
+    pub words-count : lengthOf (r .form) ≡ count shown
     words-count = ranks-count ∙ ap count same
 
-    pub words-ascends : isList r ≡ true → Ascending 0 (count (view (startOf s) (lengthOf s) sws)) res
-    words-ascends e = subst (λ (k : ℕ). Ascending 0 k res) words-count (accepted-list r rws res e (p .rank))
+    pub words-ascends : AsList r → Ascending 0 (count shown) (r .numbers)
+    words-ascends e = subst (λ (k : ℕ). Ascending 0 k (r .numbers)) words-count (accepted-list r (list-numbers (r .form) e) (p .rank))
 
-    pub words-listed : isList r ≡ true → compose (view (startOf s) (lengthOf s) sws) (listed (count (view (startOf s) (lengthOf s) sws)) res) ≡ result s sws ses r rws res
-    words-listed e = sym (ap₂ compose same (list-rows r rws res e ∙ ap (λ (k : ℕ). listed k res) words-count))
+    pub words-listed : AsList r → compose shown (listed (count shown) (r .numbers)) ≡ result s r
+    words-listed e = sym (ap₂ compose same (list-rows r (list-numbers (r .form) e) ∙ ap (λ (k : ℕ). listed k (r .numbers)) words-count))
 
-    pub words-words : InWords r res → compose (view (startOf s) (lengthOf s) sws) (view (startOf r) (lengthOf r) rws) ≡ result s sws ses r rws res
-    words-words v = sym (ap₂ compose same (in-words r rws res v (p .rank) .rows))
+    pub words-words : InWords r → compose shown (view (startOf (r .form)) (lengthOf (r .form)) (r .words)) ≡ result s r
+    words-words v = sym (ap₂ compose same (in-words r v (p .rank) .rows))
 
-    pub words-read : InWords r res → compose (view (startOf s) (lengthOf s) sws) (drop (startOf r) (bitsOfAll 64 rws)) ≡ result s sws ses r rws res
-    words-read v = sym (compose-cut (lengthOf r) shown (drop (startOf r) (bitsOfAll 64 rws)) (omega (arith, words-count))) ∙ words-words v
+    pub words-read : InWords r → compose shown (drop (startOf (r .form)) (bitsOfAll 64 (r .words))) ≡ result s r
+    words-read v = sym (compose-cut (lengthOf (r .form)) shown (drop (startOf (r .form)) (bitsOfAll 64 (r .words))) (omega (arith, words-count))) ∙ words-words v
 
   -- self a list
-  module _ (l : isList s ≡ true) where
-    listed-self : rowsOf s sws ses ≡ listed (lengthOf s) ses
-    listed-self = list-rows s sws ses l
+  module _ (l : AsList s) where
+    abbrev rows : List Bool
+    rows = listed (lengthOf (s .form)) (s .numbers)
 
-    pub list-length : lengthOf r ≡ length ses
-    list-length = p .ranks ∙ list-count s ses l
+    listed-self : rowsOf s ≡ rows
+    listed-self = list-rows s (list-numbers (s .form) l)
 
-    pub list-ascends : Ascending 0 (lengthOf s) ses
-    list-ascends = accepted-list s sws ses l (p .self)
+    pub list-length : lengthOf (r .form) ≡ length (s .numbers)
+    list-length = p .ranks ∙ list-count s (list-numbers (s .form) l)
 
-    pub list-ranks : isList r ≡ true → Ascending 0 (length ses) res
-    list-ranks e = subst (λ (k : ℕ). Ascending 0 k res) list-length (accepted-list r rws res e (p .rank))
+    pub list-ascends : Ascending 0 (lengthOf (s .form)) (s .numbers)
+    list-ascends = accepted-list s (list-numbers (s .form) l) (p .self)
 
-    pub list-listed : isList r ≡ true → compose (listed (lengthOf s) ses) (listed (length ses) res) ≡ result s sws ses r rws res
-    list-listed e = sym (ap₂ compose listed-self (list-rows r rws res e ∙ ap (λ (k : ℕ). listed k res) list-length))
+    pub list-ranks : AsList r → Ascending 0 (length (s .numbers)) (r .numbers)
+    list-ranks e = subst (λ (k : ℕ). Ascending 0 k (r .numbers)) list-length (accepted-list r (list-numbers (r .form) e) (p .rank))
 
-    pub list-read : InWords r res → compose (listed (lengthOf s) ses) (drop (startOf r) (bitsOfAll 64 rws)) ≡ result s sws ses r rws res
+    pub list-listed : AsList r → compose rows (listed (length (s .numbers)) (r .numbers)) ≡ result s r
+    list-listed e = sym (ap₂ compose listed-self (list-rows r (list-numbers (r .form) e) ∙ ap (λ (k : ℕ). listed k (r .numbers)) list-length))
+
+    pub list-read : InWords r → compose rows (drop (startOf (r .form)) (bitsOfAll 64 (r .words))) ≡ result s r
     list-read v =
-        let all : count (listed (lengthOf s) ses) ≡ length ses = listed-count (lengthOf s) ses list-ascends in
-        sym (ap₂ compose listed-self (in-words r rws res v (p .rank) .rows)
-        ∙ compose-cut (lengthOf r) (listed (lengthOf s) ses) (drop (startOf r) (bitsOfAll 64 rws)) (omega (arith, all, list-length)))
+        let all : count rows ≡ length (s .numbers) = listed-count (lengthOf (s .form)) (s .numbers) list-ascends in
+        sym (ap₂ compose listed-self (in-words r v (p .rank) .rows)
+        ∙ compose-cut (lengthOf (r .form)) rows (drop (startOf (r .form)) (bitsOfAll 64 (r .words))) (omega (arith, all, list-length)))
 
--- a rank mask that is no list, on route 6
-pub rank-in-words : (f : Form) (es : List ℕ) → (isList f ≡ true) ⊎ InWords f es → isList f ≡ false → InWords f es
-rank-in-words f es (inl e) h = absurd (let z : _≡_ {A = ℕ} 0 1 = cc in omega arith)
-rank-in-words f es (inr w) h = w
+-- a rank mask without row numbers, on route 6
+pub rank-in-words : (o : Operand) → AsList o ⊎ InWords o → hasRowNumbers (o .form) ≡ false → InWords o
+rank-in-words o (inl e) h = absurd (false≢true (sym h ∙ list-numbers (o .form) e))
+rank-in-words o (inr w) h = w
+
+-- and one with them
+pub rank-as-list : (o : Operand) → AsList o ⊎ InWords o → hasRowNumbers (o .form) ≡ true → AsList o
+rank-as-list o (inl e) h = e
+rank-as-list o (inr w) h = by (o .form) (w .0) h
+  where
+    by : (f : Form) → countsAsList f ≡ false → hasRowNumbers f ≡ true → countsAsList f ≡ true
+    by (All n) c e = e
+    by (None n) c e = e
+    by (Words start len claimed) c e = e
+    by (Listed len) c e = refl

@@ -1,10 +1,10 @@
 -- A walk over self's rows, a chunk of 64 at a time: its place, and the chunk that holds a rank.
 -- Assumes nothing.
-use Prim.Native.Nat.{ℕ, _+_, _*_, _^_, _≤_, _<_}
+use Prim.Native.Nat.{ℕ, _+_, _≤_, _<_}
 use mathlib.Core.Path.{_≡_}
 use mathlib.Core.Bool.{Bool}
 use mathlib.Core.List.{List}
-use lib.ListN.{length, take, drop}
+use lib.ListN.{take, drop}
 use Rattle.rows.specs.Rows.{count, rankAt}
 use Rattle.rows.specs.declared.Rank.{Rank}
 use Rattle.kernels.specs.declared.driven.Place.{Place}
@@ -22,10 +22,3 @@ pub record Holds (s : List Bool) (place : Place) (rank : Rank) : Type 0 where
   pub walked : Walked s place
   pub reached : place .passed .0 ≤ rank .0
   pub held : rank .0 < place .passed .0 + count (chunkAt s (place .done .0))
-
--- lent words that have a view's rows, and lent words with room for as many bits
-abbrev pub InView : ℕ → ℕ → List ℕ → Type 0
-InView start len ws = (len ≤ 1048576) × (start + len ≤ length ws * 64)
-
-abbrev pub Room : ℕ → ℕ → List ℕ → Type 0
-Room at len out = (at + len ≤ length out * 64) × (at + len < 2 ^ 64)

@@ -9,6 +9,7 @@ ghost use denote.Ref.{now};
 ghost use Rattle.rows.specs.Word.{bitsOf, wordOf};
 ghost use Rattle.rows.specs.Words.{fit, bitsOfAll, view};
 ghost use Rattle.rows.specs.Laid.{laid};
+ghost use Rattle.rows.specs.Asks.{Room, Chunk};
 ghost use Rattle.kernels.specs.Driven.{chunkAt};
 use lent::inner::chunk;
 use lent::inner::chunk_len;
@@ -52,7 +53,7 @@ pub fn rank_chunk(ranks: &[u64], from: u64, ranklen: u64, rank: Rank) -> u64
 
 // Rows of self from a row on, n of them: the caller knows how many its chunk has.
 pub fn self_bits(words: &[u64], start: u64, row: Row, n: u64) -> u64
-    requires { ⌜ (0 < n) × (n ≤ 64) ⌝ }
+    requires { ⌜ Chunk n ⌝ }
     ensures { λ r. ⌜ r ≡ wordOf (fit n (drop (start + row .0) (bitsOfAll 64 (now (words .entry))))) ⌝ }
 {
     chunk(words, start, row.0, n)
@@ -69,7 +70,7 @@ pub fn rank_bits(ranks: &[u64], from: u64, rank: Rank) -> u64
 
 // The low n bits of bits over the output from a row on; row 0 is at bit at.
 pub fn put_rows(out: &mut [u64], at: u64, row: Row, n: u64, bits: u64)
-    requires { ⌜ (0 < n) × (n ≤ 64) × (at + row .0 + n ≤ length (now out) * 64) × (at + row .0 < 2 ^ 64) ⌝ }
+    requires { ⌜ Chunk n × Room (at + row .0) n (now out) ⌝ }
     ensures { λ _. ⌜ now (out .exit) ≡ laid (at + row .0) (bitsOf n bits) (now (out .entry)) ⌝ }
 {
     put(out, at + row.0, n, bits);

@@ -11,6 +11,7 @@ ghost use Rattle.rows.specs.Words.{bitsOfAll, view};
 ghost use Rattle.rows.specs.Lists.{listed};
 ghost use Rattle.rows.specs.Pdep.{pdep};
 ghost use Rattle.rows.specs.Laid.{laid};
+ghost use Rattle.rows.specs.Asks.{Room, Chunk};
 ghost use Rattle.kernels.specs.Gathers.{Parted, Gathers};
 use super::books::put_rows;
 use super::books::rank_bits;
@@ -43,7 +44,7 @@ fn push_result_chunk(
     row: Row,
     out: &mut [u64],
 )
-    requires { ⌜ (set ≡ ones mask) × (0 < n) × (n ≤ 64) × (at + row .0 + n ≤ length (now out) * 64) × (at + row .0 < 2 ^ 64) ⌝ }
+    requires { ⌜ (set ≡ ones mask) × Chunk n × Room (at + row .0) n (now out) ⌝ }
     ensures { λ _. ⌜ now (out .exit) ≡ laid (at + row .0) (bitsOf n (pdep 64 source mask)) (now (out .entry)) ⌝ }
 {
     put_rows(out, at, row, n, deposit_bits(way, source, mask, set));
@@ -61,7 +62,7 @@ pub fn read_chunks(
     at: u64,
     out: &mut [u64],
 )
-    requires { ⌜ (len ≤ 1048576) × (start + len ≤ length (now words) * 64) × (from + first .0 ≤ 1048639) × (at + len ≤ length (now out) * 64) × (at + len < 2 ^ 64) ⌝ }
+    requires { ⌜ (len ≤ 1048576) × (start + len ≤ length (now words) * 64) × (from + first .0 ≤ 1048639) × Room at len (now out) ⌝ }
     ensures { λ _. ⌜ now (out .exit) ≡ laid at (compose (view start len (now (words .entry))) (drop (first .0) (drop from (bitsOfAll 64 (now (ranks .entry)))))) (now (out .entry)) ⌝ }
 {
     let mut row = Row(0);
@@ -118,7 +119,7 @@ pub fn gather_chunks(
     at: u64,
     out: &mut [u64],
 )
-    requires { ⌜ (len ≤ 1048576) × (start + len ≤ length (now words) * 64) × (at + len ≤ length (now out) * 64) × (at + len < 2 ^ 64)
+    requires { ⌜ (len ≤ 1048576) × (start + len ≤ length (now words) * 64) × Room at len (now out)
         × (from .rank .0 ≤ 1048576) × Parted (from .rank .0) (from .next) (now ranks) ⌝ }
     ensures { λ _. ⌜ now (out .exit) ≡ laid at (compose (view start len (now (words .entry)))
         (drop (from .rank .0) (listed (from .rank .0 + count (view start len (now (words .entry)))) (now (ranks .entry))))) (now (out .entry)) ⌝ }

@@ -2,7 +2,7 @@
 ghost use mathlib.Core.Path.{_≡_};
 ghost use mathlib.Core.Bool.{true};
 ghost use mathlib.Core.List.{[], _∷_, map};
-ghost use Prim.Native.Nat.{_+_, _*_, _^_, _≤_, _<_};
+ghost use Prim.Native.Nat.{_+_, _*_, _≤_, _<_};
 ghost use lib.ListN.{length};
 ghost use denote.Ref.{now};
 ghost use Rattle.rows.specs.Rows.{count, compose};
@@ -10,7 +10,8 @@ ghost use Rattle.rows.specs.Word.{bitsOf};
 ghost use Rattle.rows.specs.Words.{view};
 ghost use Rattle.rows.specs.Lists.{listed, Ascending, setRows, select};
 ghost use Rattle.rows.specs.Laid.{laid, marked};
-ghost use Rattle.kernels.specs.Driven.{Walked, Holds, InView, Room};
+ghost use Rattle.rows.specs.Asks.{Room, InView};
+ghost use Rattle.kernels.specs.Driven.{Walked, Holds};
 use super::books::mark_row;
 use super::books::rank_chunk;
 use super::books::self_chunk;
@@ -82,8 +83,7 @@ pub fn intersect_mask_driven_list(
     at: u64,
     out: &mut [u64],
 )
-    requires { ⌜ (start ≤ 63) × (len ≤ 1048576) × (start + len ≤ length (now words) * 64) × Ascending 0 (count (view start len (now words))) (now ranks)
-        × (at + len ≤ length (now out) * 64) × (at + len < 2 ^ 64) ⌝ }
+    requires { ⌜ InView start len (now words) × Ascending 0 (count (view start len (now words))) (now ranks) × Room at len (now out) ⌝ }
     ensures { λ _. ⌜ now (out .exit) ≡ marked at (setRows 0 (compose (view start len (now (words .entry)))
         (listed (count (view start len (now (words .entry)))) (now (ranks .entry))))) (now (out .entry)) ⌝ }
 {
@@ -137,8 +137,8 @@ pub fn intersect_mask_driven_words(
     at: u64,
     out: &mut [u64],
 )
-    requires { ⌜ (start ≤ 63) × (len ≤ 1048576) × (start + len ≤ length (now words) * 64) × (ranklen ≡ count (view start len (now words)))
-        × (from ≤ 63) × (from + ranklen ≤ length (now ranks) * 64) × (at + len ≤ length (now out) * 64) × (at + len < 2 ^ 64) ⌝ }
+    requires { ⌜ InView start len (now words) × (ranklen ≡ count (view start len (now words)))
+        × (from ≤ 63) × (from + ranklen ≤ length (now ranks) * 64) × Room at len (now out) ⌝ }
     ensures { λ _. ⌜ now (out .exit) ≡ marked at (setRows 0 (compose (view start len (now (words .entry)))
         (view from ranklen (now (ranks .entry))))) (now (out .entry)) ⌝ }
 {

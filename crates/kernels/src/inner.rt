@@ -1,13 +1,14 @@
 // The kernels, one for each way of the route table, all with one promise: the composition is laid from bit at on. For routes 4, 5 and 6 that part
 // of the output is cleared first, and the rows are marked in it.
 ghost use mathlib.Core.Path.{_≡_};
-ghost use Prim.Native.Nat.{_+_, _*_, _^_, _≤_, _<_};
+ghost use Prim.Native.Nat.{_+_, _*_, _≤_};
 ghost use lib.ListN.{length, drop};
 ghost use denote.Ref.{now};
 ghost use Rattle.rows.specs.Rows.{count, compose};
 ghost use Rattle.rows.specs.Words.{bitsOfAll, view};
 ghost use Rattle.rows.specs.Lists.{listed, Ascending};
 ghost use Rattle.rows.specs.Laid.{laid};
+ghost use Rattle.rows.specs.Asks.{Room, InView};
 use super::deposit::Reached;
 use super::deposit::gather_chunks;
 use super::deposit::read_chunks;
@@ -23,7 +24,7 @@ use rows::Way;
 
 // Route 4.
 pub fn lay_entry_at_rank(rows: &[u32], ranks: &[u32], len: u64, at: u64, out: &mut [u64])
-    requires { ⌜ Ascending 0 len (now rows) × Ascending 0 (length (now rows)) (now ranks) × (at + len ≤ length (now out) * 64) × (at + len < 2 ^ 64) ⌝ }
+    requires { ⌜ Ascending 0 len (now rows) × Ascending 0 (length (now rows)) (now ranks) × Room at len (now out) ⌝ }
     ensures { λ _. ⌜ now (out .exit) ≡ laid at (compose (listed len (now (rows .entry))) (listed (length (now (rows .entry))) (now (ranks .entry)))) (now (out .entry)) ⌝ }
 {
     clear(out, at, len);
@@ -32,7 +33,7 @@ pub fn lay_entry_at_rank(rows: &[u32], ranks: &[u32], len: u64, at: u64, out: &m
 
 // Route 5.
 pub fn lay_entry_if_set(rows: &[u32], ranks: &[u64], from: u64, len: u64, at: u64, out: &mut [u64])
-    requires { ⌜ Ascending 0 len (now rows) × (length (now rows) ≤ 1048576) × (from + length (now rows) ≤ length (now ranks) * 64) × (at + len ≤ length (now out) * 64) × (at + len < 2 ^ 64) ⌝ }
+    requires { ⌜ Ascending 0 len (now rows) × (length (now rows) ≤ 1048576) × (from + length (now rows) ≤ length (now ranks) * 64) × Room at len (now out) ⌝ }
     ensures { λ _. ⌜ now (out .exit) ≡ laid at (compose (listed len (now (rows .entry))) (drop from (bitsOfAll 64 (now (ranks .entry))))) (now (out .entry)) ⌝ }
 {
     clear(out, at, len);
@@ -48,8 +49,7 @@ pub fn lay_driven_by_list(
     at: u64,
     out: &mut [u64],
 )
-    requires { ⌜ (start ≤ 63) × (len ≤ 1048576) × (start + len ≤ length (now words) * 64) × Ascending 0 (count (view start len (now words))) (now ranks)
-        × (at + len ≤ length (now out) * 64) × (at + len < 2 ^ 64) ⌝ }
+    requires { ⌜ InView start len (now words) × Ascending 0 (count (view start len (now words))) (now ranks) × Room at len (now out) ⌝ }
     ensures { λ _. ⌜ now (out .exit) ≡ laid at (compose (view start len (now (words .entry)))
         (listed (count (view start len (now (words .entry)))) (now (ranks .entry)))) (now (out .entry)) ⌝ }
 {
@@ -68,8 +68,8 @@ pub fn lay_driven_by_words(
     at: u64,
     out: &mut [u64],
 )
-    requires { ⌜ (start ≤ 63) × (len ≤ 1048576) × (start + len ≤ length (now words) * 64) × (ranklen ≡ count (view start len (now words)))
-        × (from ≤ 63) × (from + ranklen ≤ length (now ranks) * 64) × (at + len ≤ length (now out) * 64) × (at + len < 2 ^ 64) ⌝ }
+    requires { ⌜ InView start len (now words) × (ranklen ≡ count (view start len (now words)))
+        × (from ≤ 63) × (from + ranklen ≤ length (now ranks) * 64) × Room at len (now out) ⌝ }
     ensures { λ _. ⌜ now (out .exit) ≡ laid at (compose (view start len (now (words .entry))) (view from ranklen (now (ranks .entry)))) (now (out .entry)) ⌝ }
 {
     clear(out, at, len);
@@ -86,7 +86,7 @@ pub fn intersect_bit_buffer_by_rank_indices(
     at: u64,
     out: &mut [u64],
 )
-    requires { ⌜ (start ≤ 63) × (len ≤ 1048576) × (start + len ≤ length (now words) * 64) × (at + len ≤ length (now out) * 64) × (at + len < 2 ^ 64) × Ascending 0 (count (view start len (now words))) (now ranks) ⌝ }
+    requires { ⌜ InView start len (now words) × Room at len (now out) × Ascending 0 (count (view start len (now words))) (now ranks) ⌝ }
     ensures { λ _. ⌜ now (out .exit) ≡ laid at (compose (view start len (now (words .entry))) (listed (count (view start len (now (words .entry)))) (now (ranks .entry)))) (now (out .entry)) ⌝ }
 {
     if at % 64 != 0 {
@@ -123,7 +123,7 @@ pub fn intersect_bit_buffers(
     at: u64,
     out: &mut [u64],
 )
-    requires { ⌜ (start ≤ 63) × (len ≤ 1048576) × (start + len ≤ length (now words) * 64) × (from ≤ 63) × (at + len ≤ length (now out) * 64) × (at + len < 2 ^ 64) ⌝ }
+    requires { ⌜ InView start len (now words) × (from ≤ 63) × Room at len (now out) ⌝ }
     ensures { λ _. ⌜ now (out .exit) ≡ laid at (compose (view start len (now (words .entry))) (drop from (bitsOfAll 64 (now (ranks .entry))))) (now (out .entry)) ⌝ }
 {
     if at % 64 != 0 {

@@ -2,7 +2,7 @@
 // one; the caller has cleared their part.
 ghost use mathlib.Core.Path.{_≡_};
 ghost use mathlib.Core.List.{map};
-ghost use Prim.Native.Nat.{_+_, _*_, _^_, _≤_, _<_};
+ghost use Prim.Native.Nat.{_+_, _*_, _≤_, _<_};
 ghost use lib.ListN.{length, getD, drop};
 ghost use denote.Ref.{now};
 ghost use Rattle.rows.specs.Rows.{compose};
@@ -10,7 +10,7 @@ ghost use Rattle.rows.specs.Word.{bitsOf};
 ghost use Rattle.rows.specs.Words.{Below, bitsOfAll};
 ghost use Rattle.rows.specs.Lists.{listed, setRows, Ascending};
 ghost use Rattle.rows.specs.Laid.{marked};
-ghost use Rattle.kernels.specs.Driven.{Room};
+ghost use Rattle.rows.specs.Asks.{Room};
 use super::books::mark_row;
 use super::books::rank_chunk;
 use rows::Rank;
@@ -28,7 +28,7 @@ fn entry_at(rows: &[u32], rank: Rank) -> Row
 
 // Route 4: the self entry at each listed rank.
 pub fn intersect_by_rank_indices(rows: &[u32], ranks: &[u32], len: u64, at: u64, out: &mut [u64])
-    requires { ⌜ Ascending 0 len (now rows) × Ascending 0 (length (now rows)) (now ranks) × (at + len ≤ length (now out) * 64) × (at + len < 2 ^ 64) ⌝ }
+    requires { ⌜ Ascending 0 len (now rows) × Ascending 0 (length (now rows)) (now ranks) × Room at len (now out) ⌝ }
     ensures { λ _. ⌜ now (out .exit) ≡ marked at (setRows 0 (compose (listed len (now (rows .entry))) (listed (length (now (rows .entry))) (now (ranks .entry))))) (now (out .entry)) ⌝ }
 {
     let mut i: usize = 0;
@@ -64,7 +64,7 @@ pub fn intersect_indices_by_rank_bits(
     at: u64,
     out: &mut [u64],
 )
-    requires { ⌜ Ascending 0 len (now rows) × (length (now rows) ≤ 1048576) × (from + length (now rows) ≤ length (now ranks) * 64) × (at + len ≤ length (now out) * 64) × (at + len < 2 ^ 64) ⌝ }
+    requires { ⌜ Ascending 0 len (now rows) × (length (now rows) ≤ 1048576) × (from + length (now rows) ≤ length (now ranks) * 64) × Room at len (now out) ⌝ }
     ensures { λ _. ⌜ now (out .exit) ≡ marked at (setRows 0 (compose (listed len (now (rows .entry))) (drop from (bitsOfAll 64 (now (ranks .entry)))))) (now (out .entry)) ⌝ }
 {
     let count = rows.len() as u64;

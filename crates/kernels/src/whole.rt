@@ -8,6 +8,7 @@ ghost use Rattle.rows.specs.Rows.{count, compose};
 ghost use Rattle.rows.specs.Words.{bitsOfAll, view};
 ghost use Rattle.rows.specs.Lists.{listed};
 ghost use Rattle.rows.specs.Laid.{laid};
+ghost use Rattle.rows.specs.Asks.{InView};
 ghost use Rattle.kernels.specs.Gathers.{Climbs, Parted};
 use super::books::rank_bits;
 use super::deposit::Reached;
@@ -28,7 +29,7 @@ pub fn read_words(
     to: usize,
     out: &mut [u64],
 ) -> Rank
-    requires { ⌜ (start ≤ 63) × (n ≤ 16384) × (start + n * 64 ≤ length (now words) * 64) × (from ≤ 63) × (to + n ≤ length (now out)) ⌝ }
+    requires { ⌜ InView start (n * 64) (now words) × (from ≤ 63) × (to + n ≤ length (now out)) ⌝ }
     ensures { λ r. ⌜ (r .0 ≡ count (view start (n * 64) (now (words .entry))))
         × (now (out .exit) ≡ laid (to * 64) (compose (view start (n * 64) (now (words .entry))) (drop from (bitsOfAll 64 (now (ranks .entry))))) (now (out .entry))) ⌝ }
 {
@@ -56,7 +57,7 @@ pub fn gather_words(
     to: usize,
     out: &mut [u64],
 ) -> Reached
-    requires { ⌜ (start ≤ 63) × (n ≤ 16384) × (start + n * 64 ≤ length (now words) * 64) × (to + n ≤ length (now out)) × Climbs 0 (now ranks) ⌝ }
+    requires { ⌜ InView start (n * 64) (now words) × (to + n ≤ length (now out)) × Climbs 0 (now ranks) ⌝ }
     ensures { λ r. ⌜ (r .rank .0 ≡ count (view start (n * 64) (now (words .entry)))) × Parted (r .rank .0) (r .next) (now (ranks .entry))
         × (now (out .exit) ≡ laid (to * 64) (compose (view start (n * 64) (now (words .entry))) (listed (count (view start (n * 64) (now (words .entry)))) (now (ranks .entry)))) (now (out .entry))) ⌝ }
 {

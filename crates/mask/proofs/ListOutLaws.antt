@@ -7,30 +7,19 @@ use mathlib.Core.Path.{_≡_, refl, sym, ap, ap₂, _∙_}
 use mathlib.Core.Bool.{Bool}
 use mathlib.Core.List.{List, [], _∷_, _++_}
 use native.Mathlib.Omega.{arith}
-use lib.ListN.{length, take, drop, getD, set, length-take}
-use lib.Seq.{take-suc, length-take-le}
+use lib.ListN.{length, take, drop, set, length-take}
+use lib.Seq.{length-take-le}
 use lib.Bits.{bitAnd}
 use lib.Count.{trailingZeros}
 use Rattle.rows.specs.Rows.{count, splice}
 use Rattle.rows.specs.Word.{bitsOf, wordOf}
 use Rattle.rows.specs.Lists.{setRows}
 use Rattle.rows.proofs.RowLaws.{count-append}
-use Rattle.rows.proofs.SpliceLaws.{splice-one, splice-append, splice-eq}
+use Rattle.rows.proofs.SpliceLaws.{splice-append, splice-eq}
 use Rattle.rows.proofs.PartLaws.{rows-append, rows-word}
 use Rattle.rows.proofs.ListLaws.{rows-count}
 use Rattle.rows.proofs.ClearLaws.{rows-low}
-use Rattle.mask.proofs.ChunkLaws.{chunk-next}
-
--- ---- entries one after the other
-
-pub copy-turn : (out rows : List ℕ) (i : ℕ) → i < length rows → set (splice 0 out (take i rows)) i (getD rows i 0) ≡ splice 0 out (take (suc i) rows)
-copy-turn out rows i h =
-    let done = take i rows in
-    let y = getD rows i 0 in
-    sym (splice-one i (splice 0 out done) y)
-    ∙ ap (λ (k : ℕ). splice k (splice 0 out done) (y ∷ [])) (sym (zero-add (length done) ∙ length-take-le i rows (omega arith)))
-    ∙ splice-append 0 out done (y ∷ [])
-    ∙ ap (splice 0 out) (sym (take-suc rows i 0 h))
+use Rattle.rows.proofs.ChunkLaws.{chunk-next}
 
 -- ---- the set bits of a word, lowest first
 

@@ -7,11 +7,11 @@ ghost use denote.Ref.{now};
 ghost use Rattle.rows.specs.Rows.{count, splice};
 ghost use Rattle.rows.specs.Word.{bitsOf};
 ghost use Rattle.rows.specs.Lists.{setRows};
-ghost use Rattle.rules.specs.Operand.{rowsOf, countOf, Accepted};
+ghost use Rattle.rules.specs.Operand.{lent, rowsOf, countOf, Accepted};
 ghost use Rattle.mask.specs.Flat.{Flat};
-use super::inner::chunk_of;
-use super::inner::is_list;
-use super::inner::length_of;
+use super::inner::chunks::chunk_of;
+use super::inner::forms::has_row_numbers;
+use super::inner::forms::length_of;
 use lent::inner::chunk_len;
 use rules::Form;
 
@@ -41,8 +41,8 @@ fn list_chunk(chunk: u64, base: u32, k: usize, out: &mut [u32]) -> usize
 
 // All, none or words: chunk by chunk.
 fn list_flat(form: Form, words: &[u64], out: &mut [u32])
-    requires { ⌜ Flat form (now words) × (count (rowsOf form (now words) []) ≤ length (now out)) ⌝ }
-    ensures { λ _. ⌜ now (out .exit) ≡ splice 0 (now (out .entry)) (setRows 0 (rowsOf form (now (words .entry)) [])) ⌝ }
+    requires { ⌜ Flat (lent form (now words) []) × (count (rowsOf (lent form (now words) [])) ≤ length (now out)) ⌝ }
+    ensures { λ _. ⌜ now (out .exit) ≡ splice 0 (now (out .entry)) (setRows 0 (rowsOf (lent form (now (words .entry)) []))) ⌝ }
 {
     let len = length_of(form);
     let mut k: usize = 0;
@@ -56,10 +56,10 @@ fn list_flat(form: Form, words: &[u64], out: &mut [u32])
 
 // The set rows, ascending, over the front of out; later entries stay.
 pub fn write_list(form: Form, words: &[u64], rows: &[u32], out: &mut [u32])
-    requires { ⌜ Accepted form (now words) (now rows) × (countOf form (now rows) ≤ length (now out)) ⌝ }
-    ensures { λ _. ⌜ now (out .exit) ≡ setRows 0 (rowsOf form (now (words .entry)) (now (rows .entry))) ++ drop (countOf form (now (rows .entry))) (now (out .entry)) ⌝ }
+    requires { ⌜ Accepted (lent form (now words) (now rows)) × (countOf (lent form [] (now rows)) ≤ length (now out)) ⌝ }
+    ensures { λ _. ⌜ now (out .exit) ≡ setRows 0 (rowsOf (lent form (now (words .entry)) (now (rows .entry)))) ++ drop (countOf (lent form [] (now (rows .entry)))) (now (out .entry)) ⌝ }
 {
-    if is_list(form) {
+    if has_row_numbers(form) {
         copy_list(rows, out);
         return;
     }

@@ -1,23 +1,16 @@
--- Cells laid one by one over the front of a list; what it is that there is room for an answer; and that a call whose answer is written
--- over what is lent has done what its definition says. By recursion over the lists, and by the tests.
+-- A store at the front of a list; what it is that there is room for an answer; and that a call whose answer is written over what is
+-- lent has done what its definition says. By the tests.
 -- Assumes nothing.
-use Prim.Native.Nat.{ℕ, zero, suc, _≤_, _<_}
-use native.Mathlib.Nat.{le-of-suc-le-suc}
+use Prim.Native.Nat.{ℕ, _≤_, _<_}
 use mathlib.Core.Path.{_≡_, refl, ap, _∙_}
 use mathlib.Core.Bool.{Bool, true, false, _&&_}
-use mathlib.Core.List.{List, [], _∷_, _++_}
+use mathlib.Core.List.{List, [], _∷_}
 use native.Mathlib.Omega.{arith}
 use lib.Dec.{leb}
-use lib.ListN.{length, take, drop, getD, set}
+use lib.ListN.{length, drop, set}
 use borrow.Author.Tests.{leb-true}
 use Rattle.probe.specs.declared.tell.Told.{Told}
 use Rattle.probe.specs.Probe.{AnswerCells, Memory, Done, ended, enough, ready, over, tells, does}
-
-pub lay-next : (i : ℕ) (xs l : List ℕ) → i < length xs → i < length l → set (take i xs ++ drop i l) i (getD xs i 0) ≡ take (suc i) xs ++ drop (suc i) l
-lay-next i [] l h k = absurd (omega arith)
-lay-next i (x ∷ xs) [] h k = absurd (omega arith)
-lay-next zero (x ∷ xs) (y ∷ l) h k = refl
-lay-next (suc i) (x ∷ xs) (y ∷ l) h k = ap (λ (t : List ℕ). x ∷ t) (lay-next i xs l (le-of-suc-le-suc h) (le-of-suc-le-suc k))
 
 pub set-first {ℓ} : {A : Type ℓ} (l : List A) (x : A) → 0 < length l → set l 0 x ≡ x ∷ drop 1 l
 set-first [] x h = absurd (omega arith)

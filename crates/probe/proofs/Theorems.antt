@@ -3,23 +3,24 @@
 -- Assumes nothing.
 use Prim.Native.Nat.{ℕ, _≤_, _<_}
 use native.Mathlib.Omega.{arith}
-use mathlib.Core.Path.{_≡_, refl}
+use mathlib.Core.Path.{_≡_, refl, ap}
 use mathlib.Core.Logic.{_⊎_, inl, inr}
 use mathlib.Core.Bool.{Bool, true, false, _&&_}
+use mathlib.Core.Option.{Option, none, some}
 use mathlib.Core.List.{List, [], _∷_}
 use lib.Dec.{leb}
 use lib.ListN.{length, take, drop, replicate}
 use borrow.Author.Tests.{le-leb, lt-leb, ne-eqb}
 use Rattle.rows.specs.declared.Verdict.{Verdict}
 use Rattle.rows.specs.declared.Verdict.the-variants.{Fine, Refused}
-use Rattle.rules.specs.declared.Form.{Form}
 use Rattle.rules.specs.declared.State.{State}
+use Rattle.rules.specs.Operand.{Operand}
 use Rattle.rules.specs.Answer.{noDensity}
-use Rattle.rules.specs.Stream.{Pair, lent, pairOf, judged, fedBy, outBy}
+use Rattle.rules.specs.Stream.{Pair, pairOf, judged, fedBy, outBy}
 use Rattle.probe.specs.declared.form.Given.{Given}
-use Rattle.probe.specs.declared.form.Given.the-variants.{Good, Bad}
+use Rattle.probe.specs.declared.form.Given.the-variants.{Bad}
 use Rattle.probe.specs.declared.tell.Told.{Told}
-use Rattle.probe.specs.Probe.{AnswerCells, cells, enough, ready, tells, Memory, Done, does, fedTold, formOf, ifGood, ifBoth, toWordsDone, toListDone, composeDone, setsDone, feedDone}
+use Rattle.probe.specs.Probe.{AnswerCells, cells, enough, ready, tells, Memory, Done, does, fedTold, given, formOf, ifGood, ifBoth, toWordsDone, toListDone, composeDone, setsDone, feedDone}
 
 -- ---- where `ans` has fewer than 16 cells or `den` fewer than 1, the call does nothing at all
 
@@ -66,37 +67,40 @@ pub record Bads (out : List ℕ) (d : Done) : Type 0 where
   pub density : d .told .density ≡ noDensity
   pub stays : d .out ≡ out
 
-pub bad-form : (kind length start claimed : ℕ) → 3 < kind → formOf kind length start claimed ≡ Bad
+pub bad-form : (kind length start claimed : ℕ) (ws es : List ℕ) → 3 < kind → given (formOf kind length start claimed) ws es ≡ none
 unfolding formOf
-bad-form kind length start claimed h = rw (ne-eqb kind 0 (λ e. omega arith), ne-eqb kind 1 (λ e. omega arith), ne-eqb kind 2 (λ e. omega arith), ne-eqb kind 3 (λ e. omega arith))
+bad-form kind length start claimed ws es h = ap (λ (g : Given). given g ws es) bad
+  where
+    bad : formOf kind length start claimed ≡ Bad
+    bad = rw (ne-eqb kind 0 (λ e. omega arith), ne-eqb kind 1 (λ e. omega arith), ne-eqb kind 2 (λ e. omega arith), ne-eqb kind 3 (λ e. omega arith))
 
-one-bad : (a : Given) (call : Form → Done) (out : List ℕ) → a ≡ Bad → Bads out (ifGood a call out)
+one-bad : (a : Option Operand) (call : Operand → Done) (out : List ℕ) → a ≡ none → Bads out (ifGood a call out)
 one-bad a call out e = rw e record { told = refl; density = refl; stays = refl }
 
-second-bad : (a : Given) (call : Form → Form → Done) (out : List ℕ) → Bads out (ifBoth a Bad call out)
-second-bad (Good f) call out = record { told = refl; density = refl; stays = refl }
-second-bad Bad call out = record { told = refl; density = refl; stays = refl }
+second-bad : (a : Option Operand) (call : Operand → Operand → Done) (out : List ℕ) → Bads out (ifBoth a none call out)
+second-bad (some x) call out = record { told = refl; density = refl; stays = refl }
+second-bad none call out = record { told = refl; density = refl; stays = refl }
 
-either-bad : (a b : Given) (call : Form → Form → Done) (out : List ℕ) → (a ≡ Bad) ⊎ (b ≡ Bad) → Bads out (ifBoth a b call out)
+either-bad : (a b : Option Operand) (call : Operand → Operand → Done) (out : List ℕ) → (a ≡ none) ⊎ (b ≡ none) → Bads out (ifBoth a b call out)
 either-bad a b call out (inl e) = rw e record { told = refl; density = refl; stays = refl }
 either-bad a b call out (inr e) = rw e (second-bad a call out)
 
-module _ (a : Given) (ws es out : List ℕ) (e : a ≡ Bad) where
-  pub to-words-bad : Bads out (toWordsDone a ws es out)
+module _ (a : Option Operand) (out : List ℕ) (e : a ≡ none) where
+  pub to-words-bad : Bads out (toWordsDone a out)
   to-words-bad = one-bad a _ out e
 
-  pub to-list-bad : Bads out (toListDone a ws es out)
+  pub to-list-bad : Bads out (toListDone a out)
   to-list-bad = one-bad a _ out e
 
 -- also in one that the call ignores, as not does its second
-module _ (a : Given) (aws aes : List ℕ) (b : Given) (bws bes out : List ℕ) (e : (a ≡ Bad) ⊎ (b ≡ Bad)) where
-  pub compose-bad : Bads out (composeDone a aws aes b bws bes out)
+module _ (a b : Option Operand) (out : List ℕ) (e : (a ≡ none) ⊎ (b ≡ none)) where
+  pub compose-bad : Bads out (composeDone a b out)
   compose-bad = either-bad a b _ out e
 
-  pub set-bad : (which : ℕ) → Bads out (setsDone which a aws aes b bws bes out)
+  pub set-bad : (which : ℕ) → Bads out (setsDone which a b out)
   set-bad which = either-bad a b _ out e
 
-  pub feed-bad : (st : State) → Bads out (feedDone st a aws aes b bws bes out)
+  pub feed-bad : (st : State) → Bads out (feedDone st a b out)
   feed-bad st = either-bad a b _ out e
 
 -- ---- the state after a feed, as given where it is refused
@@ -110,6 +114,6 @@ by-verdict : (v : Verdict) (st : State) (p : Pair) (out : List ℕ) → (fedTold
 by-verdict Fine st p out h = absurd (h refl)
 by-verdict (Refused r) st p out h = (record { done = refl; ranks = refl; kept = refl }, refl)
 
-pub refused-feed : (st : State) (f g : Form) (aws aes bws bes out : List ℕ) → let d = feedDone st (Good f) aws aes (Good g) bws bes out in
+pub refused-feed : (st : State) (x y : Operand) (out : List ℕ) → let d = feedDone st (some x) (some y) out in
     (d .told .refusal ≡ 0 → ⊥) → Keeps st (d .told) × (d .out ≡ out)
-refused-feed st f g aws aes bws bes out = by-verdict (judged st (pairOf (lent f aws aes) (lent g bws bes)) (length out)) st (pairOf (lent f aws aes) (lent g bws bes)) out
+refused-feed st x y out = by-verdict (judged st (pairOf x y) (length out)) st (pairOf x y) out

@@ -4,6 +4,7 @@
 use Prim.Native.Nat.{ℕ}
 use mathlib.Core.Bool.{Bool, cond, _&&_, _||_}
 use mathlib.Core.List.{List, [], _∷_, _++_}
+use mathlib.Core.Option.{Option, none, some}
 use lib.Dec.{leb, eqb}
 use lib.Ieee.{Float}
 use lib.ListN.{length, drop}
@@ -11,16 +12,16 @@ use Rattle.rows.specs.declared.Refusal.{Refusal}
 use Rattle.rows.specs.Table.{refusal}
 use Rattle.rows.specs.WordAnswer.{deposited, selected, rankRead}
 use Rattle.rules.specs.declared.Answer.{Answer}
-use Rattle.rules.specs.declared.Form.{Form}
 use Rattle.rules.specs.declared.Form.the-variants.{All, None, Words, List as Listed}
 use Rattle.rules.specs.declared.State.{State}
 use Rattle.rules.specs.declared.Fed.{Fed}
+use Rattle.rules.specs.Operand.{Operand, lent}
 use Rattle.rules.specs.Answer.{noDensity}
 use Rattle.rules.specs.Convert.{toWords, toWordsOut, toList, toListOut}
 use Rattle.rules.specs.SetOps.{andNot, combined, combinedOut, negated, negatedOut}
 use Rattle.rules.specs.Route.{published}
 use Rattle.rules.specs.Compose.{composed, composedOut}
-use Rattle.rules.specs.Stream.{lent, pairOf, fed, fedOut}
+use Rattle.rules.specs.Stream.{pairOf, fed, fedOut}
 use Rattle.text.specs.declared.Written.{Written}
 use Rattle.text.specs.Text.{writtenFor, textOut}
 use Rattle.probe.specs.declared.form.Given.{Given}
@@ -138,14 +139,19 @@ formOf kind length start claimed =
 abbrev pub badTold : Told
 badTold = wordTold (refusal 99 0) 0
 
--- the call of the form, or a bad one told, and no other memory changes
-abbrev pub ifGood : Given → (Form → Done) → List ℕ → Done
-ifGood (Good f) call out = call f
-ifGood Bad call out = ended badTold out
+-- an operand as it comes in: a good form with what is lent beside it, and none where the form is bad
+abbrev pub given : Given → List ℕ → List ℕ → Option Operand
+given (Good f) ws es = some (lent f ws es)
+given Bad ws es = none
+
+-- the call of the operand, or a bad one told, and no other memory changes
+abbrev pub ifGood : Option Operand → (Operand → Done) → List ℕ → Done
+ifGood (some o) call out = call o
+ifGood none call out = ended badTold out
 
 -- the same of two operands, also where the call ignores one
-abbrev pub ifBoth : Given → Given → (Form → Form → Done) → List ℕ → Done
-ifBoth a b call out = ifGood a (λ f. ifGood b (λ g. call f g) out) out
+abbrev pub ifBoth : Option Operand → Option Operand → (Operand → Operand → Done) → List ℕ → Done
+ifBoth a b call out = ifGood a (λ x. ifGood b (λ y. call x y) out) out
 
 -- ---- each call
 
@@ -159,33 +165,29 @@ selectTold word rank = wordTold (selected word rank .refusal) (selected word ran
 abbrev pub readTold : List ℕ → ℕ → ℕ → Told
 readTold words start offset = wordTold (rankRead words start offset .refusal) (rankRead words start offset .word)
 
-abbrev pub toWordsDone : Given → List ℕ → List ℕ → List ℕ → Done
-toWordsDone a ws es out = ifGood a (λ f. ended (answerTold (toWords f ws es out)) (toWordsOut f ws es out)) out
+abbrev pub toWordsDone : Option Operand → List ℕ → Done
+toWordsDone a out = ifGood a (λ x. ended (answerTold (toWords x out)) (toWordsOut x out)) out
 
-abbrev pub toListDone : Given → List ℕ → List ℕ → List ℕ → Done
-toListDone a ws es out = ifGood a (λ f. ended (answerTold (toList f ws es out)) (toListOut f ws es out)) out
+abbrev pub toListDone : Option Operand → List ℕ → Done
+toListDone a out = ifGood a (λ x. ended (answerTold (toList x out)) (toListOut x out)) out
 
-abbrev pub composeDone : Given → List ℕ → List ℕ → Given → List ℕ → List ℕ → List ℕ → Done
-composeDone a aws aes b bws bes out =
-    ifBoth a b (λ f g. ended (answerTold (composed published f aws aes g bws bes out)) (composedOut f aws aes g bws bes out)) out
+abbrev pub composeDone : Option Operand → Option Operand → List ℕ → Done
+composeDone a b out = ifBoth a b (λ x y. ended (answerTold (composed published x y out)) (composedOut x y out)) out
 
 -- 0 and, 1 or, 2 and-not, else not, which ignores its second operand
-unfoldable pub setDone : ℕ → Form → List ℕ → List ℕ → Form → List ℕ → List ℕ → List ℕ → Done
-setDone which f aws aes g bws bes out =
-    cond (eqb which 0) (ended (answerTold (combined _&&_ f aws aes g bws bes out)) (combinedOut _&&_ f aws aes g bws bes out))
-    (cond (eqb which 1) (ended (answerTold (combined _||_ f aws aes g bws bes out)) (combinedOut _||_ f aws aes g bws bes out))
-    (cond (eqb which 2) (ended (answerTold (combined andNot f aws aes g bws bes out)) (combinedOut andNot f aws aes g bws bes out))
-    (ended (answerTold (negated f aws aes out)) (negatedOut f aws aes out))))
+unfoldable pub setDone : ℕ → Operand → Operand → List ℕ → Done
+setDone which x y out =
+    cond (eqb which 0) (ended (answerTold (combined _&&_ x y out)) (combinedOut _&&_ x y out))
+    (cond (eqb which 1) (ended (answerTold (combined _||_ x y out)) (combinedOut _||_ x y out))
+    (cond (eqb which 2) (ended (answerTold (combined andNot x y out)) (combinedOut andNot x y out))
+    (ended (answerTold (negated x out)) (negatedOut x out))))
 
-abbrev pub setsDone : ℕ → Given → List ℕ → List ℕ → Given → List ℕ → List ℕ → List ℕ → Done
-setsDone which a aws aes b bws bes out = ifBoth a b (λ f g. setDone which f aws aes g bws bes out) out
+abbrev pub setsDone : ℕ → Option Operand → Option Operand → List ℕ → Done
+setsDone which a b out = ifBoth a b (λ x y. setDone which x y out) out
 
 -- the state after it, as given where it is refused
-abbrev pub feedDone : State → Given → List ℕ → List ℕ → Given → List ℕ → List ℕ → List ℕ → Done
-feedDone st a aws aes b bws bes out =
-    ifBoth a b
-    (λ f g. ended (fedTold (fed st (pairOf (lent f aws aes) (lent g bws bes)) out)) (fedOut st (pairOf (lent f aws aes) (lent g bws bes)) out))
-    out
+abbrev pub feedDone : State → Option Operand → Option Operand → List ℕ → Done
+feedDone st a b out = ifBoth a b (λ x y. ended (fedTold (fed st (pairOf x y) out)) (fedOut st (pairOf x y) out)) out
 
 -- the program: its lines into the output; where that is too short for them 8, and nothing is written
 abbrev pub programDone : List ℕ → List ℕ → Done

@@ -2,8 +2,9 @@
 ghost use mathlib.Core.Path.{_≡_};
 ghost use denote.Ref.{now};
 ghost use Rattle.rows.specs.WordAnswer.{deposited};
+ghost use Rattle.rules.specs.Operand.{lent};
 ghost use Rattle.rules.specs.Stream.{stateOf};
-ghost use Rattle.probe.specs.Probe.{ended, depositTold, selectTold, readTold, toWordsDone, toListDone, composeDone, setDone, setsDone, feedDone, programDone, answerTold};
+ghost use Rattle.probe.specs.Probe.{given, ended, depositTold, selectTold, readTold, toWordsDone, toListDone, composeDone, setDone, setsDone, feedDone, programDone, answerTold};
 use super::form::Given;
 use super::tell::Told;
 use super::tell::of_answer;
@@ -13,33 +14,11 @@ use super::tell::of_word;
 use super::tell::of_written;
 use rows::Deposited;
 use rows::Rank;
-use rows::Refusal;
 use rows::Row;
+use rows::Way;
 use rules::Answer;
 use rules::Form;
 use rules::State;
-
-// The loop form, after the check of the claimed count.
-fn deposit_by_loop(source: u64, mask: u64, claimed: u64) -> Deposited
-    ensures { λ d. ⌜ d ≡ deposited source mask claimed ⌝ }
-{
-    if claimed != u64::count_ones(mask) as u64 {
-        return Deposited {
-            refusal: Refusal {
-                number: 4,
-                operand: 0,
-            },
-            word: 0,
-        };
-    }
-    Deposited {
-        refusal: Refusal {
-            number: 0,
-            operand: 0,
-        },
-        word: word::inner::deposit_portable_loop(source, mask, claimed as u32),
-    }
-}
 
 // By way 0 the choice with the network, by any other the loop form.
 fn deposit_by(way: u64, source: u64, mask: u64, claimed: u64) -> Deposited
@@ -48,7 +27,7 @@ fn deposit_by(way: u64, source: u64, mask: u64, claimed: u64) -> Deposited
     if way == 0 {
         return word::deposit(source, mask, claimed);
     }
-    deposit_by_loop(source, mask, claimed)
+    word::inner::deposit_by(Way::Loop, source, mask, claimed)
 }
 
 pub fn deposit(way: u64, source: u64, mask: u64, claimed: u64) -> Told
@@ -76,7 +55,7 @@ pub fn rank_read(words: &[u64], start: u64, offset: u64) -> Told
 }
 
 pub fn to_words(a: Given, awords: &[u64], arows: &[u32], out: &mut [u64]) -> Told
-    ensures { λ t. ⌜ ended t (now (out .exit)) ≡ toWordsDone a (now (awords .entry)) (now (arows .entry)) (now (out .entry)) ⌝ }
+    ensures { λ t. ⌜ ended t (now (out .exit)) ≡ toWordsDone (given a (now (awords .entry)) (now (arows .entry))) (now (out .entry)) ⌝ }
 {
     match a {
         Given::Bad => of_bad_form(),
@@ -85,7 +64,7 @@ pub fn to_words(a: Given, awords: &[u64], arows: &[u32], out: &mut [u64]) -> Tol
 }
 
 pub fn to_list(a: Given, awords: &[u64], arows: &[u32], out: &mut [u32]) -> Told
-    ensures { λ t. ⌜ ended t (now (out .exit)) ≡ toListDone a (now (awords .entry)) (now (arows .entry)) (now (out .entry)) ⌝ }
+    ensures { λ t. ⌜ ended t (now (out .exit)) ≡ toListDone (given a (now (awords .entry)) (now (arows .entry))) (now (out .entry)) ⌝ }
 {
     match a {
         Given::Bad => of_bad_form(),
@@ -102,7 +81,7 @@ pub fn compose(
     brows: &[u32],
     out: &mut [u64],
 ) -> Told
-    ensures { λ t. ⌜ ended t (now (out .exit)) ≡ composeDone a (now (awords .entry)) (now (arows .entry)) b (now (bwords .entry)) (now (brows .entry)) (now (out .entry)) ⌝ }
+    ensures { λ t. ⌜ ended t (now (out .exit)) ≡ composeDone (given a (now (awords .entry)) (now (arows .entry))) (given b (now (bwords .entry)) (now (brows .entry))) (now (out .entry)) ⌝ }
 {
     let Given::Good(s) = a else {
         return of_bad_form();
@@ -124,7 +103,7 @@ fn set_operation(
     brows: &[u32],
     out: &mut [u64],
 ) -> Answer
-    ensures { λ r. ⌜ ended (answerTold r) (now (out .exit)) ≡ setDone which a (now (awords .entry)) (now (arows .entry)) b (now (bwords .entry)) (now (brows .entry)) (now (out .entry)) ⌝ }
+    ensures { λ r. ⌜ ended (answerTold r) (now (out .exit)) ≡ setDone which (lent a (now (awords .entry)) (now (arows .entry))) (lent b (now (bwords .entry)) (now (brows .entry))) (now (out .entry)) ⌝ }
 {
     match which {
         0 => bitops::and(a, awords, arows, b, bwords, brows, out),
@@ -144,7 +123,7 @@ pub fn set(
     brows: &[u32],
     out: &mut [u64],
 ) -> Told
-    ensures { λ t. ⌜ ended t (now (out .exit)) ≡ setsDone which a (now (awords .entry)) (now (arows .entry)) b (now (bwords .entry)) (now (brows .entry)) (now (out .entry)) ⌝ }
+    ensures { λ t. ⌜ ended t (now (out .exit)) ≡ setsDone which (given a (now (awords .entry)) (now (arows .entry))) (given b (now (bwords .entry)) (now (brows .entry))) (now (out .entry)) ⌝ }
 {
     let Given::Good(f) = a else {
         return of_bad_form();
@@ -168,7 +147,7 @@ pub fn feed(
     brows: &[u32],
     out: &mut [u64],
 ) -> Told
-    ensures { λ t. ⌜ ended t (now (out .exit)) ≡ feedDone (stateOf done ranks kept) a (now (awords .entry)) (now (arows .entry)) b (now (bwords .entry)) (now (brows .entry)) (now (out .entry)) ⌝ }
+    ensures { λ t. ⌜ ended t (now (out .exit)) ≡ feedDone (stateOf done ranks kept) (given a (now (awords .entry)) (now (arows .entry))) (given b (now (bwords .entry)) (now (brows .entry))) (now (out .entry)) ⌝ }
 {
     let Given::Good(s) = a else {
         return of_bad_form();

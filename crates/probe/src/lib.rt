@@ -3,7 +3,7 @@
 ghost use mathlib.Core.Path.{_≡_};
 ghost use denote.Ref.{now};
 ghost use Rattle.rules.specs.Stream.{stateOf};
-ghost use Rattle.probe.specs.Probe.{answerCells, tells, memory, does, formOf, depositTold, selectTold, readTold, toWordsDone, toListDone, composeDone, setsDone, feedDone, programDone};
+ghost use Rattle.probe.specs.Probe.{answerCells, tells, memory, does, given, formOf, depositTold, selectTold, readTold, toWordsDone, toListDone, composeDone, setsDone, feedDone, programDone};
 use form::form_of;
 use tell::ready;
 use tell::tell;
@@ -72,7 +72,7 @@ pub extern "C" fn probe_to_words(
     den: &mut [f64],
 )
     ensures { λ _. ⌜ memory (now (out .exit)) (now (ans .exit)) (now (den .exit))
-        ≡ does (toWordsDone (formOf aform alength astart aclaimed) (now (awords .entry)) (now (arows .entry)) (now (out .entry)))
+        ≡ does (toWordsDone (given (formOf aform alength astart aclaimed) (now (awords .entry)) (now (arows .entry))) (now (out .entry)))
         (memory (now (out .entry)) (now (ans .entry)) (now (den .entry))) ⌝ }
 {
     if !ready(ans.len(), den.len()) {
@@ -96,7 +96,7 @@ pub extern "C" fn probe_to_list(
     den: &mut [f64],
 )
     ensures { λ _. ⌜ memory (now (out .exit)) (now (ans .exit)) (now (den .exit))
-        ≡ does (toListDone (formOf aform alength astart aclaimed) (now (awords .entry)) (now (arows .entry)) (now (out .entry)))
+        ≡ does (toListDone (given (formOf aform alength astart aclaimed) (now (awords .entry)) (now (arows .entry))) (now (out .entry)))
         (memory (now (out .entry)) (now (ans .entry)) (now (den .entry))) ⌝ }
 {
     if !ready(ans.len(), den.len()) {
@@ -126,7 +126,7 @@ pub extern "C" fn probe_compose(
     den: &mut [f64],
 )
     ensures { λ _. ⌜ memory (now (out .exit)) (now (ans .exit)) (now (den .exit))
-        ≡ does (composeDone (formOf aform alength astart aclaimed) (now (awords .entry)) (now (arows .entry)) (formOf bform blength bstart bclaimed) (now (bwords .entry)) (now (brows .entry)) (now (out .entry)))
+        ≡ does (composeDone (given (formOf aform alength astart aclaimed) (now (awords .entry)) (now (arows .entry))) (given (formOf bform blength bstart bclaimed) (now (bwords .entry)) (now (brows .entry))) (now (out .entry)))
         (memory (now (out .entry)) (now (ans .entry)) (now (den .entry))) ⌝ }
 {
     if !ready(ans.len(), den.len()) {
@@ -162,7 +162,7 @@ pub extern "C" fn probe_set(
     den: &mut [f64],
 )
     ensures { λ _. ⌜ memory (now (out .exit)) (now (ans .exit)) (now (den .exit))
-        ≡ does (setsDone which (formOf aform alength astart aclaimed) (now (awords .entry)) (now (arows .entry)) (formOf bform blength bstart bclaimed) (now (bwords .entry)) (now (brows .entry)) (now (out .entry)))
+        ≡ does (setsDone which (given (formOf aform alength astart aclaimed) (now (awords .entry)) (now (arows .entry))) (given (formOf bform blength bstart bclaimed) (now (bwords .entry)) (now (brows .entry))) (now (out .entry)))
         (memory (now (out .entry)) (now (ans .entry)) (now (den .entry))) ⌝ }
 {
     if !ready(ans.len(), den.len()) {
@@ -200,7 +200,7 @@ pub extern "C" fn probe_feed(
     den: &mut [f64],
 )
     ensures { λ _. ⌜ memory (now (out .exit)) (now (ans .exit)) (now (den .exit))
-        ≡ does (feedDone (stateOf done ranks kept) (formOf aform alength astart aclaimed) (now (awords .entry)) (now (arows .entry)) (formOf bform blength bstart bclaimed) (now (bwords .entry)) (now (brows .entry)) (now (out .entry)))
+        ≡ does (feedDone (stateOf done ranks kept) (given (formOf aform alength astart aclaimed) (now (awords .entry)) (now (arows .entry))) (given (formOf bform blength bstart bclaimed) (now (bwords .entry)) (now (brows .entry))) (now (out .entry)))
         (memory (now (out .entry)) (now (ans .entry)) (now (den .entry))) ⌝ }
 {
     if !ready(ans.len(), den.len()) {

@@ -1,11 +1,12 @@
 // What a call tells, and the one way to write it: every cell on every call.
 ghost use mathlib.Core.Path.{_≡_};
-ghost use mathlib.Core.List.{_++_};
 ghost use Prim.Native.Nat.{_≤_, _<_};
-ghost use lib.ListN.{length, drop};
+ghost use lib.ListN.{length};
 ghost use denote.Ref.{now};
 ghost use Rattle.probe.specs.Probe.{answerCells, enough, over, wordTold, badTold, stateTold, answerTold, fedTold, writtenTold};
+use lent::inner::copy_words;
 use rows::Refusal;
+use rows::inner::verdicts::refusal;
 use rules::Answer;
 use rules::Fed;
 use text::Written;
@@ -91,13 +92,7 @@ pub fn of_written(written: Written) -> Told
 pub fn of_bad_form() -> Told
     ensures { λ t. ⌜ t ≡ badTold ⌝ }
 {
-    of_word(
-        Refusal {
-            number: 99,
-            operand: 0,
-        },
-        0,
-    )
+    of_word(refusal(99, 0), 0)
 }
 
 // There is room for an answer: 16 cells and a density.
@@ -108,18 +103,6 @@ pub fn ready(nans: usize, nden: usize) -> bool
         return false;
     }
     1 <= nden
-}
-
-// All of cells over the front of ans.
-fn lay(cells: &[u64], ans: &mut [u64])
-    requires { ⌜ length (now cells) ≤ length (now ans) ⌝ }
-    ensures { λ _. ⌜ now (ans .exit) ≡ now (cells .entry) ++ drop (length (now (cells .entry))) (now (ans .entry)) ⌝ }
-{
-    let mut i: usize = 0;
-    while i < cells.len() {
-        ans[i] = cells[i];
-        i += 1;
-    }
 }
 
 pub fn tell(told: Told, ans: &mut [u64], den: &mut [f64])
@@ -144,6 +127,6 @@ pub fn tell(told: Told, ans: &mut [u64], den: &mut [f64])
         0,
         told.bytes,
     ];
-    lay(&cells, ans);
+    copy_words(&cells, 0, 16, ans);
     den[0] = told.density;
 }

@@ -6,6 +6,7 @@ use super::reader::Cursor;
 use super::reader::digits::read_number;
 use super::reader::if_held;
 use rows::Refusal;
+use rows::inner::verdicts::no_refusal;
 
 // What is told of a case before its lent words: the operation, and three numbers whose meaning it gives.
 struct Call {
@@ -54,10 +55,7 @@ fn deposit(source: u64, mask: u64, claimed: u64) -> Told {
 // The loop form is no entry point: it takes the mask's own count, and refuses nothing.
 fn deposit_by_loop(source: u64, mask: u64) -> Told {
     Told {
-        refusal: Refusal {
-            number: 0,
-            operand: 0,
-        },
+        refusal: no_refusal(),
         word: word::inner::deposit_portable_loop(source, mask, u64::count_ones(mask)),
     }
 }

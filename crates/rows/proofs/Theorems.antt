@@ -1,18 +1,19 @@
 -- Deposit, select and rank read, as document 01 says them: each refusal exactly when, and what is answered otherwise.
 -- By the tables of checks that the contracts cite, and by the bits of words.
 -- Assumes nothing.
-use Prim.Native.Nat.{ℕ, _<_, _+_, _≤_}
+use Prim.Native.Nat.{ℕ, zero, _<_, _+_, _≤_}
 use mathlib.Core.Path.{_≡_, sym, ap, _∙_}
-use mathlib.Core.Logic.{_↔_}
+use mathlib.Core.Logic.{_↔_, _≢_}
 use mathlib.Core.Bool.{true, Bool, false}
 use native.Mathlib.Decide.{ℕ-discrete, decLt, decLe}
 use native.Mathlib.Omega.{arith}
+use Rattle.rows.specs.declared.Refusal.{Refusal}
 use Rattle.rows.specs.Rows.{count}
 use Rattle.rows.specs.Word.{testBit, bitsOf, wordOf}
 use Rattle.rows.specs.Lists.{select}
 use Rattle.rows.specs.Pdep.{pdep}
 use Rattle.rows.specs.Table.{refusal, noRefusal}
-use Rattle.rows.specs.WordAnswer.{depositedBy, selectedBy, deposited, selected, wordFrom, readBy, rankRead}
+use Rattle.rows.specs.WordAnswer.{depositAnswer, depositedBy, selectAnswer, selectedBy, deposited, selected, wordFrom, readAnswer, readBy, rankRead}
 use Rattle.rows.specs.Words.{fit, bitsOfAll}
 use Rattle.rows.proofs.WordLaws.{bitsOf-length, bitsOf-at, bitsOf-wordOf-at}
 use Rattle.rows.proofs.FitLaws.{take-bits}
@@ -25,29 +26,29 @@ use lib.Seq.{getD-drop}
 
 -- ---- deposit
 
--- 4 exactly where the claimed count differs from the set bits in the mask word
-pub deposit-refuses : (source mask claimed : ℕ) → (deposited source mask claimed .refusal ≡ refusal 4 0) ↔ (¬ (claimed ≡ count (bitsOf 64 mask)))
+-- 4, and no other, exactly where the claimed count differs from the set bits in the mask word
+pub deposit-refuses : (source mask claimed : ℕ) (x : Refusal) → zero < x .number → (deposited source mask claimed .refusal ≡ x) ↔ ((x ≡ refusal 4 0) × (claimed ≢ count (bitsOf 64 mask)))
 unfolding deposited
-deposit-refuses source mask claimed = alone-exactly (ℕ-discrete claimed (count (bitsOf 64 mask))) 4 0 (omega arith)
+deposit-refuses source mask claimed = alone-exactly (ℕ-discrete claimed (count (bitsOf 64 mask))) 4 0
 
 -- then the whole answer is this
-pub deposit-refused : (source mask claimed : ℕ) → ¬ (claimed ≡ count (bitsOf 64 mask)) → deposited source mask claimed ≡ record { refusal = refusal 4 0; word = 0 }
+pub deposit-refused : (source mask claimed : ℕ) → claimed ≢ count (bitsOf 64 mask) → deposited source mask claimed ≡ depositAnswer (refusal 4 0) 0
 unfolding deposited
 deposit-refused source mask claimed h = ap (λ v. depositedBy v (pdep 64 source mask)) (alone-refused (ℕ-discrete claimed (count (bitsOf 64 mask))) 4 0 h)
 
 -- and otherwise this: the published PDEP
-pub deposit-answers : (source mask claimed : ℕ) → claimed ≡ count (bitsOf 64 mask) → deposited source mask claimed ≡ record { refusal = noRefusal; word = pdep 64 source mask }
+pub deposit-answers : (source mask claimed : ℕ) → claimed ≡ count (bitsOf 64 mask) → deposited source mask claimed ≡ depositAnswer noRefusal (pdep 64 source mask)
 unfolding deposited
 deposit-answers source mask claimed h = ap (λ v. depositedBy v (pdep 64 source mask)) (alone-fine (ℕ-discrete claimed (count (bitsOf 64 mask))) 4 0 h)
 
 -- ---- select
 
--- 9 exactly where the rank is not below the word's set bits
-pub select-refuses : (word rank : ℕ) → (selected word rank .refusal ≡ refusal 9 0) ↔ (¬ (rank < count (bitsOf 64 word)))
+-- 9, and no other, exactly where the rank is not below the word's set bits
+pub select-refuses : (word rank : ℕ) (x : Refusal) → zero < x .number → (selected word rank .refusal ≡ x) ↔ ((x ≡ refusal 9 0) × (¬ (rank < count (bitsOf 64 word))))
 unfolding selected
-select-refuses word rank = alone-exactly (decLt rank (count (bitsOf 64 word))) 9 0 (omega arith)
+select-refuses word rank = alone-exactly (decLt rank (count (bitsOf 64 word))) 9 0
 
-pub select-refused : (word rank : ℕ) → ¬ (rank < count (bitsOf 64 word)) → selected word rank ≡ record { refusal = refusal 9 0; position = 0 }
+pub select-refused : (word rank : ℕ) → ¬ (rank < count (bitsOf 64 word)) → selected word rank ≡ selectAnswer (refusal 9 0) 0
 unfolding selected
 select-refused word rank h = ap (λ v. selectedBy v (select (bitsOf 64 word) rank)) (alone-refused (decLt rank (count (bitsOf 64 word))) 9 0 h)
 
@@ -57,7 +58,7 @@ pub record Position (word rank p : ℕ) : Type 0 where
   pub isSet : testBit word p ≡ true
   pub below : count (bitsOf p word) ≡ rank
 
-pub select-answers : (word rank : ℕ) → rank < count (bitsOf 64 word) → (p : ℕ) × (selected word rank ≡ record { refusal = noRefusal; position = p }) × Position word rank p
+pub select-answers : (word rank : ℕ) → rank < count (bitsOf 64 word) → (p : ℕ) × (selected word rank ≡ selectAnswer noRefusal p) × Position word rank p
 unfolding selected
 select-answers word rank h =
     let p : ℕ = select (bitsOf 64 word) rank in
@@ -75,18 +76,18 @@ select-answers word rank h =
 -- ---- rank read
 
 module _ (words : List ℕ) (start offset : ℕ) where
-  -- 2 exactly where start is over 63
-  pub read-refuses : (rankRead words start offset .refusal ≡ refusal 2 0) ↔ (¬ (start ≤ 63))
+  -- 2, and no other, exactly where start is over 63
+  pub read-refuses : (x : Refusal) → zero < x .number → (rankRead words start offset .refusal ≡ x) ↔ ((x ≡ refusal 2 0) × (¬ (start ≤ 63)))
   unfolding rankRead
-  read-refuses = alone-exactly (decLe start 63) 2 0 (omega arith)
+  read-refuses = alone-exactly (decLe start 63) 2 0
 
   -- then the whole answer is this
-  pub read-refused : ¬ (start ≤ 63) → rankRead words start offset ≡ record { refusal = refusal 2 0; word = 0 }
+  pub read-refused : ¬ (start ≤ 63) → rankRead words start offset ≡ readAnswer (refusal 2 0) 0
   unfolding rankRead
   read-refused h = ap (λ v. readBy v (wordFrom (start + offset) words)) (alone-refused (decLe start 63) 2 0 h)
 
   -- and otherwise this
-  pub read-answers : start ≤ 63 → rankRead words start offset ≡ record { refusal = noRefusal; word = wordFrom (start + offset) words }
+  pub read-answers : start ≤ 63 → rankRead words start offset ≡ readAnswer noRefusal (wordFrom (start + offset) words)
   unfolding rankRead
   read-answers h = ap (λ v. readBy v (wordFrom (start + offset) words)) (alone-fine (decLe start 63) 2 0 h)
 

@@ -5,6 +5,7 @@
 use Prim.Native.Nat.{ℕ, _+_}
 use native.Mathlib.Decide.{ℕ-discrete, decLt, decLe}
 use mathlib.Core.List.{List, [], _∷_}
+use Rattle.rows.specs.declared.Refusal.{Refusal}
 use Rattle.rows.specs.declared.Verdict.{Verdict}
 use Rattle.rows.specs.declared.Deposited.{Deposited}
 use Rattle.rows.specs.declared.Selected.{Selected}
@@ -27,11 +28,18 @@ depositChecks mask claimed = need (ℕ-discrete claimed (count (bitsOf 64 mask))
 abbrev pub selectChecks : ℕ → ℕ → List Line
 selectChecks word rank = need (decLt rank (count (bitsOf 64 word))) 9 0 ∷ []
 
+-- an answer is made here and nowhere else; by the verdict, a refusal's word or position is 0
+abbrev pub depositAnswer : Refusal → ℕ → Deposited
+depositAnswer r word = record { refusal = r; word = word }
+
 abbrev pub depositedBy : Verdict → ℕ → Deposited
-depositedBy v word = record { refusal = told v; word = ifFine v word 0 }
+depositedBy v word = depositAnswer (told v) (ifFine v word 0)
+
+abbrev pub selectAnswer : Refusal → ℕ → Selected
+selectAnswer r position = record { refusal = r; position = position }
 
 abbrev pub selectedBy : Verdict → ℕ → Selected
-selectedBy v position = record { refusal = told v; position = ifFine v position 0 }
+selectedBy v position = selectAnswer (told v) (ifFine v position 0)
 
 -- the published PDEP of the source and the mask
 unfoldable pub deposited : ℕ → ℕ → ℕ → Deposited
@@ -51,8 +59,11 @@ wordFrom at words = wordOf (fit 64 (drop at (bitsOfAll 64 words)))
 abbrev pub readChecks : ℕ → List Line
 readChecks start = need (decLe start 63) 2 0 ∷ []
 
+abbrev pub readAnswer : Refusal → ℕ → Read
+readAnswer r word = record { refusal = r; word = word }
+
 abbrev pub readBy : Verdict → ℕ → Read
-readBy v word = record { refusal = told v; word = ifFine v word 0 }
+readBy v word = readAnswer (told v) (ifFine v word 0)
 
 unfoldable pub rankRead : List ℕ → ℕ → ℕ → Read
 rankRead words start offset = readBy (first (readChecks start)) (wordFrom (start + offset) words)

@@ -13,25 +13,24 @@ use Rattle.rows.specs.declared.Verdict.the-variants.{Fine, Refused}
 use Rattle.rows.specs.Rows.{count, compose, splice}
 use Rattle.rows.specs.Words.{bitsOfAll}
 use Rattle.rows.specs.Laid.{wordsFor, laid, written}
-use Rattle.rows.specs.Table.{refusal, first}
+use Rattle.rows.specs.Table.{first}
 use Rattle.rows.proofs.RowLaws.{compose-length, compose-append, count-append, count-le-length}
 use Rattle.rows.proofs.SpliceLaws.{splice-nil, splice-append, splice-eq}
-use Rattle.rows.proofs.WordsLaws.{bitsOfAll-length, wordsOf-bits}
-use Rattle.rows.proofs.FitLaws.{all-fit}
-use Rattle.rows.proofs.LaidLaws.{laid-bits, laid-length, wordsOf-length}
+use Rattle.rows.proofs.WordsLaws.{bitsOfAll-length}
+use Rattle.rows.proofs.LaidLaws.{laid-bits, laid-length}
 use Rattle.rows.proofs.WrittenLaws.{written-rows}
 use Rattle.rules.specs.declared.Answer.{Answer}
 use Rattle.rules.specs.declared.State.{State}
-use Rattle.rules.specs.Operand.{limit, lengthOf}
+use Rattle.rules.specs.Operand.{limit, inWords, rowsOf, lengthOf, Accepted}
 use Rattle.rules.specs.Answer.{answered}
 use Rattle.rules.specs.Route.{published}
-use Rattle.rules.specs.Compose.{composeChecks, composed, composedOut}
-use Rattle.rules.specs.Stream.{Pair, pairOf, rows, long, kept, routed, stateOf, fresh, moved, judged, fedBy, outBy, Run, after, run}
-use Rattle.rules.specs.Demand3.{once, onceOut, WellFormed, Pieces, joined, AllAccepted, taken, summed, Whole, Forward, Converse, inWords, ConverseInWords}
-use Rattle.rules.proofs.OperandLaws.{accepted-length, accepted-count}
+use Rattle.rules.specs.Compose.{Paired, composeChecks, routed, composed, composedOut}
+use Rattle.rules.specs.Stream.{Pair, pairOf, long, kept, stateOf, fresh, moved, judged, fedBy, outBy, Run, after, run}
+use Rattle.rules.specs.Demand3.{once, onceOut, Pieces, joined, AllAccepted, taken, summed, Whole, Forward, Converse, ConverseInWords}
+use Rattle.rules.proofs.OperandLaws.{accepted-length, accepted-count, in-words-rows, in-words-accepted}
 use Rattle.rules.proofs.Compositions.{compose-fine, composed-accepts}
 use Rattle.rules.proofs.Feeds.{feed-fine, feed-takes}
-use Rattle.rules.proofs.StreamLaws.{Within, Matched, Accepts, self-length, self-limit, rank-length, kept-length, moved-within, refused-number}
+use Rattle.rules.proofs.StreamLaws.{Within, Accepts, self-length, self-limit, rank-length, kept-length, moved-within, refused-number}
 
 abbrev selves : List Pair → List Bool
 selves ps = joined (λ p. p .self) ps
@@ -63,22 +62,22 @@ step st p out ps Fine e ih =
     let S = selves (taken ps (t .answers)) in
     let R = ranks (taken ps (t .answers)) in
     let q : Ran st′ out′ t S R = ih st′ out′ in
-    let join : compose (rows (p .self) ++ S) (rows (p .rank) ++ R) ≡ kept p ++ compose S R = compose-append (rows (p .self)) S (rows (p .rank)) R (rank-length p (a .matched)) in
-    let more : length (rows (p .self) ++ S) ≡ length (rows (p .self)) + length S = length-append (rows (p .self)) S in
-    let set : count (rows (p .self) ++ S) ≡ count (rows (p .self)) + count S = count-append (rows (p .self)) S in
+    let join : compose (rowsOf (p .self) ++ S) (rowsOf (p .rank) ++ R) ≡ kept p ++ compose S R = compose-append (rowsOf (p .self)) S (rowsOf (p .rank)) R (rank-length p (a .matched)) in
+    let more : length (rowsOf (p .self) ++ S) ≡ length (rowsOf (p .self)) + length S = length-append (rowsOf (p .self)) S in
+    let set : count (rowsOf (p .self) ++ S) ≡ count (rowsOf (p .self)) + count S = count-append (rowsOf (p .self)) S in
     let size : length out′ ≡ length out = laid-length 64 (st .done .0) (kept p) out in
     let self = self-length p (a .matched) in
     record {
-      matched = omega (arith, length-append (rows (p .rank)) R, set, rank-length p (a .matched), q .matched);
+      matched = omega (arith, length-append (rowsOf (p .rank)) R, set, rank-length p (a .matched), q .matched);
       bits =
           q .bits
-          ∙ ap₂ (λ (n : ℕ) (l : List Bool). splice (st .done .0 + n) l (compose S R)) (sym (compose-length (rows (p .self)) (rows (p .rank)))) (laid-bits 64 (st .done .0) (kept p) out)
+          ∙ ap₂ (λ (n : ℕ) (l : List Bool). splice (st .done .0 + n) l (compose S R)) (sym (compose-length (rowsOf (p .self)) (rowsOf (p .rank)))) (laid-bits 64 (st .done .0) (kept p) out)
           ∙ splice-append (st .done .0) (bitsOfAll 64 out) (kept p) (compose S R)
           ∙ ap (splice (st .done .0) (bitsOfAll 64 out)) (sym join);
       counts = rw (join, count-append (kept p) (compose S R)) (ap (λ (n : ℕ). count (kept p) + n) (q .counts));
       state = q .state ∙ rw (join, count-append (kept p) (compose S R), more, set) (simp add-assoc);
       limited = λ h. omega (arith, more, self, q .limited (omega (arith, self, a .limited)));
-      room = λ h. (let g : st .done .0 + length (rows (p .self)) ≤ length out′ * 64 = omega (arith, self, a .space) in omega (arith, more, q .room g));
+      room = λ h. (let g : st .done .0 + length (rowsOf (p .self)) ≤ length out′ * 64 = omega (arith, self, a .space) in omega (arith, more, q .room g));
     }
 step st p out ps (Refused x) e ih = skip (x .number) refl
   where
@@ -109,19 +108,19 @@ drop-over : (xs ys : List Bool) → length ys ≤ length xs → drop (length ys)
 drop-over xs ys h = rw (splice-eq 0 xs ys (omega arith)) (drop-at ys (drop (0 + length ys) xs) (length ys) refl ∙ ap (λ (n : ℕ). drop n xs) (zero-add (length ys)))
 
 -- the whole, where it is accepted
-answers : (w : Pair) (out : List ℕ) → first (composeChecks (w .self .form) (w .self .words) (w .self .listed) (w .rank .form) (w .rank .words) (w .rank .listed) (length out)) ≡ Fine
-    → (once w out ≡ answered Fine (kept w) (routed w)) × (onceOut w out ≡ written (long w) (kept w) out)
+answers : (w : Pair) (out : List ℕ) → first (composeChecks (w .self) (w .rank) (length out)) ≡ Fine
+    → (once w out ≡ answered Fine (kept w) (routed published (w .self) (w .rank))) × (onceOut w out ≡ written (long w) (kept w) out)
 unfolding composed composedOut
 answers w out f = rw f (refl, refl)
 
-whole : (w : Pair) (out : List ℕ) (t : Run) → WellFormed (w .self) → WellFormed (w .rank) → Ran fresh out t (rows (w .self)) (rows (w .rank)) → Whole w out t
+whole : (w : Pair) (out : List ℕ) (t : Run) → Accepted (w .self) → Accepted (w .rank) → Ran fresh out t (rowsOf (w .self)) (rowsOf (w .rank)) → Whole w out t
 whole w out t ws wr q =
-    let ls : length (rows (w .self)) ≡ long w = accepted-length (w .self .form) (w .self .words) (w .self .listed) ws in
-    let cs = accepted-count (w .self .form) (w .self .words) (w .self .listed) ws in
-    let lr = accepted-length (w .rank .form) (w .rank .words) (w .rank .listed) wr in
-    let fits : long w ≤ length out * 64 = omega (arith, zero-add (length (rows (w .self))), ls, q .room (omega arith)) in
-    let m : Matched w = record { self = ws; rank = wr; ranks = sym lr ∙ q .matched ∙ cs } in
-    let f = compose-fine (w .self .form) (w .self .words) (w .self .listed) (w .rank .form) (w .rank .words) (w .rank .listed) (length out) .1 (m, omega (arith, fits)) in
+    let ls : length (rowsOf (w .self)) ≡ long w = accepted-length (w .self) ws in
+    let cs = accepted-count (w .self) ws in
+    let lr = accepted-length (w .rank) wr in
+    let fits : long w ≤ length out * 64 = omega (arith, zero-add (length (rowsOf (w .self))), ls, q .room (omega arith)) in
+    let m : Paired (w .self) (w .rank) = record { self = ws; rank = wr; ranks = sym lr ∙ q .matched ∙ cs } in
+    let f = compose-fine (w .self) (w .rank) (length out) .1 (m, omega (arith, fits)) in
     let d = answers w out f in
     let n : once w out .summary .count ≡ count (kept w) = ap (λ (a : Answer). a .summary .count) (d .0) in
     let lk : length (kept w) ≡ long w = kept-length w m in
@@ -138,13 +137,7 @@ whole w out t ws wr q =
 pub converse : Converse
 converse w out ps ws wr j = whole w out (run fresh out ps) ws wr (rw (j .selves, j .ranks) (ran ps fresh out))
 
--- in words: a mask's own words have its rows
-inWords-rows : (s : List Bool) → rows (inWords s) ≡ s
-inWords-rows s = rw (wordsOf-bits 64 (wordsFor (length s)) s) (all-fit (wordsFor (length s) * 64) s (omega arith))
-
-inWords-formed : (s : List Bool) → length s ≤ limit → WellFormed (inWords s)
-inWords-formed s h = (h, (omega arith, (omega (arith, wordsOf-length 64 (wordsFor (length s)) s, zero-add (length s)), (ap count (sym (inWords-rows s)), tt))))
-
+-- in words
 pub converse-in-words : ConverseInWords
 converse-in-words out ps =
     let qs = taken ps (run fresh out ps .answers) in
@@ -152,15 +145,15 @@ converse-in-words out ps =
     let R = joined (λ (p : Pair). p .rank) qs in
     let q : Ran fresh out (run fresh out ps) S R = ran ps fresh out in
     let short : length S ≤ limit = omega (arith, zero-add (length S), q .limited (omega arith)) in
-    converse (pairOf (inWords S) (inWords R)) out ps (inWords-formed S short) (inWords-formed R (omega (arith, q .matched, count-le-length S)))
-    (record { selves = inWords-rows S; ranks = inWords-rows R })
+    converse (pairOf (inWords S) (inWords R)) out ps (in-words-accepted S short) (in-words-accepted R (omega (arith, q .matched, count-le-length S)))
+    (record { selves = in-words-rows S; ranks = in-words-rows R })
 
 -- ---- pieces that fit are accepted, each
 
-now-fine : (st : State) (p : Pair) (room : ℕ) → Within st → WellFormed (p .self) → WellFormed (p .rank) → lengthOf (p .rank .form) ≡ count (rows (p .self))
-    → st .done .0 + length (rows (p .self)) ≤ limit → wordsFor (st .done .0 + length (rows (p .self))) ≤ room → Accepts st p room
+now-fine : (st : State) (p : Pair) (room : ℕ) → Within st → Accepted (p .self) → Accepted (p .rank) → lengthOf (p .rank .form) ≡ count (rowsOf (p .self))
+    → st .done .0 + length (rowsOf (p .self)) ≤ limit → wordsFor (st .done .0 + length (rowsOf (p .self))) ≤ room → Accepts st p room
 now-fine st p room h a b c d e =
-    let m : Matched p = record { self = a; rank = b; ranks = c ∙ accepted-count (p .self .form) (p .self .words) (p .self .listed) a } in
+    let m : Paired (p .self) (p .rank) = record { self = a; rank = b; ranks = c ∙ accepted-count (p .self) a } in
     let self = self-length p m in
     record { within = h; matched = m; limited = omega (arith, self, d); space = subst (λ (n : ℕ). wordsFor (st .done .0 + n) ≤ room) self e }
 
@@ -168,7 +161,7 @@ all-taken : (ps : List Pair) (st : State) (out : List ℕ) → Within st → Pie
     → AllAccepted (run st out ps .answers) × (taken ps (run st out ps .answers) ≡ ps)
 all-taken [] st out h f l w = (tt, refl)
 all-taken (p ∷ ps) st out h f l w =
-    let more : length (rows (p .self) ++ selves ps) ≡ length (rows (p .self)) + length (selves ps) = length-append (rows (p .self)) (selves ps) in
+    let more : length (rowsOf (p .self) ++ selves ps) ≡ length (rowsOf (p .self)) + length (selves ps) = length-append (rowsOf (p .self)) (selves ps) in
     let size : length (laid (st .done .0) (kept p) out) ≡ length out = laid-length 64 (st .done .0) (kept p) out in
     let a = now-fine st p (length out) h (f .0) (f .1) (f .2) (omega (arith, more, l)) (omega (arith, more, w)) in
     let ih = all-taken ps (moved st p) (laid (st .done .0) (kept p) out) (moved-within st p (length out) a) (f .3) (omega (arith, more, l)) (omega (arith, more, size, w)) in
@@ -177,7 +170,7 @@ all-taken (p ∷ ps) st out h f l w =
 -- a pair that demand 2 accepts, cut into pieces that match: every feed is accepted, and the run is the whole
 pub forward : Forward
 forward w out ps ok f j =
-    let a = composed-accepts (w .self .form) (w .self .words) (w .self .listed) (w .rank .form) (w .rank .words) (w .rank .listed) published out .0 ok in
+    let a = composed-accepts (w .self) (w .rank) published out .0 ok in
     let ls = self-length w (a .0) in
     let same : length (selves ps) ≡ long w = ap length (sym (j .selves)) ∙ ls in
     let all = all-taken ps fresh out (omega arith, omega arith, omega arith) f (omega (arith, same, zero-add (length (selves ps)), self-limit w (a .0))) (omega (arith, same, zero-add (length (selves ps)), a .1)) in

@@ -11,12 +11,12 @@ use lib.Ieee.{Float, fin, round}
 use Rattle.rows.specs.Word.{bitsOf, wordOf}
 use Rattle.rows.specs.Table.{first, inOrder, noRefusal}
 use Rattle.rules.specs.declared.Answer.{Answer}
-use Rattle.rules.specs.declared.Form.{Form}
 use Rattle.rules.specs.declared.Form.the-variants.{Words, List as Listed}
-use Rattle.rules.specs.Answer.{densityOf}
+use Rattle.rules.specs.Operand.{Operand, lent}
+use Rattle.rules.specs.Answer.{densityOf, answer}
 use Rattle.rules.specs.Route.{routeOf, published}
 use Rattle.rules.specs.Compose.{composed, composedOut}
-use Rattle.rules.specs.Stream.{Pair, lent, pairOf, stateOf, fresh, judged, run}
+use Rattle.rules.specs.Stream.{Pair, pairOf, stateOf, fresh, judged, run}
 use Rattle.rules.proofs.WordExamples as word-examples
 use Rattle.rules.proofs.ReadExamples as lent-examples
 
@@ -27,22 +27,20 @@ quarter = fin false 1 (negsuc 1)
 -- 01101011 composed with 10010 is 01000010. The output had all ones, and a second word that stays
 
 pub data Case : Type 0 where
-  gives : (s : Form) (sws ses : List ℕ) (r : Form) (rws res : List ℕ) (route : ℕ) → Case
+  gives : (s r : Operand) (route : ℕ) → Case
 
 abbrev pub before : List ℕ
 before = (2 ^ 64 - 1) ∷ 7 ∷ []
 
 abbrev pub Holds : Case → Type 0
-Holds (gives s sws ses r rws res n) =
-    (composed published s sws ses r rws res before ≡ record { refusal = noRefusal; summary = record { count = 2; route = n; density = quarter } })
-    × (composedOut s sws ses r rws res before ≡ 66 ∷ 7 ∷ [])
+Holds (gives s r n) = (composed published s r before ≡ answer noRefusal 2 n quarter) × (composedOut s r before ≡ 66 ∷ 7 ∷ [])
 
 abbrev pub masks : List Case
 masks =
-    gives (Words 0 8 5) (214 ∷ []) [] (Words 0 5 2) (9 ∷ []) [] 9
-    ∷ gives (Words 0 8 5) (214 ∷ []) [] (Listed 5) [] (0 ∷ 3 ∷ []) 7
-    ∷ gives (Listed 8) [] (1 ∷ 2 ∷ 4 ∷ 6 ∷ 7 ∷ []) (Words 0 5 2) (9 ∷ []) [] 5
-    ∷ gives (Listed 8) [] (1 ∷ 2 ∷ 4 ∷ 6 ∷ 7 ∷ []) (Listed 5) [] (0 ∷ 3 ∷ []) 4
+    gives (lent (Words 0 8 5) (214 ∷ []) []) (lent (Words 0 5 2) (9 ∷ []) []) 9
+    ∷ gives (lent (Words 0 8 5) (214 ∷ []) []) (lent (Listed 5) [] (0 ∷ 3 ∷ [])) 7
+    ∷ gives (lent (Listed 8) [] (1 ∷ 2 ∷ 4 ∷ 6 ∷ 7 ∷ [])) (lent (Words 0 5 2) (9 ∷ []) []) 5
+    ∷ gives (lent (Listed 8) [] (1 ∷ 2 ∷ 4 ∷ 6 ∷ 7 ∷ [])) (lent (Listed 5) [] (0 ∷ 3 ∷ [])) 4
     ∷ []
 
 -- E12, the same fed as 0110 with 10, then 1011 with 010, in each mix of forms: bits 0 to 7 are 01000010, and the others stay
@@ -51,7 +49,7 @@ pub data Fed : Type 0 where
   feeds : (one two : Pair) (first second : ℕ) → Fed
 
 abbrev pub keepsOne : ℕ → Answer
-keepsOne route = record { refusal = noRefusal; summary = record { count = 1; route = route; density = quarter } }
+keepsOne route = answer noRefusal 1 route quarter
 
 abbrev pub FeedsHold : Fed → Type 0
 FeedsHold (feeds one two n m) = run fresh before (one ∷ two ∷ []) ≡ record { answers = keepsOne n ∷ keepsOne m ∷ []; state = stateOf 8 5 2; out = (2 ^ 64 - 256 + 66) ∷ 7 ∷ [] }

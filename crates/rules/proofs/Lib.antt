@@ -1,8 +1,11 @@
 pub mod OperandLaws
+pub mod AnswerLaws
+pub mod RouteLaws
 pub mod ComposeLaws
 pub mod StreamLaws
 pub mod NearestLaws
 pub mod Writes
+pub mod Operands
 pub mod Conversions
 pub mod RoundTrips
 pub mod Densities

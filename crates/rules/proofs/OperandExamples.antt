@@ -8,24 +8,26 @@ use native.Mathlib.Decide.{ℕ-discrete, decLe}
 use mathlib.Core.Bool.{false}
 use lib.IntN.{ℤ, pos, negsuc}
 use lib.Ieee.{fin, round}
+use Rattle.rows.specs.declared.Refusal.{Refusal}
 use Rattle.rows.specs.Word.{bitsOf}
-use Rattle.rows.specs.Table.{first, told}
-use Rattle.rules.specs.declared.Form.{Form}
+use Rattle.rows.specs.Table.{first, refusal, noRefusal, told}
 use Rattle.rules.specs.declared.Form.the-variants.{All, None, Words, List as Listed}
-use Rattle.rules.specs.Operand.{operandChecks}
+use Rattle.rules.specs.Operand.{Operand, lent, operandChecks}
 use Rattle.rules.specs.Answer.{densityOf}
 
--- the number of its refusal, 0 where it is accepted
-abbrev pub refusalOf : Form → List ℕ → List ℕ → ℕ
-refusalOf f ws es = told (first (operandChecks 0 f ws es)) .number
+-- what is told of it as operand 1
+abbrev pub refusalOf : Operand → Refusal
+refusalOf o = told (first (operandChecks 1 o))
 
--- a form, the lent words, the lent rows, and the number told; or a count, a length, and the density m * 2 ^ e
+-- an operand that is accepted, or one with its refusal; or a count, a length, and the density m * 2 ^ e
 pub data Case : Type 0 where
-  checks : (f : Form) (ws es : List ℕ) (number : ℕ) → Case
+  accepts : (o : Operand) → Case
+  refuses : (o : Operand) (x : Refusal) → Case
   quotient : (n len m : ℕ) (e : ℤ) → Case
 
 abbrev pub Holds : Case → Type 0
-Holds (checks f ws es n) = refusalOf f ws es ≡ n
+Holds (accepts o) = refusalOf o ≡ noRefusal
+Holds (refuses o x) = refusalOf o ≡ x
 Holds (quotient n len m e) = densityOf n len ≡ fin false m e
 
 abbrev pub Every : List Case → Type 0
@@ -34,21 +36,21 @@ Every (c ∷ cs) = Holds c × Every cs
 
 abbrev pub cases : List Case
 cases =
-    checks (Listed 10) [] (3 ∷ 9 ∷ 9 ∷ []) 5
-    ∷ checks (Listed 10) [] (3 ∷ 10 ∷ []) 6
-    ∷ checks (Listed 10) [] [] 0
-    ∷ checks (Listed 10) [] (11 ∷ 3 ∷ []) 5
-    ∷ checks (Listed 0) [] (0 ∷ []) 6
-    ∷ checks (All 1048576) [] [] 0
-    ∷ checks (All 1048577) [] [] 1
-    ∷ checks (None (2 ^ 64 - 1)) [] [] 1
-    ∷ checks (Words 0 0 0) [] [] 0
-    ∷ checks (Words 1 0 0) [] [] 3
-    ∷ checks (Words 1 0 0) (7 ∷ []) [] 0
-    ∷ checks (Words 64 1048577 9) [] [] 1
-    ∷ checks (Words 64 1 9) [] [] 2
-    ∷ checks (Words 60 6 2) ((2 ^ 63) ∷ 1 ∷ []) [] 0
-    ∷ checks (Words 60 6 3) ((2 ^ 63) ∷ 1 ∷ []) [] 4
+    refuses (lent (Listed 10) [] (3 ∷ 9 ∷ 9 ∷ [])) (refusal 5 1)
+    ∷ refuses (lent (Listed 10) [] (3 ∷ 10 ∷ [])) (refusal 6 1)
+    ∷ accepts (lent (Listed 10) [] [])
+    ∷ refuses (lent (Listed 10) [] (11 ∷ 3 ∷ [])) (refusal 5 1)
+    ∷ refuses (lent (Listed 0) [] (0 ∷ [])) (refusal 6 1)
+    ∷ accepts (lent (All 1048576) [] [])
+    ∷ refuses (lent (All 1048577) [] []) (refusal 1 1)
+    ∷ refuses (lent (None (2 ^ 64 - 1)) [] []) (refusal 1 1)
+    ∷ accepts (lent (Words 0 0 0) [] [])
+    ∷ refuses (lent (Words 1 0 0) [] []) (refusal 3 1)
+    ∷ accepts (lent (Words 1 0 0) (7 ∷ []) [])
+    ∷ refuses (lent (Words 64 1048577 9) [] []) (refusal 1 1)
+    ∷ refuses (lent (Words 64 1 9) [] []) (refusal 2 1)
+    ∷ accepts (lent (Words 60 6 2) ((2 ^ 63) ∷ 1 ∷ []) [])
+    ∷ refuses (lent (Words 60 6 3) ((2 ^ 63) ∷ 1 ∷ []) []) (refusal 4 1)
     ∷ quotient 0 0 0 (pos 0)
     ∷ quotient 0 1 0 (pos 0)
     ∷ quotient 1 1 1 (pos 0)

@@ -1,24 +1,27 @@
--- What acceptance gives, one lemma each: the rows' length is the form's, their count the form's, a list ascends below the
--- length. From the needs of the operand's table of checks, form by form.
+-- What acceptance gives, one lemma each: the rows' length is the form's, their count the operand's, a list ascends below the
+-- length; and rows in words of their own are an operand. From the needs of the operand's table of checks, form by form.
 -- Assumes nothing.
-use Prim.Native.Nat.{ℕ, zero, suc, _+_, _≤_}
+use Prim.Native.Nat.{ℕ, zero, suc, _+_, _*_, _≤_}
+use native.Mathlib.Nat.{zero-add}
 use mathlib.Core.Path.{_≡_, refl, sym, ap}
 use mathlib.Core.Logic.{_↔_}
-use mathlib.Core.Bool.{Bool, true, false, _&&_, false≢true}
+use mathlib.Core.Bool.{Bool, true, false, _&&_}
 use mathlib.Core.List.{List, [], _∷_}
 use native.Mathlib.Omega.{arith}
 use lib.Dec.{T, ltb, ltb→lt}
 use lib.ListN.{length, replicate, length-replicate}
 use Rattle.rows.specs.Rows.{count}
-use Rattle.rows.specs.Lists.{listed, Ascending}
+use Rattle.rows.specs.Lists.{Ascending}
 use Rattle.rows.specs.Laid.{wordsFor}
 use Rattle.rows.specs.Table.{Met}
 use Rattle.rows.proofs.RowLaws.{count-le-length}
-use Rattle.rows.proofs.WordsLaws.{view-length}
+use Rattle.rows.proofs.WordsLaws.{view-length, wordsOf-bits}
+use Rattle.rows.proofs.FitLaws.{all-fit}
+use Rattle.rows.proofs.LaidLaws.{wordsOf-length}
 use Rattle.rows.proofs.ListLaws.{tab-length, listed-count}
 use Rattle.rules.specs.declared.Form.{Form}
 use Rattle.rules.specs.declared.Form.the-variants.{All, None, Words, List as Listed}
-use Rattle.rules.specs.Operand.{rowsOf, lengthOf, countOf, isList, limit, climbs, lastBelow, operandChecks, Accepted}
+use Rattle.rules.specs.Operand.{Operand, inWords, rowsBy, rowsOf, lengthOf, countBy, countOf, limit, climbs, lastBelow, checksBy, operandChecks, Accepted}
 
 -- ---- a list that climbs below the length
 
@@ -39,11 +42,14 @@ ascending len (e ∷ es) c l = ascends 0 len e es (omega arith) c l
 
 -- ---- the needs do not depend on which operand it is
 
-pub accepted-as : (k : ℕ) (f : Form) (ws es : List ℕ) → Met (operandChecks k f ws es) ↔ Accepted f ws es
-accepted-as k (All n) ws es = (λ m. m, λ m. m)
-accepted-as k (None n) ws es = (λ m. m, λ m. m)
-accepted-as k (Words start len claimed) ws es = (λ m. m, λ m. m)
-accepted-as k (Listed len) ws es = (λ m. m, λ m. m)
+pub accepted-as : (k : ℕ) (o : Operand) → Met (operandChecks k o) ↔ Accepted o
+accepted-as k o = by (o .form)
+  where
+    by : (f : Form) → Met (checksBy f k o) ↔ Met (checksBy f 0 o)
+    by (All n) = (λ m. m, λ m. m)
+    by (None n) = (λ m. m, λ m. m)
+    by (Words start len claimed) = (λ m. m, λ m. m)
+    by (Listed len) = (λ m. m, λ m. m)
 
 -- ---- what acceptance gives
 
@@ -55,46 +61,49 @@ count-false : (n : ℕ) → count (replicate n false) ≡ 0
 count-false zero = refl
 count-false (suc n) = count-false n
 
-pub accepted-limit : (f : Form) (ws es : List ℕ) → Accepted f ws es → lengthOf f ≤ limit
-accepted-limit (All n) ws es m = m .0
-accepted-limit (None n) ws es m = m .0
-accepted-limit (Words start len claimed) ws es m = m .0
-accepted-limit (Listed len) ws es m = m .0
-
-pub accepted-list : (f : Form) (ws es : List ℕ) → isList f ≡ true → Accepted f ws es → Ascending 0 (lengthOf f) es
-accepted-list (All n) ws es e m = absurd (false≢true e)
-accepted-list (None n) ws es e m = absurd (false≢true e)
-accepted-list (Words start len claimed) ws es e m = absurd (false≢true e)
-accepted-list (Listed len) ws es e m = ascending len es (m .1 .0) (m .1 .1 .0)
-
-pub list-rows : (f : Form) (ws es : List ℕ) → isList f ≡ true → rowsOf f ws es ≡ listed (lengthOf f) es
-list-rows (All n) ws es e = absurd (false≢true e)
-list-rows (None n) ws es e = absurd (false≢true e)
-list-rows (Words start len claimed) ws es e = absurd (false≢true e)
-list-rows (Listed len) ws es e = refl
-
-pub list-count : (f : Form) (es : List ℕ) → isList f ≡ true → countOf f es ≡ length es
-list-count (All n) es e = absurd (false≢true e)
-list-count (None n) es e = absurd (false≢true e)
-list-count (Words start len claimed) es e = absurd (false≢true e)
-list-count (Listed len) es e = refl
+pub accepted-limit : (o : Operand) → Accepted o → lengthOf (o .form) ≤ limit
+accepted-limit o = by (o .form)
+  where
+    by : (f : Form) → Met (checksBy f 0 o) → lengthOf f ≤ limit
+    by (All n) m = m .0
+    by (None n) m = m .0
+    by (Words start len claimed) m = m .0
+    by (Listed len) m = m .0
 
 -- `search` finds the need where it stands, so that the order is the theorem's alone to say
-pub words-reach : (start len claimed : ℕ) (ws es : List ℕ) → Accepted (Words start len claimed) ws es → wordsFor (start + len) ≤ length ws
-words-reach start len claimed ws es m = search
+pub words-reach : (start len claimed : ℕ) (o : Operand) → Met (checksBy (Words start len claimed) 0 o) → wordsFor (start + len) ≤ length (o .words)
+words-reach start len claimed o m = search
 
-pub accepted-length : (f : Form) (ws es : List ℕ) → Accepted f ws es → length (rowsOf f ws es) ≡ lengthOf f
-accepted-length (All n) ws es m = length-replicate n true
-accepted-length (None n) ws es m = length-replicate n false
-accepted-length (Words start len claimed) ws es m = view-length start len ws (omega (arith, words-reach start len claimed ws es m))
-accepted-length (Listed len) ws es m = tab-length 0 len _
+pub accepted-length : (o : Operand) → Accepted o → length (rowsOf o) ≡ lengthOf (o .form)
+accepted-length o = by (o .form)
+  where
+    by : (f : Form) → Met (checksBy f 0 o) → length (rowsBy f o) ≡ lengthOf f
+    by (All n) m = length-replicate n true
+    by (None n) m = length-replicate n false
+    by (Words start len claimed) m = view-length start len (o .words) (omega (arith, words-reach start len claimed o m))
+    by (Listed len) m = tab-length 0 len _
 
-pub accepted-count : (f : Form) (ws es : List ℕ) → Accepted f ws es → count (rowsOf f ws es) ≡ countOf f es
-accepted-count (All n) ws es m = count-true n
-accepted-count (None n) ws es m = count-false n
-accepted-count (Words start len claimed) ws es m = sym (search)
-accepted-count (Listed len) ws es m = listed-count len es (ascending len es (m .1 .0) (m .1 .1 .0))
+pub accepted-count : (o : Operand) → Accepted o → count (rowsOf o) ≡ countOf o
+accepted-count o = by (o .form)
+  where
+    by : (f : Form) → Met (checksBy f 0 o) → count (rowsBy f o) ≡ countBy f (o .numbers)
+    by (All n) m = count-true n
+    by (None n) m = count-false n
+    by (Words start len claimed) m = sym (search)
+    by (Listed len) m = listed-count len (o .numbers) (ascending len (o .numbers) (m .1 .0) (m .1 .1 .0))
 
 -- its count is no more than its length, and so within the limit
-pub accepted-few : (f : Form) (ws es : List ℕ) → Accepted f ws es → countOf f es ≤ limit
-accepted-few f ws es m = omega (arith, count-le-length (rowsOf f ws es), accepted-length f ws es m, accepted-count f ws es m, accepted-limit f ws es m)
+pub accepted-few : (o : Operand) → Accepted o → countOf o ≤ limit
+accepted-few o m = omega (arith, count-le-length (rowsOf o), accepted-length o m, accepted-count o m, accepted-limit o m)
+
+-- ---- rows in words of their own
+
+pub in-words-rows : (s : List Bool) → rowsOf (inWords s) ≡ s
+in-words-rows s = rw (wordsOf-bits 64 (wordsFor (length s)) s) (all-fit (wordsFor (length s) * 64) s (omega arith))
+
+pub in-words-accepted : (s : List Bool) → length s ≤ limit → Accepted (inWords s)
+in-words-accepted s h =
+    let first : 0 ≤ 63 = omega arith in
+    let reach : wordsFor (0 + length s) ≤ length (inWords s .words) = omega (arith, wordsOf-length 64 (wordsFor (length s)) s, zero-add (length s)) in
+    let counted : count s ≡ count (rowsOf (inWords s)) = ap count (sym (in-words-rows s)) in
+    (search, (search, (search, (search, tt))))

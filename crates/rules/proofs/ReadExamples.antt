@@ -7,7 +7,7 @@ use mathlib.Core.List.{List, [], _∷_}
 use native.Mathlib.Decide.{decLe}
 use Rattle.rows.specs.Word.{bitsOf, wordOf}
 use Rattle.rows.specs.Table.{first, refusal, noRefusal}
-use Rattle.rows.specs.WordAnswer.{rankRead}
+use Rattle.rows.specs.WordAnswer.{readAnswer, rankRead}
 
 -- words, start, offset, and the answer
 pub data Case : Type 0 where
@@ -15,8 +15,8 @@ pub data Case : Type 0 where
   refuses : (words : List ℕ) (start offset : ℕ) → Case
 
 abbrev pub Holds : Case → Type 0
-Holds (reads ws s o w) = rankRead ws s o ≡ record { refusal = noRefusal; word = w }
-Holds (refuses ws s o) = rankRead ws s o ≡ record { refusal = refusal 2 0; word = 0 }
+Holds (reads ws s o w) = rankRead ws s o ≡ readAnswer noRefusal w
+Holds (refuses ws s o) = rankRead ws s o ≡ readAnswer (refusal 2 0) 0
 
 abbrev pub Every : List Case → Type 0
 Every [] = Unit {0}

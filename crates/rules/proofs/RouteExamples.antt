@@ -4,37 +4,37 @@
 use Prim.Native.Nat.{ℕ}
 use mathlib.Core.Path.{_≡_, refl}
 use mathlib.Core.List.{List, [], _∷_}
-use Rattle.rules.specs.declared.Form.{Form}
 use Rattle.rules.specs.declared.Form.the-variants.{All, None, Words, List as Listed}
+use Rattle.rules.specs.Operand.{Operand, lent}
 use Rattle.rules.specs.Route.{routeOf, numberOf, published}
 
--- self with its lent rows, the rank mask with its lent rows, and the route
+-- self, the rank mask, and the route. No words are lent: they decide no route (`route-by-numbers`)
 pub data Line : Type 0 where
-  takes : (s : Form) (ses : List ℕ) (r : Form) (res : List ℕ) (number : ℕ) → Line
+  takes : (s r : Operand) (number : ℕ) → Line
 
 abbrev pub Lines : List Line → Type 0
 Lines [] = Unit {0}
-Lines (takes s ses r res n ∷ ls) = (numberOf (routeOf published s ses r res) ≡ n) × Lines ls
+Lines (takes s r n ∷ ls) = (numberOf (routeOf published s r) ≡ n) × Lines ls
 
 abbrev pub table : List Line
 table =
-    takes (All 3) [] (None 3) [] 1
-    ∷ takes (Words 0 3 3) [] (All 3) [] 1
-    ∷ takes (Words 0 5 2) [] (All 2) [] 2
-    ∷ takes (Listed 5) (0 ∷ 4 ∷ []) (Listed 2) (0 ∷ 1 ∷ []) 2
-    ∷ takes (All 0) [] (All 0) [] 3
-    ∷ takes (None 4) [] (All 0) [] 3
-    ∷ takes (Words 0 5 2) [] (None 2) [] 3
-    ∷ takes (Listed 9) (1 ∷ 4 ∷ []) (Words 0 2 0) [] 3
-    ∷ takes (Listed 9) (1 ∷ 4 ∷ []) (Listed 2) (1 ∷ []) 4
-    ∷ takes (Listed 9) (1 ∷ 4 ∷ []) (Words 0 2 1) [] 5
-    ∷ takes (Words 0 200 97) [] (Words 0 97 3) [] 6
-    ∷ takes (Words 0 200 97) [] (Listed 97) (0 ∷ 1 ∷ 2 ∷ []) 6
-    ∷ takes (Words 0 200 96) [] (Words 0 96 3) [] 9
-    ∷ takes (Words 0 32 2) [] (Listed 2) (1 ∷ []) 7
-    ∷ takes (Words 0 33 2) [] (Listed 2) (1 ∷ []) 8
-    ∷ takes (Words 0 32 2) [] (Words 0 2 1) [] 9
-    ∷ takes (Words 0 33 2) [] (Words 0 2 1) [] 10
+    takes (lent (All 3) [] []) (lent (None 3) [] []) 1
+    ∷ takes (lent (Words 0 3 3) [] []) (lent (All 3) [] []) 1
+    ∷ takes (lent (Words 0 5 2) [] []) (lent (All 2) [] []) 2
+    ∷ takes (lent (Listed 5) [] (0 ∷ 4 ∷ [])) (lent (Listed 2) [] (0 ∷ 1 ∷ [])) 2
+    ∷ takes (lent (All 0) [] []) (lent (All 0) [] []) 3
+    ∷ takes (lent (None 4) [] []) (lent (All 0) [] []) 3
+    ∷ takes (lent (Words 0 5 2) [] []) (lent (None 2) [] []) 3
+    ∷ takes (lent (Listed 9) [] (1 ∷ 4 ∷ [])) (lent (Words 0 2 0) [] []) 3
+    ∷ takes (lent (Listed 9) [] (1 ∷ 4 ∷ [])) (lent (Listed 2) [] (1 ∷ [])) 4
+    ∷ takes (lent (Listed 9) [] (1 ∷ 4 ∷ [])) (lent (Words 0 2 1) [] []) 5
+    ∷ takes (lent (Words 0 200 97) [] []) (lent (Words 0 97 3) [] []) 6
+    ∷ takes (lent (Words 0 200 97) [] []) (lent (Listed 97) [] (0 ∷ 1 ∷ 2 ∷ [])) 6
+    ∷ takes (lent (Words 0 200 96) [] []) (lent (Words 0 96 3) [] []) 9
+    ∷ takes (lent (Words 0 32 2) [] []) (lent (Listed 2) [] (1 ∷ [])) 7
+    ∷ takes (lent (Words 0 33 2) [] []) (lent (Listed 2) [] (1 ∷ [])) 8
+    ∷ takes (lent (Words 0 32 2) [] []) (lent (Words 0 2 1) [] []) 9
+    ∷ takes (lent (Words 0 33 2) [] []) (lent (Words 0 2 1) [] []) 10
     ∷ []
 
 pub routes : Lines table

@@ -9,7 +9,7 @@ use Rattle.rows.specs.Rows.{count}
 use Rattle.rows.specs.Word.{bitsOf, wordOf}
 use Rattle.rows.specs.Pdep.{pdepLoop, pdep}
 use Rattle.rows.specs.Table.{first, refusal, noRefusal}
-use Rattle.rows.specs.WordAnswer.{deposited, selected}
+use Rattle.rows.specs.WordAnswer.{depositAnswer, selectAnswer, deposited, selected}
 use Rattle.rows.proofs.RowLaws.{compose-empty, compose-full}
 use Rattle.rows.proofs.WordLaws.{wordOf-bitsOf}
 use Rattle.rows.proofs.PdepLaws.{pdep-is}
@@ -24,10 +24,10 @@ pub data Case : Type 0 where
   refuses : (word rank : ℕ) → Case
 
 abbrev pub Holds : Case → Type 0
-Holds (deposits s m w) = deposited s m (count (bitsOf 64 m)) ≡ record { refusal = noRefusal; word = w }
-Holds (takes m w) = (s : ℕ) → s < 2 ^ 64 → deposited s m (count (bitsOf 64 m)) ≡ record { refusal = noRefusal; word = w s }
-Holds (selects n r p) = selected n r ≡ record { refusal = noRefusal; position = p }
-Holds (refuses n r) = selected n r ≡ record { refusal = refusal 9 0; position = 0 }
+Holds (deposits s m w) = deposited s m (count (bitsOf 64 m)) ≡ depositAnswer noRefusal w
+Holds (takes m w) = (s : ℕ) → s < 2 ^ 64 → deposited s m (count (bitsOf 64 m)) ≡ depositAnswer noRefusal (w s)
+Holds (selects n r p) = selected n r ≡ selectAnswer noRefusal p
+Holds (refuses n r) = selected n r ≡ selectAnswer (refusal 9 0) 0
 
 abbrev pub Every : List Case → Type 0
 Every [] = Unit {0}
@@ -49,7 +49,7 @@ cases =
 
 -- what a mask makes of every source, where that is what the published PDEP does
 taken : (m : ℕ) (w : ℕ → ℕ) → ((s : ℕ) → s < 2 ^ 64 → pdep 64 s m ≡ w s) → Holds (takes m w)
-taken m w law s h = deposit-answers s m (count (bitsOf 64 m)) refl ∙ ap (λ (n : ℕ). record { refusal = noRefusal; word = n }) (law s h)
+taken m w law s h = deposit-answers s m (count (bitsOf 64 m)) refl ∙ ap (λ (n : ℕ). depositAnswer noRefusal n) (law s h)
 
 none : Holds (takes 0 (λ s. 0))
 unfolding bitsOf wordOf

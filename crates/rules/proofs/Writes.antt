@@ -17,16 +17,15 @@ use Rattle.rows.specs.Laid.{wordsFor, written}
 use Rattle.rows.specs.Table.{noRefusal, ifFine}
 use Rattle.rows.proofs.WrittenLaws.{written-rows, written-tail, written-later}
 use Rattle.rules.specs.declared.Answer.{Answer}
-use Rattle.rules.specs.declared.Form.{Form}
-use Rattle.rules.specs.Operand.{rowsOf}
+use Rattle.rules.specs.Operand.{Operand, rowsOf}
 use Rattle.rules.specs.Answer.{answered, densityOf}
 
 abbrev pub bitAt : List ℕ → ℕ → Bool
 bitAt ws i = getD (bitsOfAll 64 ws) i false
 
 -- row i of an operand
-abbrev pub row : Form → List ℕ → List ℕ → ℕ → Bool
-row f ws es i = getD (rowsOf f ws es) i false
+abbrev pub row : Operand → ℕ → Bool
+row o i = getD (rowsOf o) i false
 
 -- accepted by a route, with n rows that are as said, their own count and density
 pub record Writes (n : ℕ) (rowAt : ℕ → Bool) (by : ℕ) (answer : Answer) (left out : List ℕ) : Type 0 where

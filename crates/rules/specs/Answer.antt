@@ -9,6 +9,7 @@ use mathlib.Core.List.{List}
 use lib.IntN.{pos}
 use lib.Ieee.{Float, fin, binary64, round}
 use lib.ListN.{length}
+use Rattle.rows.specs.declared.Refusal.{Refusal}
 use Rattle.rows.specs.declared.Verdict.{Verdict}
 use Rattle.rows.specs.declared.Verdict.the-variants.{Fine, Refused}
 use Rattle.rows.specs.Rows.{count}
@@ -27,7 +28,20 @@ densityOf n len = choose (ℕ-discrete len 0) noDensity (round binary64 false n 
 abbrev pub noRoute : ℕ
 noRoute = 0
 
--- the answer whose result is these rows, by this route
+-- ---- an answer is made here and nowhere else
+
+abbrev pub answer : Refusal → ℕ → ℕ → Float → Answer
+answer r n route density = record { refusal = r; summary = record { count = n; route = route; density = density } }
+
+-- accepted: n set rows among len, by this route
+abbrev pub accepted : ℕ → ℕ → ℕ → Answer
+accepted n route len = answer noRefusal n route (densityOf n len)
+
+-- refused: count 0, route 0 and density 0.0
+abbrev pub refused : Refusal → Answer
+refused r = answer r 0 0 noDensity
+
+-- by the verdict, of a result that is these rows, by this route
 abbrev pub answered : Verdict → List Bool → ℕ → Answer
-answered Fine rows route = record { refusal = noRefusal; summary = record { count = count rows; route = route; density = densityOf (count rows) (length rows) } }
-answered (Refused r) rows route = record { refusal = r; summary = record { count = 0; route = 0; density = noDensity } }
+answered Fine rows route = accepted (count rows) route (length rows)
+answered (Refused r) rows route = refused r

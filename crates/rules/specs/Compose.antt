@@ -13,37 +13,39 @@ use Rattle.rows.specs.Rows.{compose}
 use Rattle.rows.specs.Laid.{wordsFor, written}
 use Rattle.rows.specs.Table.{Line, need, first, inOrder, ifFine}
 use Rattle.rules.specs.declared.Answer.{Answer}
-use Rattle.rules.specs.declared.Form.{Form}
 use Rattle.rules.specs.declared.Factors.{Factors}
-use Rattle.rules.specs.Operand.{rowsOf, lengthOf, countOf, operandChecks, Accepted}
+use Rattle.rules.specs.Operand.{Operand, rowsOf, lengthOf, countOf, operandChecks, Accepted}
 use Rattle.rules.specs.Answer.{answered}
 use Rattle.rules.specs.Route.{routeOf, numberOf}
 
 -- both operands are accepted, and the rank mask is as long as self has set rows
-pub record Paired (s : Form) (sws ses : List ℕ) (r : Form) (rws res : List ℕ) : Type 0 where
-  pub self : Accepted s sws ses
-  pub rank : Accepted r rws res
-  pub ranks : lengthOf r ≡ countOf s ses
+pub record Paired (s r : Operand) : Type 0 where
+  pub self : Accepted s
+  pub rank : Accepted r
+  pub ranks : lengthOf (r .form) ≡ countOf s
 
 -- the checks of both operands: self's, then the rank mask's
-abbrev pub bothChecks : Form → List ℕ → List ℕ → Form → List ℕ → List ℕ → List Line
-bothChecks s sws ses r rws res = inOrder (operandChecks 1 s sws ses ∷ operandChecks 2 r rws res ∷ [])
+abbrev pub bothChecks : Operand → Operand → List Line
+bothChecks s r = inOrder (operandChecks 1 s ∷ operandChecks 2 r ∷ [])
 
 -- the checks, for an output of `room` words: the operands', then 7, the rank mask's length is not self's count, then 8, the output is
 -- shorter than the result
-abbrev pub composeChecks : Form → List ℕ → List ℕ → Form → List ℕ → List ℕ → ℕ → List Line
-composeChecks s sws ses r rws res room =
+abbrev pub composeChecks : Operand → Operand → ℕ → List Line
+composeChecks s r room =
     inOrder
-    (bothChecks s sws ses r rws res
-    ∷ (need (ℕ-discrete (lengthOf r) (countOf s ses)) 7 0 ∷ [])
-    ∷ (need (decLe (wordsFor (lengthOf s)) room) 8 0 ∷ [])
+    (bothChecks s r
+    ∷ (need (ℕ-discrete (lengthOf (r .form)) (countOf s)) 7 0 ∷ [])
+    ∷ (need (decLe (wordsFor (lengthOf (s .form))) room) 8 0 ∷ [])
     ∷ [])
 
-abbrev pub result : Form → List ℕ → List ℕ → Form → List ℕ → List ℕ → List Bool
-result s sws ses r rws res = compose (rowsOf s sws ses) (rowsOf r rws res)
+abbrev pub result : Operand → Operand → List Bool
+result s r = compose (rowsOf s) (rowsOf r)
 
-unfoldable pub composed : Factors → Form → List ℕ → List ℕ → Form → List ℕ → List ℕ → List ℕ → Answer
-composed k s sws ses r rws res out = answered (first (composeChecks s sws ses r rws res (length out))) (result s sws ses r rws res) (numberOf (routeOf k s ses r res))
+abbrev pub routed : Factors → Operand → Operand → ℕ
+routed k s r = numberOf (routeOf k s r)
 
-unfoldable pub composedOut : Form → List ℕ → List ℕ → Form → List ℕ → List ℕ → List ℕ → List ℕ
-composedOut s sws ses r rws res out = ifFine (first (composeChecks s sws ses r rws res (length out))) (written (lengthOf s) (result s sws ses r rws res) out) out
+unfoldable pub composed : Factors → Operand → Operand → List ℕ → Answer
+composed k s r out = answered (first (composeChecks s r (length out))) (result s r) (routed k s r)
+
+unfoldable pub composedOut : Operand → Operand → List ℕ → List ℕ
+composedOut s r out = ifFine (first (composeChecks s r (length out))) (written (lengthOf (s .form)) (result s r) out) out

@@ -6,30 +6,36 @@ use Prim.Native.Nat.{ℕ}
 use native.Mathlib.Decide.{decLe}
 use mathlib.Core.List.{List, [], _∷_, _++_}
 use lib.ListN.{length, drop}
+use Rattle.rows.specs.declared.Verdict.{Verdict}
 use Rattle.rows.specs.Lists.{setRows}
 use Rattle.rows.specs.Laid.{wordsFor, written}
-use Rattle.rows.specs.Table.{Line, need, first, ifFine}
+use Rattle.rows.specs.Table.{Line, need, first, inOrder, ifFine}
 use Rattle.rules.specs.declared.Answer.{Answer}
-use Rattle.rules.specs.declared.Form.{Form}
-use Rattle.rules.specs.Operand.{rowsOf, lengthOf, countOf, operandChecks}
+use Rattle.rules.specs.Operand.{Operand, rowsOf, lengthOf, countOf, operandChecks}
 use Rattle.rules.specs.Answer.{answered, noRoute}
 
--- the output is shorter than the answer: 8
-abbrev pub toWordsChecks : Form → List ℕ → List ℕ → List ℕ → List Line
-toWordsChecks f ws es out = operandChecks 1 f ws es ++ need (decLe (wordsFor (lengthOf f)) (length out)) 8 0 ∷ []
+-- the operand's checks, then 8: the output has less room than is needed
+abbrev pub convertChecks : Operand → ℕ → ℕ → List Line
+convertChecks o needed room = inOrder (operandChecks 1 o ∷ (need (decLe needed room) 8 0 ∷ []) ∷ [])
 
-abbrev pub toListChecks : Form → List ℕ → List ℕ → List ℕ → List Line
-toListChecks f ws es out = operandChecks 1 f ws es ++ need (decLe (countOf f es) (length out)) 8 0 ∷ []
+-- ---- to words
 
-unfoldable pub toWords : Form → List ℕ → List ℕ → List ℕ → Answer
-toWords f ws es out = answered (first (toWordsChecks f ws es out)) (rowsOf f ws es) noRoute
+abbrev pub toWordsVerdict : Operand → List ℕ → Verdict
+toWordsVerdict o out = first (convertChecks o (wordsFor (lengthOf (o .form))) (length out))
 
-unfoldable pub toWordsOut : Form → List ℕ → List ℕ → List ℕ → List ℕ
-toWordsOut f ws es out = ifFine (first (toWordsChecks f ws es out)) (written (lengthOf f) (rowsOf f ws es) out) out
+unfoldable pub toWords : Operand → List ℕ → Answer
+toWords o out = answered (toWordsVerdict o out) (rowsOf o) noRoute
 
-unfoldable pub toList : Form → List ℕ → List ℕ → List ℕ → Answer
-toList f ws es out = answered (first (toListChecks f ws es out)) (rowsOf f ws es) noRoute
+unfoldable pub toWordsOut : Operand → List ℕ → List ℕ
+toWordsOut o out = ifFine (toWordsVerdict o out) (written (lengthOf (o .form)) (rowsOf o) out) out
 
--- later entries stay
-unfoldable pub toListOut : Form → List ℕ → List ℕ → List ℕ → List ℕ
-toListOut f ws es out = ifFine (first (toListChecks f ws es out)) (setRows 0 (rowsOf f ws es) ++ drop (countOf f es) out) out
+-- ---- to a list; later entries stay
+
+abbrev pub toListVerdict : Operand → List ℕ → Verdict
+toListVerdict o out = first (convertChecks o (countOf o) (length out))
+
+unfoldable pub toList : Operand → List ℕ → Answer
+toList o out = answered (toListVerdict o out) (rowsOf o) noRoute
+
+unfoldable pub toListOut : Operand → List ℕ → List ℕ
+toListOut o out = ifFine (toListVerdict o out) (setRows 0 (rowsOf o) ++ drop (countOf o) out) out

@@ -5,40 +5,35 @@ use Prim.Native.Nat.{ℕ, zero, suc, _+_}
 use mathlib.Core.Path.{_≡_}
 use mathlib.Core.Bool.{Bool}
 use mathlib.Core.List.{List, [], _∷_, _++_}
-use lib.ListN.{length, take, drop}
+use lib.ListN.{take, drop}
 use Rattle.rows.specs.Rows.{count}
-use Rattle.rows.specs.Words.{bitsOfAll, wordsOf}
-use Rattle.rows.specs.Laid.{wordsFor}
+use Rattle.rows.specs.Words.{bitsOfAll}
 use Rattle.rules.specs.declared.Answer.{Answer}
-use Rattle.rules.specs.declared.Form.the-variants.{Words}
-use Rattle.rules.specs.Operand.{lengthOf, rowsOf, Accepted}
+use Rattle.rules.specs.Operand.{Operand, lengthOf, rowsOf, inWords, Accepted}
 use Rattle.rules.specs.Route.{published}
 use Rattle.rules.specs.Compose.{composed, composedOut}
-use Rattle.rules.specs.Stream.{Operand, lent, Pair, pairOf, rows, long, stateOf, fresh, Run, run}
+use Rattle.rules.specs.Stream.{Pair, pairOf, long, stateOf, fresh, Run, run}
 
 -- the whole composed at once, as demand 2 has it: its answer, and the output as it is left
 abbrev pub once : Pair → List ℕ → Answer
-once p out = composed published (p .self .form) (p .self .words) (p .self .listed) (p .rank .form) (p .rank .words) (p .rank .listed) out
+once p out = composed published (p .self) (p .rank) out
 
 abbrev pub onceOut : Pair → List ℕ → List ℕ
-onceOut p out = composedOut (p .self .form) (p .self .words) (p .self .listed) (p .rank .form) (p .rank .words) (p .rank .listed) out
-
-abbrev pub WellFormed : Operand → Type 0
-WellFormed o = Accepted (o .form) (o .words) (o .listed)
+onceOut p out = composedOut (p .self) (p .rank) out
 
 -- pieces, each well formed, the rank mask's as long as self's has set rows: cut at the matching ranks
 abbrev pub Pieces : List Pair → Type 0
 Pieces [] = Unit {0}
-Pieces (p ∷ ps) = WellFormed (p .self) × WellFormed (p .rank) × (lengthOf (p .rank .form) ≡ count (rows (p .self))) × Pieces ps
+Pieces (p ∷ ps) = Accepted (p .self) × Accepted (p .rank) × (lengthOf (p .rank .form) ≡ count (rowsOf (p .self))) × Pieces ps
 
 -- the rows of one side of the pieces, joined; and a pair whose rows are the pieces' joined, in whatever form
 abbrev pub joined : (Pair → Operand) → List Pair → List Bool
 joined side [] = []
-joined side (p ∷ ps) = rows (side p) ++ joined side ps
+joined side (p ∷ ps) = rowsOf (side p) ++ joined side ps
 
 pub record Joins (whole : Pair) (ps : List Pair) : Type 0 where
-  pub selves : rows (whole .self) ≡ joined (λ p. p .self) ps
-  pub ranks : rows (whole .rank) ≡ joined (λ p. p .rank) ps
+  pub selves : rowsOf (whole .self) ≡ joined (λ p. p .self) ps
+  pub ranks : rowsOf (whole .rank) ≡ joined (λ p. p .rank) ps
 
 -- every feed is accepted; and of any feeds with their answers, the accepted ones, and the counts summed
 abbrev pub AllAccepted : List Answer → Type 0
@@ -65,7 +60,7 @@ pub record Whole (whole : Pair) (out : List ℕ) (t : Run) : Type 0 where
   pub rows : take (long whole) (bitsOfAll 64 (t .out)) ≡ take (long whole) (bitsOfAll 64 (onceOut whole out))
   pub others : drop (long whole) (bitsOfAll 64 (t .out)) ≡ drop (long whole) (bitsOfAll 64 out)
   pub counts : summed (t .answers) ≡ once whole out .summary .count
-  pub state : t .state ≡ stateOf (long whole) (count (rowsOf (whole .self .form) (whole .self .words) (whole .self .listed))) (once whole out .summary .count)
+  pub state : t .state ≡ stateOf (long whole) (count (rowsOf (whole .self))) (once whole out .summary .count)
 
 -- "Take a pair that demand 2 accepts. Cut self at any rows and the rank mask at the matching ranks, each piece well formed, in any
 -- form. From the fresh state .. every feed is accepted, and rows, summed counts and end state are demand 2's for the whole."
@@ -78,11 +73,8 @@ Forward =
 -- pieces": in any well formed operands that have their rows, and there are such, in words.
 abbrev pub Converse : Type 0
 Converse =
-    (whole : Pair) (out : List ℕ) (ps : List Pair) → WellFormed (whole .self) → WellFormed (whole .rank) → Joins whole (taken ps (run fresh out ps .answers))
+    (whole : Pair) (out : List ℕ) (ps : List Pair) → Accepted (whole .self) → Accepted (whole .rank) → Joins whole (taken ps (run fresh out ps .answers))
     → Whole whole out (run fresh out ps)
-
-abbrev pub inWords : List Bool → Operand
-inWords s = lent (Words 0 (length s) (count s)) (wordsOf 64 (wordsFor (length s)) s) []
 
 abbrev pub ConverseInWords : Type 0
 ConverseInWords =

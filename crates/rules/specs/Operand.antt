@@ -9,20 +9,27 @@ use mathlib.Core.List.{List, [], _∷_}
 use lib.ListN.{length, replicate}
 use lib.Dec.{ltb, eqb}
 use Rattle.rows.specs.Rows.{count}
-use Rattle.rows.specs.Words.{view}
+use Rattle.rows.specs.Words.{view, wordsOf}
 use Rattle.rows.specs.Lists.{listed}
 use Rattle.rows.specs.Laid.{wordsFor}
 use Rattle.rows.specs.Table.{Line, need, Met, decT}
 use Rattle.rules.specs.declared.Form.{Form}
 use Rattle.rules.specs.declared.Form.the-variants.{All, None, Words, List as Listed}
 
--- ---- what it means. `ws` and `es` are the lent words and the lent row numbers: a form ignores what it does not use
+-- ---- what it is. What depends on the form alone is a function of the form
 
-abbrev pub rowsOf : Form → List ℕ → List ℕ → List Bool
-rowsOf (All n) ws es = replicate n true
-rowsOf (None n) ws es = replicate n false
-rowsOf (Words start len claimed) ws es = view start len ws
-rowsOf (Listed len) ws es = listed len es
+-- an operand: its form, and the words and the row numbers that are lent beside it. A form ignores what it does not use
+pub record Operand : Type 0 where
+  pub form : Form
+  pub words : List ℕ
+  pub numbers : List ℕ
+
+abbrev pub lent : Form → List ℕ → List ℕ → Operand
+lent f ws es = record { form = f; words = ws; numbers = es }
+
+-- rows as an operand: in words from bit 0 on, with their own length and count
+abbrev pub inWords : List Bool → Operand
+inWords rows = lent (Words 0 (length rows) (count rows)) (wordsOf 64 (wordsFor (length rows)) rows) []
 
 abbrev pub lengthOf : Form → ℕ
 lengthOf (All n) = n
@@ -30,25 +37,39 @@ lengthOf (None n) = n
 lengthOf (Words start len claimed) = len
 lengthOf (Listed len) = len
 
--- the count that the form has: where the operand is accepted, the number of its set rows (`accepted-count`)
-abbrev pub countOf : Form → List ℕ → ℕ
-countOf (All n) es = n
-countOf (None n) es = 0
-countOf (Words start len claimed) es = claimed
-countOf (Listed len) es = length es
+-- it counts as a list: for the route, and a set operation takes none
+abbrev pub countsAsList : Form → Bool
+countsAsList (All n) = false
+countsAsList (None n) = false
+countsAsList (Words start len claimed) = false
+countsAsList (Listed len) = true
+
+-- its rows
+abbrev pub rowsBy : Form → Operand → List Bool
+rowsBy (All n) o = replicate n true
+rowsBy (None n) o = replicate n false
+rowsBy (Words start len claimed) o = view start len (o .words)
+rowsBy (Listed len) o = listed len (o .numbers)
+
+abbrev pub rowsOf : Operand → List Bool
+rowsOf o = rowsBy (o .form) o
+
+-- the count that it has: where it is accepted, the number of its set rows (`accepted-count`)
+abbrev pub countBy : Form → List ℕ → ℕ
+countBy (All n) es = n
+countBy (None n) es = 0
+countBy (Words start len claimed) es = claimed
+countBy (Listed len) es = length es
+
+abbrev pub countOf : Operand → ℕ
+countOf o = countBy (o .form) (o .numbers)
 
 -- empty if its count is 0; full if its length is above 0 and its count equals it
-abbrev pub empty : Form → List ℕ → Bool
-empty f es = eqb (countOf f es) 0
+abbrev pub empty : Operand → Bool
+empty o = eqb (countOf o) 0
 
-abbrev pub full : Form → List ℕ → Bool
-full f es = ltb 0 (lengthOf f) && eqb (countOf f es) (lengthOf f)
-
-abbrev pub isList : Form → Bool
-isList (All n) = false
-isList (None n) = false
-isList (Words start len claimed) = false
-isList (Listed len) = true
+abbrev pub full : Operand → Bool
+full o = ltb 0 (lengthOf (o .form)) && eqb (countOf o) (lengthOf (o .form))
 
 -- ---- its checks, as operand k
 
@@ -85,16 +106,19 @@ listChecks k len es =
     ∷ need (decT (lastBelow len es)) 6 k
     ∷ []
 
-abbrev pub operandChecks : ℕ → Form → List ℕ → List ℕ → List Line
-operandChecks k (All n) ws es = lengthChecks k n
-operandChecks k (None n) ws es = lengthChecks k n
-operandChecks k (Words start len claimed) ws es = wordsChecks k start len claimed ws
-operandChecks k (Listed len) ws es = listChecks k len es
+abbrev pub checksBy : Form → ℕ → Operand → List Line
+checksBy (All n) k o = lengthChecks k n
+checksBy (None n) k o = lengthChecks k n
+checksBy (Words start len claimed) k o = wordsChecks k start len claimed (o .words)
+checksBy (Listed len) k o = listChecks k len (o .numbers)
+
+abbrev pub operandChecks : ℕ → Operand → List Line
+operandChecks k o = checksBy (o .form) k o
 
 -- a set operation takes no list: 12, before all others
-abbrev pub setChecks : ℕ → Form → List ℕ → List ℕ → List Line
-setChecks k f ws es = need (decT (not (isList f))) 12 k ∷ operandChecks k f ws es
+abbrev pub setChecks : ℕ → Operand → List Line
+setChecks k o = need (decT (not (countsAsList (o .form)))) 12 k ∷ operandChecks k o
 
 -- every need is met
-abbrev pub Accepted : Form → List ℕ → List ℕ → Type 0
-Accepted f ws es = Met (operandChecks 0 f ws es)
+abbrev pub Accepted : Operand → Type 0
+Accepted o = Met (operandChecks 0 o)

@@ -3,29 +3,27 @@
 -- Assumes nothing.
 use Prim.Native.Nat.{ℕ, _*_}
 use mathlib.Core.Bool.{cond}
-use mathlib.Core.List.{List}
 use lib.Dec.{ltb}
 use Rattle.rows.specs.declared.Way.{Way}
 use Rattle.rows.specs.declared.Way.the-variants.{Network, Loop}
-use Rattle.rules.specs.declared.Form.{Form}
 use Rattle.rules.specs.declared.Factors.{Factors}
 use Rattle.rules.specs.declared.Route.{Route}
 use Rattle.rules.specs.declared.Route.the-variants.{RankMask, SelfMask, NoRows, EntryAtRank, EntryIfSet, MaskDriven, Gathered, Read}
-use Rattle.rules.specs.Operand.{lengthOf, countOf, empty, full, isList}
+use Rattle.rules.specs.Operand.{Operand, lengthOf, countOf, empty, full, countsAsList}
 
 -- the loop form where 16 x self count < self length
-abbrev pub wayOf : Factors → Form → List ℕ → Way
-wayOf k s ses = cond (ltb (k .sparse * countOf s ses) (lengthOf s)) Loop Network
+abbrev pub wayOf : Factors → Operand → Way
+wayOf k s = cond (ltb (k .sparse * countOf s) (lengthOf (s .form))) Loop Network
 
-unfoldable pub routeOf : Factors → Form → List ℕ → Form → List ℕ → Route
-routeOf k s ses r res =
-    cond (full s ses) RankMask
-    (cond (full r res) SelfMask
-    (cond (empty s ses) NoRows
-    (cond (empty r res) NoRows
-    (cond (isList s) (cond (isList r) EntryAtRank EntryIfSet)
-    (cond (ltb (k .driven * countOf r res) (lengthOf r)) MaskDriven
-    (cond (isList r) (Gathered (wayOf k s ses)) (Read (wayOf k s ses))))))))
+unfoldable pub routeOf : Factors → Operand → Operand → Route
+routeOf k s r =
+    cond (full s) RankMask
+    (cond (full r) SelfMask
+    (cond (empty s) NoRows
+    (cond (empty r) NoRows
+    (cond (countsAsList (s .form)) (cond (countsAsList (r .form)) EntryAtRank EntryIfSet)
+    (cond (ltb (k .driven * countOf r) (lengthOf (r .form))) MaskDriven
+    (cond (countsAsList (r .form)) (Gathered (wayOf k s)) (Read (wayOf k s))))))))
 
 abbrev pub numberOf : Route → ℕ
 numberOf RankMask = 1

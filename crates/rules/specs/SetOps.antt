@@ -11,10 +11,9 @@ use Rattle.rows.specs.Word.{both}
 use Rattle.rows.specs.Laid.{wordsFor, written}
 use Rattle.rows.specs.Table.{Line, need, first, inOrder, ifFine}
 use Rattle.rules.specs.declared.Answer.{Answer}
-use Rattle.rules.specs.declared.Form.{Form}
 use Rattle.rules.specs.declared.Operation.{Operation}
 use Rattle.rules.specs.declared.Operation.the-variants.{And, Or, AndNot, Not}
-use Rattle.rules.specs.Operand.{rowsOf, lengthOf, setChecks}
+use Rattle.rules.specs.Operand.{Operand, rowsOf, lengthOf, setChecks}
 use Rattle.rules.specs.Answer.{answered, noRoute}
 
 -- in the first only
@@ -30,34 +29,37 @@ rowOf Not = λ x y. not x
 
 -- ---- the checks, for an output of `room` words: each operand's, then 7, the lengths differ, then 8, the output is shorter than the answer
 
-abbrev pub pairChecks : Form → List ℕ → List ℕ → Form → List ℕ → List ℕ → ℕ → List Line
-pairChecks a aws aes b bws bes room =
+abbrev pub pairChecks : Operand → Operand → ℕ → List Line
+pairChecks a b room =
     inOrder
-    (setChecks 1 a aws aes
-    ∷ setChecks 2 b bws bes
-    ∷ (need (ℕ-discrete (lengthOf a) (lengthOf b)) 7 0 ∷ [])
-    ∷ (need (decLe (wordsFor (lengthOf a)) room) 8 0 ∷ [])
+    (setChecks 1 a
+    ∷ setChecks 2 b
+    ∷ (need (ℕ-discrete (lengthOf (a .form)) (lengthOf (b .form))) 7 0 ∷ [])
+    ∷ (need (decLe (wordsFor (lengthOf (a .form))) room) 8 0 ∷ [])
     ∷ [])
 
-abbrev pub notChecks : Form → List ℕ → List ℕ → ℕ → List Line
-notChecks a aws aes room =
+abbrev pub notChecks : Operand → ℕ → List Line
+notChecks a room =
     inOrder
-    (setChecks 1 a aws aes
-    ∷ (need (decLe (wordsFor (lengthOf a)) room) 8 0 ∷ [])
+    (setChecks 1 a
+    ∷ (need (decLe (wordsFor (lengthOf (a .form))) room) 8 0 ∷ [])
     ∷ [])
 
 -- ---- two operands, by g row by row
 
-unfoldable pub combined : (Bool → Bool → Bool) → Form → List ℕ → List ℕ → Form → List ℕ → List ℕ → List ℕ → Answer
-combined g a aws aes b bws bes out = answered (first (pairChecks a aws aes b bws bes (length out))) (both g (rowsOf a aws aes) (rowsOf b bws bes)) noRoute
+abbrev pub combination : (Bool → Bool → Bool) → Operand → Operand → List Bool
+combination g a b = both g (rowsOf a) (rowsOf b)
 
-unfoldable pub combinedOut : (Bool → Bool → Bool) → Form → List ℕ → List ℕ → Form → List ℕ → List ℕ → List ℕ → List ℕ
-combinedOut g a aws aes b bws bes out = ifFine (first (pairChecks a aws aes b bws bes (length out))) (written (lengthOf a) (both g (rowsOf a aws aes) (rowsOf b bws bes)) out) out
+unfoldable pub combined : (Bool → Bool → Bool) → Operand → Operand → List ℕ → Answer
+combined g a b out = answered (first (pairChecks a b (length out))) (combination g a b) noRoute
+
+unfoldable pub combinedOut : (Bool → Bool → Bool) → Operand → Operand → List ℕ → List ℕ
+combinedOut g a b out = ifFine (first (pairChecks a b (length out))) (written (lengthOf (a .form)) (combination g a b) out) out
 
 -- ---- not
 
-unfoldable pub negated : Form → List ℕ → List ℕ → List ℕ → Answer
-negated a aws aes out = answered (first (notChecks a aws aes (length out))) (map not (rowsOf a aws aes)) noRoute
+unfoldable pub negated : Operand → List ℕ → Answer
+negated a out = answered (first (notChecks a (length out))) (map not (rowsOf a)) noRoute
 
-unfoldable pub negatedOut : Form → List ℕ → List ℕ → List ℕ → List ℕ
-negatedOut a aws aes out = ifFine (first (notChecks a aws aes (length out))) (written (lengthOf a) (map not (rowsOf a aws aes)) out) out
+unfoldable pub negatedOut : Operand → List ℕ → List ℕ
+negatedOut a out = ifFine (first (notChecks a (length out))) (written (lengthOf (a .form)) (map not (rowsOf a)) out) out

@@ -11,22 +11,12 @@ use Rattle.rows.specs.Rows.{count}
 use Rattle.rows.specs.Laid.{wordsFor, laid}
 use Rattle.rows.specs.Table.{Line, need, first, inOrder, ifFine}
 use Rattle.rules.specs.declared.Answer.{Answer}
-use Rattle.rules.specs.declared.Form.{Form}
 use Rattle.rules.specs.declared.State.{State}
 use Rattle.rules.specs.declared.Fed.{Fed}
-use Rattle.rules.specs.Operand.{limit, rowsOf, lengthOf, countOf}
+use Rattle.rules.specs.Operand.{Operand, limit, rowsOf, lengthOf, countOf}
 use Rattle.rules.specs.Answer.{answered}
-use Rattle.rules.specs.Route.{routeOf, numberOf, published}
-use Rattle.rules.specs.Compose.{bothChecks, result}
-
--- an operand: its form, and the words and the row numbers that are lent beside it
-pub record Operand : Type 0 where
-  pub form : Form
-  pub words : List ℕ
-  pub listed : List ℕ
-
-abbrev pub lent : Form → List ℕ → List ℕ → Operand
-lent f ws es = record { form = f; words = ws; listed = es }
+use Rattle.rules.specs.Route.{published}
+use Rattle.rules.specs.Compose.{bothChecks, result, routed}
 
 -- a pair: self and the rank mask, whole or a piece of each
 pub record Pair : Type 0 where
@@ -36,18 +26,12 @@ pub record Pair : Type 0 where
 abbrev pub pairOf : Operand → Operand → Pair
 pairOf s r = record { self = s; rank = r }
 
--- the rows of an operand, the length of self, the rows of the composition, and its route
-abbrev pub rows : Operand → List Bool
-rows o = rowsOf (o .form) (o .words) (o .listed)
-
+-- the length of self, and the rows of the composition
 abbrev pub long : Pair → ℕ
 long p = lengthOf (p .self .form)
 
 abbrev pub kept : Pair → List Bool
-kept p = result (p .self .form) (p .self .words) (p .self .listed) (p .rank .form) (p .rank .words) (p .rank .listed)
-
-abbrev pub routed : Pair → ℕ
-routed p = numberOf (routeOf published (p .self .form) (p .self .listed) (p .rank .form) (p .rank .listed))
+kept p = result (p .self) (p .rank)
 
 -- ---- one feed
 
@@ -79,17 +63,17 @@ abbrev pub feedChecks : State → Pair → ℕ → List Line
 feedChecks st p room =
     inOrder
     (stateChecks st
-    ∷ bothChecks (p .self .form) (p .self .words) (p .self .listed) (p .rank .form) (p .rank .words) (p .rank .listed)
-    ∷ pieceChecks (lengthOf (p .rank .form)) (countOf (p .self .form) (p .self .listed)) (st .done .0 + long p) room
+    ∷ bothChecks (p .self) (p .rank)
+    ∷ pieceChecks (lengthOf (p .rank .form)) (countOf (p .self)) (st .done .0 + long p) room
     ∷ [])
 
 -- the state after the pair: its rows, their set rows and the result's are added
 abbrev pub moved : State → Pair → State
-moved st p = stateOf (st .done .0 + length (rows (p .self))) (st .ranks .0 + count (rows (p .self))) (st .kept + count (kept p))
+moved st p = stateOf (st .done .0 + length (rowsOf (p .self))) (st .ranks .0 + count (rowsOf (p .self))) (st .kept + count (kept p))
 
 -- by the verdict: the answer, the state handed back, and the output as it is left, its bits from done on and no other written
 abbrev pub fedBy : Verdict → State → Pair → Fed
-fedBy v st p = record { answer = answered v (kept p) (routed p); state = ifFine v (moved st p) st }
+fedBy v st p = record { answer = answered v (kept p) (routed published (p .self) (p .rank)); state = ifFine v (moved st p) st }
 
 abbrev pub outBy : Verdict → State → Pair → List ℕ → List ℕ
 outBy v st p out = ifFine v (laid (st .done .0) (kept p) out) out

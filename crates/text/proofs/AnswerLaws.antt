@@ -10,64 +10,58 @@ use mathlib.Core.Bool.{Bool, true, false, cond}
 use mathlib.Core.List.{List, [], _∷_, _++_}
 use native.Mathlib.Omega.{arith}
 use lib.Dec.{ltb}
-use lib.Ieee.{Float}
 use lib.ListN.{length, replicate, length-append, length-replicate}
 use borrow.Author.Tests.{ltb-false}
-use Rattle.rows.specs.declared.Verdict.the-variants.{Fine, Refused}
-use Rattle.rows.specs.declared.Refusal.{Refusal}
-use Rattle.rows.specs.declared.Way.the-variants.{Network, Loop}
+use Rattle.rows.specs.declared.Verdict.{Verdict}
+use Rattle.rows.specs.declared.Verdict.the-variants.{Fine}
 use Rattle.rows.specs.Rows.{count, compose}
 use Rattle.rows.specs.Laid.{wordsFor}
-use Rattle.rows.specs.Table.{refusal}
+use Rattle.rows.specs.Table.{refusal, first}
 use Rattle.rows.proofs.RowLaws.{compose-count}
-use Rattle.rows.proofs.LaidLaws.{wordsOf-length}
 use Rattle.rows.proofs.TableLaws.{chosen, passed-over}
-use Rattle.rules.specs.declared.Answer.{Answer}
-use Rattle.rules.specs.declared.Summary.{Summary}
-use Rattle.rules.specs.declared.Route.{Route}
-use Rattle.rules.specs.declared.Route.the-variants.{RankMask, SelfMask, NoRows, EntryAtRank, EntryIfSet, MaskDriven, Gathered, Read}
-use Rattle.rules.specs.Answer.{answered}
-use Rattle.rules.specs.Operand.{Accepted}
-use Rattle.rules.specs.Route.{published, routeOf, numberOf}
-use Rattle.rules.specs.Compose.{Paired}
-use Rattle.rules.proofs.Conversions.{Bare}
-use Rattle.rules.proofs.Compositions.{compose-fine, composed-refuses, composed-refused}
-use Rattle.intersect_by_rank.proofs.VerdictLaws.{compose-accepted}
-use Rattle.text.specs.Text.{digits, line, refusalKey, routeKey, countKey, bitsKey, decimalIn, decimal, lines, linesOf, formOf, wordsIn, answerTo}
+use Rattle.rules.specs.Operand.{inWords, Accepted}
+use Rattle.rules.specs.Answer.{refused, answered}
+use Rattle.rules.specs.Route.{published}
+use Rattle.rules.specs.Compose.{Paired, composeChecks, result, routed, composed}
+use Rattle.rules.proofs.OperandLaws.{in-words-rows, in-words-accepted}
+use Rattle.rules.proofs.AnswerLaws.{by-fine, refused-whole}
+use Rattle.rules.proofs.Compositions.{compose-fine, composed-refuses}
+use Rattle.text.specs.Text.{digits, line, refusalKey, routeKey, countKey, bitsKey, decimalIn, decimal, lines, linesOf, answerTo}
 use Rattle.text.proofs.SaidLaws.{digits-length}
-use Rattle.text.proofs.ToldLaws.{words-view}
 
 -- ---- the answer to two masks
 
--- a mask as words is accepted
-accepted : (rows : List Bool) → length rows ≤ 8192 → Accepted (formOf rows) (wordsIn rows) []
-accepted rows h = (omega arith, (omega arith, (omega (arith, wordsOf-length 64 (wordsFor (length rows)) rows), (sym (ap count (words-view rows)), tt))))
-
--- a refusal with nothing in its summary
-bare-answer : (a : Answer) (r : Refusal) → a .refusal ≡ r → Bare a → a ≡ answered (Refused r) [] 0
-bare-answer a r e bare =
-    ap₂ (λ (x : Refusal) (y : Summary). record { refusal = x; summary = y }) e
-    (ap₂ (λ (n m : ℕ). record { count = n; route = m; density = a .summary .density }) (bare .0) (bare .1) ∙ ap (λ (d : Float). record { count = 0; route = 0; density = d }) (bare .2))
-
 -- the number of the route that composition takes
 abbrev pub routeTaken : List Bool → List Bool → ℕ
-routeTaken self rank = numberOf (routeOf published (formOf self) [] (formOf rank) [])
+routeTaken self rank = routed published (inWords self) (inWords rank)
 
 module _ (self rank : List Bool) (self-short : length self ≤ 8192) (rank-short : length rank ≤ 8192) where
-  pub answer-paired : length rank ≡ count self → answerTo self rank ≡ answered Fine (compose self rank) (routeTaken self rank)
-  answer-paired e =
-      let out : List ℕ = replicate (wordsFor (length self)) 0 in
-      let paired : Paired (formOf self) (wordsIn self) [] (formOf rank) (wordsIn rank) [] = record { self = accepted self self-short; rank = accepted rank rank-short; ranks = e } in
-      let room = length-replicate {A = ℕ} (wordsFor (length self)) 0 in
-      let fine = compose-fine (formOf self) (wordsIn self) [] (formOf rank) (wordsIn rank) [] (length out) .1 (paired, omega arith) in
-      sym (compose-accepted (formOf self) (wordsIn self) [] (formOf rank) (wordsIn rank) [] published out fine .0)
-      ∙ ap₂ (λ (s r : List Bool). answered Fine (compose s r) (routeTaken self rank)) (words-view self) (words-view rank)
+  abbrev out : List ℕ
+  out = replicate (wordsFor (length self)) 0
 
-  pub answer-unpaired : length rank ≢ count self → answerTo self rank ≡ answered (Refused (refusal 7 0)) [] 0
+  abbrev verdict : Verdict
+  verdict = first (composeChecks (inWords self) (inWords rank) (length out))
+
+  self-accepted : Accepted (inWords self)
+  self-accepted = in-words-accepted self (omega arith)
+
+  rank-accepted : Accepted (inWords rank)
+  rank-accepted = in-words-accepted rank (omega arith)
+
+  pub answer-paired : length rank ≡ count self → answerTo self rank ≡ answered Fine (compose self rank) (routeTaken self rank)
+  unfolding composed
+  answer-paired e =
+      let paired : Paired (inWords self) (inWords rank) = record { self = self-accepted; rank = rank-accepted; ranks = e } in
+      let room = length-replicate {A = ℕ} (wordsFor (length self)) 0 in
+      let fine = compose-fine (inWords self) (inWords rank) (length out) .1 (paired, omega arith) in
+      sym (by-fine verdict (result (inWords self) (inWords rank)) (routeTaken self rank) out out fine .0)
+      ∙ ap₂ (λ (s r : List Bool). answered Fine (compose s r) (routeTaken self rank)) (in-words-rows self) (in-words-rows rank)
+
+  pub answer-unpaired : length rank ≢ count self → answerTo self rank ≡ refused (refusal 7 0)
+  unfolding composed
   answer-unpaired h =
-      let out : List ℕ = replicate (wordsFor (length self)) 0 in
-      let textOf = composed-refuses (formOf self) (wordsIn self) [] (formOf rank) (wordsIn rank) [] published out 7 0 (omega arith) .1 (inr (inl (refl, refl, accepted self self-short, accepted rank rank-short, h))) in
-      bare-answer (answerTo self rank) (refusal 7 0) textOf (composed-refused (formOf self) (wordsIn self) [] (formOf rank) (wordsIn rank) [] published out (λ z. omega (arith, ap (λ (r : Refusal). r .number) textOf)) .1)
+      let told = composed-refuses (inWords self) (inWords rank) published out (refusal 7 0) (omega arith) .1 (inr (inl (refl, self-accepted, rank-accepted, h))) in
+      refused-whole verdict (result (inWords self) (inWords rank)) (routeTaken self rank) (refusal 7 0) (omega arith) told
 
 -- ---- its lines
 
@@ -77,7 +71,7 @@ lines-paired self rank route e =
     ap (lines 0 route (count (compose self rank))) (chosen (ℕ-discrete 0 0) (compose self rank) [] refl)
     ∙ ap (λ (n : ℕ). lines 0 route n (compose self rank)) (compose-count self rank e)
 
-pub lines-refused : (n : ℕ) (rows : List Bool) → n ≢ 0 → linesOf (answered (Refused (refusal n 0)) [] 0) rows ≡ lines n 0 0 []
+pub lines-refused : (n : ℕ) (rows : List Bool) → n ≢ 0 → linesOf (refused (refusal n 0)) rows ≡ lines n 0 0 []
 unfolding linesOf
 lines-refused n rows h = ap (lines n 0 0) (passed-over (ℕ-discrete n 0) rows [] h)
 
@@ -123,15 +117,3 @@ lines-length n route count rows =
       line-length bitsKey (digits rows),
       digits-length rows,
     )
-
-pub route-small : (r : Route) → numberOf r ≤ 10
-route-small RankMask = omega arith
-route-small SelfMask = omega arith
-route-small NoRows = omega arith
-route-small EntryAtRank = omega arith
-route-small EntryIfSet = omega arith
-route-small MaskDriven = omega arith
-route-small (Gathered Network) = omega arith
-route-small (Gathered Loop) = omega arith
-route-small (Read Network) = omega arith
-route-small (Read Loop) = omega arith

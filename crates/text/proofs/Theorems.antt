@@ -11,20 +11,22 @@ use mathlib.Core.Option.{Option, none, some, Option·some-injective}
 use native.Mathlib.Omega.{arith}
 use lib.ListN.{length, take, length-take}
 use lib.Seq.{take-all}
-use Rattle.rows.specs.declared.Verdict.the-variants.{Fine, Refused}
+use Rattle.rows.specs.declared.Verdict.the-variants.{Fine}
 use Rattle.rows.specs.Rows.{count, compose}
 use Rattle.rows.specs.Table.{choose, refusal}
 use Rattle.rows.proofs.RowLaws.{compose-length, count-le-length}
 use Rattle.rows.proofs.TableLaws.{chosen, passed-over}
 use Rattle.rules.specs.declared.Answer.{Answer}
-use Rattle.rules.specs.Answer.{answered}
+use Rattle.rules.specs.Answer.{refused, answered}
 use Rattle.rules.specs.Route.{published, routeOf}
 use Rattle.text.specs.declared.Written.{Written}
-use Rattle.text.specs.Text.{ascii, says, WellFormed, selfIn, rankIn, decWell, parsed, decimalIn, decimal, lines, linesOf, formOf, answerTo, answerFor, textOf, withText, shorter, writtenFor}
+use Rattle.rules.specs.Operand.{inWords}
+use Rattle.rules.proofs.RouteLaws.{route-small}
+use Rattle.text.specs.Text.{ascii, says, WellFormed, selfIn, rankIn, decWell, parsed, decimalIn, decimal, lines, linesOf, answerTo, answerFor, textOf, withText, shorter, writtenFor}
 use Rattle.text.specs.Parts.{begins}
 use Rattle.text.proofs.SaidLaws.{self-said, rank-said, said-length}
 use Rattle.text.proofs.ToldLaws.{answer-parsed, text-parsed, answer-ill, text-ill}
-use Rattle.text.proofs.AnswerLaws.{routeTaken, answer-paired, answer-unpaired, lines-paired, lines-refused, decimal-short, lines-length, route-small}
+use Rattle.text.proofs.AnswerLaws.{routeTaken, answer-paired, answer-unpaired, lines-paired, lines-refused, decimal-short, lines-length}
 
 -- ---- which inputs are well formed
 
@@ -73,7 +75,7 @@ module _ (input : List ℕ) (self rank : List Bool) (w : WellFormed input self r
   paired-told e = well-formed-told ∙ ap (λ (a : Answer). linesOf a (compose self rank)) (answer-paired self rank (w .self-short) (w .rank-short) e) ∙ lines-paired self rank (routeTaken self rank) e
 
   -- and else 7
-  pub unpaired-answered : length rank ≢ count self → answerFor input ≡ answered (Refused (refusal 7 0)) [] 0
+  pub unpaired-answered : length rank ≢ count self → answerFor input ≡ refused (refusal 7 0)
   unpaired-answered h = well-formed-answered ∙ answer-unpaired self rank (w .self-short) (w .rank-short) h
 
   pub unpaired-told : length rank ≢ count self → textOf input ≡ lines 7 0 0 []
@@ -81,7 +83,7 @@ module _ (input : List ℕ) (self rank : List Bool) (w : WellFormed input self r
 
 -- anything else: 13
 module _ (input : List ℕ) (h : (self rank : List Bool) → ¬ WellFormed input self rank) where
-  pub ill-formed-answered : answerFor input ≡ answered (Refused (refusal 13 0)) [] 0
+  pub ill-formed-answered : answerFor input ≡ refused (refusal 13 0)
   ill-formed-answered = answer-ill input (h (selfIn input) (rankIn input))
 
   pub ill-formed-told : textOf input ≡ lines 13 0 0 []
@@ -124,7 +126,7 @@ only-these input = go (decWell input (selfIn input) (rankIn input)) (ℕ-discret
             ap length t,
             lines-length 0 (routeTaken self rank) (count rank) (compose self rank),
             one 0 (omega arith),
-            decimal-short 1 (routeTaken self rank) (omega (arith, route-small (routeOf published (formOf self) [] (formOf rank) []))),
+            decimal-short 1 (routeTaken self rank) (omega (arith, route-small (routeOf published (inWords self) (inWords rank)))),
             decimal-short 3 (count rank) (omega (arith, count-le-length rank, w .rank-short)),
             compose-length self rank,
             w .self-short,

@@ -1,7 +1,7 @@
 -- What the code tells is what the definition tells: the rows shown are the composition's, a mask's words say the mask, and what is
 -- found of an input decides its text. By the laws of composition and of whole words, and by the decision itself.
 -- Assumes nothing.
-use Prim.Native.Nat.{ℕ, zero, suc, _+_, _*_, _≤_, _<_}
+use Prim.Native.Nat.{ℕ, zero, suc, _+_, _≤_, _<_}
 use native.Mathlib.Nat.{zero-add, le-of-suc-le-suc}
 use native.Mathlib.Decide.{ℕ-discrete, decLe}
 use mathlib.Core.Path.{_≡_, refl, sym, ap, ap₂, _∙_}
@@ -11,77 +11,75 @@ use mathlib.Core.Option.{Option, none, some}
 use native.Mathlib.Omega.{arith}
 use lib.ListN.{length, take, drop, replicate}
 use lib.Seq.{take-at}
+use Rattle.rows.specs.declared.Verdict.the-variants.{Fine}
 use Rattle.rows.specs.Rows.{count, compose, splice}
 use Rattle.rows.specs.Words.{bitsOfAll, view, wordsOf}
 use Rattle.rows.specs.Laid.{wordsFor, written}
-use Rattle.rows.specs.Table.{choose}
-use Rattle.rows.proofs.WordsLaws.{wordsOf-bits}
-use Rattle.rows.proofs.FitLaws.{all-fit}
+use Rattle.rows.specs.Table.{choose, first}
 use Rattle.rows.proofs.LaidLaws.{wordsOf-length}
 use Rattle.rows.proofs.SpliceLaws.{splice-eq}
 use Rattle.rows.proofs.WrittenLaws.{written-rows}
 use Rattle.rows.proofs.TableLaws.{chosen, passed-over}
 use Rattle.rules.specs.declared.Answer.{Answer}
-use Rattle.rules.specs.declared.Form.{Form}
 use Rattle.rules.specs.declared.Form.the-variants.{Words}
+use Rattle.rules.specs.Operand.{Operand, lent, inWords}
 use Rattle.rules.specs.Route.{published, routeOf}
-use Rattle.rules.specs.Compose.{result, composed, composedOut}
+use Rattle.rules.specs.Compose.{composeChecks, result, composed, composedOut}
+use Rattle.rules.proofs.OperandLaws.{in-words-rows}
+use Rattle.rules.proofs.AnswerLaws.{by-fine}
 use Rattle.rules.proofs.ComposeLaws.{result-length}
 use Rattle.rules.proofs.Compositions.{compose-fine, composed-accepts}
-use Rattle.intersect_by_rank.proofs.VerdictLaws.{compose-accepted}
 use Rattle.text.specs.declared.find.Found.the-variants.{Masks, Malformed}
-use Rattle.text.specs.Text.{WellFormed, rowsIn, selfIn, rankIn, decWell, parsed, lines, linesOf, wordsIn, answerOf, resultOf, answerFor, textOf, withText, shorter, writtenFor, textOut}
-use Rattle.text.specs.Parts.{foundIn, answerWords, toldWords}
+use Rattle.text.specs.Text.{WellFormed, rowsIn, selfIn, rankIn, decWell, parsed, lines, linesOf, answerOf, resultOf, answerFor, textOf, withText, shorter, writtenFor, textOut}
+use Rattle.text.specs.Parts.{firstBits, foundIn, answerWords, toldWords}
 
 -- ---- the composition of words
 
--- words ignore the lent rows
+-- words ignore the row numbers that are lent
 module _ (s c r d : ℕ) (sws rws es fs out : List ℕ) where
-  pub rows-ignored : composed published (Words 0 s c) sws es (Words 0 r d) rws fs out ≡ composed published (Words 0 s c) sws [] (Words 0 r d) rws [] out
+  pub rows-ignored : composed published (lent (Words 0 s c) sws es) (lent (Words 0 r d) rws fs) out ≡ composed published (lent (Words 0 s c) sws []) (lent (Words 0 r d) rws []) out
   unfolding composed routeOf
   rows-ignored = refl
 
-  pub rows-ignored-out : composedOut (Words 0 s c) sws es (Words 0 r d) rws fs out ≡ composedOut (Words 0 s c) sws [] (Words 0 r d) rws [] out
+  pub rows-ignored-out : composedOut (lent (Words 0 s c) sws es) (lent (Words 0 r d) rws fs) out ≡ composedOut (lent (Words 0 s c) sws []) (lent (Words 0 r d) rws []) out
   unfolding composedOut
   rows-ignored-out = refl
 
 module _ (sws : List ℕ) (s : ℕ) (rws : List ℕ) (r : ℕ) (out : List ℕ) where
-  abbrev one : Form
-  one = Words 0 s (count (view 0 s sws))
+  abbrev one : Operand
+  one = firstBits sws s
 
-  abbrev two : Form
-  two = Words 0 r (count (view 0 r rws))
+  abbrev two : Operand
+  two = firstBits rws r
 
   abbrev after : List ℕ
-  after = composedOut one sws [] two rws [] out
+  after = composedOut one two out
 
-  shown-rows : (d : Dec (composed published one sws [] two rws [] out .refusal .number ≡ 0)) → choose d (view 0 s after) [] ≡ choose d (compose (view 0 s sws) (view 0 r rws)) []
+  written-out : first (composeChecks one two (length out)) ≡ Fine → written s (result one two) out ≡ after
+  unfolding composedOut
+  written-out e = by-fine (first (composeChecks one two (length out))) (result one two) 0 (written s (result one two) out) out e .1
+
+  shown-rows : (d : Dec (composed published one two out .refusal .number ≡ 0)) → choose d (view 0 s after) [] ≡ choose d (compose (view 0 s sws) (view 0 r rws)) []
   shown-rows (no h) = refl
   shown-rows (yes e) =
-      let t = composed-accepts one sws [] two rws [] published out .0 e in
-      let w = compose-accepted one sws [] two rws [] published out (compose-fine one sws [] two rws [] (length out) .1 t) .1 in
-      ap (λ (ws : List ℕ). take s (bitsOfAll 64 ws)) (sym w) ∙ written-rows s (result one sws [] two rws []) out (result-length one sws [] two rws [] (t .0))
+      let t = composed-accepts one two published out .0 e in
+      ap (λ (ws : List ℕ). take s (bitsOfAll 64 ws)) (sym (written-out (compose-fine one two (length out) .1 t))) ∙ written-rows s (result one two) out (result-length one two (t .0))
 
-  pub words-answered : (a : Answer) → a ≡ composed published one sws [] two rws [] out → a ≡ answerWords sws s rws r out
+  pub words-answered : (a : Answer) → a ≡ composed published one two out → a ≡ answerWords sws s rws r out
   unfolding answerWords
   words-answered a e = e
 
   -- the lines of the answer, with the rows that then stand in the output
-  pub words-told : (a : Answer) (ws : List ℕ) → a ≡ composed published one sws [] two rws [] out → ws ≡ after → linesOf a (view 0 s ws) ≡ toldWords sws s rws r out
+  pub words-told : (a : Answer) (ws : List ℕ) → a ≡ composed published one two out → ws ≡ after → linesOf a (view 0 s ws) ≡ toldWords sws s rws r out
   unfolding toldWords answerWords linesOf
   words-told a ws e w =
-      let x = composed published one sws [] two rws [] out in
+      let x = composed published one two out in
       ap₂ (λ (y : Answer) (l : List ℕ). linesOf y (view 0 s l)) e w
       ∙ ap (lines (x .refusal .number) (x .summary .route) (x .summary .count)) (shown-rows (ℕ-discrete (x .refusal .number) 0))
 
 -- ---- a mask's words
 
-pub words-view : (rows : List Bool) → view 0 (length rows) (wordsIn rows) ≡ rows
-words-view rows =
-    let k = wordsFor (length rows) in
-    ap (take (length rows)) (wordsOf-bits 64 k rows) ∙ all-fit (k * 64) rows (omega arith)
-
-pub words-front : (rows : List Bool) (n : ℕ) (out : List ℕ) → n ≡ length rows → take (wordsFor n) (written n rows out) ≡ wordsIn rows
+pub words-front : (rows : List Bool) (n : ℕ) (out : List ℕ) → n ≡ length rows → take (wordsFor n) (written n rows out) ≡ inWords rows .words
 words-front rows n out e =
     take-at (wordsOf 64 (wordsFor n) rows) (drop (wordsFor n) out) (wordsFor n) (wordsOf-length 64 (wordsFor n) rows) ∙ ap (λ (k : ℕ). wordsOf 64 (wordsFor k) rows) e
 
@@ -140,19 +138,19 @@ found-ill input e w = let p = sym (chosen (decWell input (selfIn input) (rankIn 
 -- two masks that were found, and whatever is made of them: their lengths are those found, and their words say them
 module _ (input : List ℕ) (s r : ℕ) (e : foundIn input ≡ Masks s r) where
   abbrev sws : List ℕ
-  sws = wordsIn (selfIn input)
+  sws = inWords (selfIn input) .words
 
   abbrev rws : List ℕ
-  rws = wordsIn (rankIn input)
+  rws = inWords (rankIn input) .words
 
   masks-said : {X : Type 0} (f : ℕ → ℕ → List Bool → List Bool → X) → f s r (view 0 s sws) (view 0 r rws) ≡ f (length (selfIn input)) (length (rankIn input)) (selfIn input) (rankIn input)
   masks-said f =
       let m = found-masks input s r e in
-      ap₂ (λ (k l : ℕ). f k l (view 0 k sws) (view 0 l rws)) (m .self-long) (m .rank-long) ∙ ap₂ (f (length (selfIn input)) (length (rankIn input))) (words-view (selfIn input)) (words-view (rankIn input))
+      ap₂ (λ (k l : ℕ). f k l (view 0 k sws) (view 0 l rws)) (m .self-long) (m .rank-long) ∙ ap₂ (f (length (selfIn input)) (length (rankIn input))) (in-words-rows (selfIn input)) (in-words-rows (rankIn input))
 
   -- the answer to rows beside the words that have them
   abbrev answerBy : ℕ → ℕ → List Bool → List Bool → Answer
-  answerBy k l self rank = composed published (Words 0 k (count self)) sws [] (Words 0 l (count rank)) rws [] (replicate (wordsFor k) 0)
+  answerBy k l self rank = composed published (lent (Words 0 k (count self)) sws []) (lent (Words 0 l (count rank)) rws []) (replicate (wordsFor k) 0)
 
   answers-masks : answerWords sws s rws r (replicate (wordsFor s) 0) ≡ answerFor input
   unfolding answerWords

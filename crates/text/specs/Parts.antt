@@ -10,6 +10,7 @@ use Rattle.rows.specs.Words.{view}
 use Rattle.rows.specs.Table.{choose}
 use Rattle.rules.specs.declared.Answer.{Answer}
 use Rattle.rules.specs.declared.Form.the-variants.{Words}
+use Rattle.rules.specs.Operand.{Operand, lent}
 use Rattle.rules.specs.Route.{published}
 use Rattle.rules.specs.Compose.{composed}
 use Rattle.text.specs.declared.find.Found.{Found}
@@ -26,9 +27,13 @@ begins (k ∷ key) (t ∷ text) = eqb t k && begins key text
 unfoldable pub foundIn : List ℕ → Found
 foundIn input = choose (decWell input (selfIn input) (rankIn input)) (Masks (length (selfIn input)) (length (rankIn input))) Malformed
 
+-- the first n bits of words as an operand
+abbrev pub firstBits : List ℕ → ℕ → Operand
+firstBits ws n = lent (Words 0 n (count (view 0 n ws))) ws []
+
 -- the answer to s rows in words and r rows in words, for an output of these words, and the text of its lines
 unfoldable pub answerWords : List ℕ → ℕ → List ℕ → ℕ → List ℕ → Answer
-answerWords sws s rws r out = composed published (Words 0 s (count (view 0 s sws))) sws [] (Words 0 r (count (view 0 r rws))) rws [] out
+answerWords sws s rws r out = composed published (firstBits sws s) (firstBits rws r) out
 
 unfoldable pub toldWords : List ℕ → ℕ → List ℕ → ℕ → List ℕ → List ℕ
 toldWords sws s rws r out = linesOf (answerWords sws s rws r out) (compose (view 0 s sws) (view 0 r rws))

@@ -11,15 +11,12 @@ use mathlib.Core.Option.{Option, none, some}
 use native.Mathlib.Omega.{arith}
 use lib.ListN.{length, drop, replicate}
 use lib.Dec.{eqb, ltb}
-use Rattle.rows.specs.declared.Verdict.the-variants.{Refused}
 use Rattle.rows.specs.Rows.{count, compose}
-use Rattle.rows.specs.Words.{wordsOf}
 use Rattle.rows.specs.Laid.{wordsFor}
 use Rattle.rows.specs.Table.{choose, refusal}
 use Rattle.rules.specs.declared.Answer.{Answer}
-use Rattle.rules.specs.declared.Form.{Form}
-use Rattle.rules.specs.declared.Form.the-variants.{Words}
-use Rattle.rules.specs.Answer.{answered}
+use Rattle.rules.specs.Operand.{inWords}
+use Rattle.rules.specs.Answer.{refused}
 use Rattle.rules.specs.Route.{published}
 use Rattle.rules.specs.Compose.{composed}
 use Rattle.text.specs.declared.Written.{Written}
@@ -134,20 +131,13 @@ lines refusal route count rows = line refusalKey (decimal refusal) ++ line route
 unfoldable pub linesOf : Answer → List Bool → List ℕ
 linesOf a rows = lines (a .refusal .number) (a .summary .route) (a .summary .count) (choose (ℕ-discrete (a .refusal .number) 0) rows [])
 
--- both go in as words
-abbrev pub formOf : List Bool → Form
-formOf rows = Words 0 (length rows) (count rows)
-
-abbrev pub wordsIn : List Bool → List ℕ
-wordsIn rows = wordsOf 64 (wordsFor (length rows)) rows
-
--- the composition's answer, for an output that is as long as the result
+-- the composition's answer: both go in as words, and the output is as long as the result
 abbrev pub answerTo : List Bool → List Bool → Answer
-answerTo self rank = composed published (formOf self) (wordsIn self) [] (formOf rank) (wordsIn rank) [] (replicate (wordsFor (length self)) 0)
+answerTo self rank = composed published (inWords self) (inWords rank) (replicate (wordsFor (length self)) 0)
 
 -- anything that is not well formed is 13
 abbrev pub answerOf : Option (List Bool × List Bool) → Answer
-answerOf none = answered (Refused (refusal 13 0)) [] 0
+answerOf none = refused (refusal 13 0)
 answerOf (some (self, rank)) = answerTo self rank
 
 abbrev pub resultOf : Option (List Bool × List Bool) → List Bool
@@ -167,7 +157,7 @@ abbrev pub withText : Answer → List ℕ → Written
 withText a text = record { answer = a; len = length text }
 
 abbrev pub shorter : Written
-shorter = withText (answered (Refused (refusal 8 0)) [] 0) []
+shorter = withText (refused (refusal 8 0)) []
 
 unfoldable pub writtenFor : List ℕ → ℕ → Written
 writtenFor input room = choose (decLe (length (textOf input)) room) (withText (answerFor input) (textOf input)) shorter

@@ -3,8 +3,8 @@ ghost use mathlib.Core.Path.{_≡_};
 ghost use lib.ListN.{length};
 ghost use denote.Ref.{now};
 ghost use Rattle.text.specs.Text.{writtenFor, textOut};
-use mask::inner::refused;
-use rows::Refusal;
+use mask::inner::answers::refused;
+use rows::inner::verdicts::refusal;
 use rules::Answer;
 
 mod find;
@@ -27,12 +27,8 @@ pub fn answer(input: &[u8], out: &mut [u8]) -> Written
     let told = tell::tell(input, &mut text);
     let len = told.len;
     if out.len() < len {
-        let refusal = Refusal {
-            number: 8,
-            operand: 0,
-        };
         return Written {
-            answer: refused(refusal),
+            answer: refused(refusal(8, 0)),
             len: 0,
         };
     }

@@ -17,8 +17,8 @@ use lent::inner::clear_last;
 use lent::inner::count_view;
 use lent::inner::put;
 use lent::inner::words_for;
-use mask::inner::refused;
-use rows::Refusal;
+use mask::inner::answers::refused;
+use rows::inner::verdicts::refusal;
 use rules::Form;
 
 // The n digits from index at on as words, row 0 in bit 0.
@@ -103,11 +103,7 @@ pub fn tell(input: &[u8], out: &mut [u8]) -> Written
     match find(input) {
         Found::Malformed => {
             let none = [0u64; 1];
-            let refusal = Refusal {
-                number: 13,
-                operand: 0,
-            };
-            put_answer(refused(refusal), &none, 0, out)
+            put_answer(refused(refusal(13, 0)), &none, 0, out)
         }
         Found::Masks { s, r } => tell_masks(input, s, r, out),
     }

@@ -1,14 +1,21 @@
-// What the kernels call of the word layer: the two ways to deposit, which ask that the count is the mask's, and select.
+// What our own crates call of the word layer: the two ways to deposit, which ask that the count is the mask's, deposit by either of them
+// with that checked, and select.
 ghost use mathlib.Core.Path.{_≡_};
 ghost use lib.Count.{ones};
 ghost use Rattle.rows.specs.Word.{bitsOf};
 ghost use Rattle.rows.specs.Lists.{select};
 ghost use Rattle.rows.specs.Pdep.{pdep};
+ghost use Rattle.rows.specs.WordAnswer.{deposited};
 use super::forms::deposit_two_holes;
 use super::forms::deposit_two_lowest;
 use super::network::deposit_bytewise;
 use super::num::if_odd;
 use super::num::lowest;
+use rows::Deposited;
+use rows::Way;
+use rows::inner::answers::deposit_answer;
+use rows::inner::verdicts::no_refusal;
+use rows::inner::verdicts::refusal;
 
 // The network choice: closed forms for at most two set bits or two clear bits, the byte network otherwise.
 pub fn deposit_portable(source: u64, mask: u64, count: u32) -> u64
@@ -39,6 +46,21 @@ pub fn deposit_portable_loop(source: u64, mask: u64, count: u32) -> u64
         m &= m - 1;
     }
     result
+}
+
+// Deposit by either way. The claimed count must be the mask's: refusal 4.
+pub fn deposit_by(way: Way, source: u64, mask: u64, claimed: u64) -> Deposited
+    ensures { λ r. ⌜ r ≡ deposited source mask claimed ⌝ }
+{
+    if claimed != u64::count_ones(mask) as u64 {
+        return deposit_answer(refusal(4, 0), 0);
+    }
+    let count = claimed as u32;
+    let none = no_refusal();
+    match way {
+        Way::Network => deposit_answer(none, deposit_portable(source, mask, count)),
+        Way::Loop => deposit_answer(none, deposit_portable_loop(source, mask, count)),
+    }
 }
 
 // The position of the set bit that has the rank, and 64 where there is none. Bytes are skipped by their counts; in the byte

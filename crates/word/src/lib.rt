@@ -2,8 +2,11 @@
 ghost use mathlib.Core.Path.{_≡_};
 ghost use Rattle.rows.specs.WordAnswer.{deposited, selected};
 use rows::Deposited;
-use rows::Refusal;
 use rows::Selected;
+use rows::Way;
+use rows::inner::answers::select_answer;
+use rows::inner::verdicts::no_refusal;
+use rows::inner::verdicts::refusal;
 
 mod forms;
 pub mod inner;
@@ -14,22 +17,7 @@ mod num;
 pub fn deposit(source: u64, mask: u64, claimed: u64) -> Deposited
     ensures { λ r. ⌜ r ≡ deposited source mask claimed ⌝ }
 {
-    if claimed != u64::count_ones(mask) as u64 {
-        return Deposited {
-            refusal: Refusal {
-                number: 4,
-                operand: 0,
-            },
-            word: 0,
-        };
-    }
-    Deposited {
-        refusal: Refusal {
-            number: 0,
-            operand: 0,
-        },
-        word: inner::deposit_portable(source, mask, claimed as u32),
-    }
+    inner::deposit_by(Way::Network, source, mask, claimed)
 }
 
 // The position of the set bit that has the rank, from 0. The rank must be below the word's set bits: refusal 9.
@@ -37,19 +25,8 @@ pub fn select(word: u64, rank: u64) -> Selected
     ensures { λ r. ⌜ r ≡ selected word rank ⌝ }
 {
     if rank >= u64::count_ones(word) as u64 {
-        return Selected {
-            refusal: Refusal {
-                number: 9,
-                operand: 0,
-            },
-            position: 0,
-        };
+        return select_answer(refusal(9, 0), 0);
     }
-    Selected {
-        refusal: Refusal {
-            number: 0,
-            operand: 0,
-        },
-        position: inner::select_bit_position(word, rank as u32) as u64,
-    }
+    let position = inner::select_bit_position(word, rank as u32) as u64;
+    select_answer(no_refusal(), position)
 }

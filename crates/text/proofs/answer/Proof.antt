@@ -9,6 +9,7 @@ use denote.Ref.{now}
 use borrow.Author.Needs.{needs}
 use Rattle.rows.specs.Rows.{splice}
 use Rattle.rules.specs.declared.Answer.{Answer}
+use Rattle.rules.specs.Answer.{refused}
 use Rattle.text.specs.declared.Written.{Written}
 use Rattle.text.specs.Text.{textOf, withText}
 use Rattle.text.proofs.ToldLaws.{no-room, room}
@@ -21,16 +22,20 @@ slice-aggregate-tell c = search needs
 tell-requires : tie.Need-tell-requires
 tell-requires c κs = search needs
 
+refusal-requires : tie.Need-refusal-requires
+refusal-requires c κs = search needs
+
 refused-requires : tie.Need-refused-requires
 refused-requires c κs = search needs
 
 returns : tie.Need-returns
 returns c =
-    let a = c .before .before .before .before .before .before .before .args in
-    let t = c .before .before .before .tell in
+    let told = c .before .before .before .before in
+    let a = told .before .before .before .before .args in
+    let t = told .tell in
     let len : t .result .len ≡ length (textOf (now (a .input))) = ap (λ (w : Written). w .len) (t .ensures .0) in
-    let n = no-room (now (a .input)) (now (a .out)) (omega (arith, len, c .before .if1 .taken)) in
-    (ap (λ (x : Answer). withText x []) (c .refused .ensures) ∙ sym (n .0), sym (n .1))
+    let n = no-room (now (a .input)) (now (a .out)) (omega (arith, len, c .before .before .if1 .taken)) in
+    (ap (λ (x : Answer). withText x []) (c .refused .ensures ∙ ap refused (c .before .refusal .ensures)) ∙ sym (n .0), sym (n .1))
 
 array-share-prefix-text : tie.Need-array-share-prefix-text
 array-share-prefix-text c = search needs
@@ -63,6 +68,7 @@ answer-spec =
     (tie.spec
     slice-aggregate-tell
     tell-requires
+    refusal-requires
     refused-requires
     returns
     array-share-prefix-text

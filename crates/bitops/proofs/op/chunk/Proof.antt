@@ -8,14 +8,20 @@ use lib.Bits.{bitAnd}
 use denote.Ref.{now}
 use Rattle.rows.specs.Word.{bitsOf, wordOf, both}
 use Rattle.rows.proofs.BothLaws.{both-part}
-use Rattle.rules.specs.Operand.{rowsOf}
+use Rattle.rules.specs.Operand.{Operand, lent, rowsOf}
 use Rattle.rules.specs.SetOps.{rowOf}
 use Rattle.mask.proofs.FlatLaws.{flat-length}
-use Rattle.mask.proofs.ChunkLaws.{chunk-bits}
+use Rattle.rows.proofs.ChunkLaws.{chunk-bits}
 use Rattle.bitops.proofs.OpLaws.{cut-word}
 use Rattle.bitops.proofs.op.chunk.Statement.{statement}
 use Rattle.bitops.proofs.op.chunk.Tie as tie
 use borrow.Author.Needs.{needs}
+
+abbrev first-operand : tie.Start → Operand
+first-operand s = lent (s .args .a) (now (s .args .awords)) []
+
+abbrev second-operand : tie.Start → Operand
+second-operand s = lent (s .args .b) (now (s .args .bwords)) []
 
 chunk-of-requires : tie.Need-chunk-of-requires
 chunk-of-requires c κs = search needs
@@ -35,14 +41,14 @@ returns c =
     let g = rowOf (s .args .op) in
     let n : ℕ = s .args .n in
     let row : ℕ = s .args .row in
-    let xs = rowsOf (s .args .a) (now (s .args .awords)) [] in
-    let ys = rowsOf (s .args .b) (now (s .args .bwords)) [] in
+    let xs = rowsOf (first-operand s) in
+    let ys = rowsOf (second-operand s) in
     let x : ℕ = c .before .before .before .chunk-of .result in
     let y : ℕ = c .before .before .chunk-of2 .result in
-    let ex = ap (bitsOf n) (c .before .before .before .chunk-of .ensures) ∙ chunk-bits row n xs (omega (arith, flat-length (s .args .a) (now (s .args .awords)) (s .pre .0), s .pre .5)) in
-    let ey = ap (bitsOf n) (c .before .before .chunk-of2 .ensures) ∙ chunk-bits row n ys (omega (arith, flat-length (s .args .b) (now (s .args .bwords)) (s .pre .1), s .pre .2, s .pre .5)) in
+    let ex = ap (bitsOf n) (c .before .before .before .chunk-of .ensures) ∙ chunk-bits row n xs (omega (arith, flat-length (first-operand s) (s .pre .0 .0), s .pre .2)) in
+    let ey = ap (bitsOf n) (c .before .before .chunk-of2 .ensures) ∙ chunk-bits row n ys (omega (arith, flat-length (second-operand s) (s .pre .0 .1), s .pre .0 .2, s .pre .2)) in
     ap₂ bitAnd (c .before .apply .ensures) (c .ones .ensures)
-    ∙ cut-word g 64 n x y (s .pre .4)
+    ∙ cut-word g 64 n x y (s .pre .1 .1)
     ∙ ap wordOf (ap₂ (both g) ex ey ∙ sym (both-part g row n xs ys))
 
 pub chunk-spec : {M : Type 1} → statement M

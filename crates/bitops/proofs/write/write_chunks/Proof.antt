@@ -10,11 +10,11 @@ use lib.ListN.{length, take}
 use lib.Seq.{take-all}
 use denote.Ref.{now}
 use Rattle.rows.specs.Rows.{count}
-use Rattle.rows.specs.Word.{bitsOf, both}
+use Rattle.rows.specs.Word.{bitsOf}
 use Rattle.rows.specs.Laid.{laid}
 use Rattle.rows.proofs.LaidLaws.{below-all, laid-nil, laid-length}
-use Rattle.rules.specs.Operand.{rowsOf, lengthOf}
-use Rattle.rules.specs.SetOps.{rowOf}
+use Rattle.rules.specs.Operand.{Operand, lent, lengthOf}
+use Rattle.rules.specs.SetOps.{combination, rowOf}
 use Rattle.mask.proofs.FlatLaws.{flat-limit}
 use Rattle.bitops.proofs.VerdictLaws.{result-length}
 use Rattle.bitops.proofs.WriteLaws.{turn-few, turn-count, turn-laid}
@@ -24,11 +24,17 @@ use borrow.Author.Needs.{needs}
 
 abbrev Inv-loop : tie.InvT-loop
 Inv-loop op a awords b bwords out₀ len sum₀ row₀ out sum row =
-    (row ≤ len) × (len ≡ lengthOf a) × (length out ≡ length out₀) × (sum ≤ row) × (sum ≡ count (take row (both (rowOf op) (rowsOf a awords []) (rowsOf b bwords []))))
-    × (out ≡ laid 0 (take row (both (rowOf op) (rowsOf a awords []) (rowsOf b bwords []))) out₀)
+    (row ≤ len) × (len ≡ lengthOf a) × (length out ≡ length out₀) × (sum ≤ row) × (sum ≡ count (take row (combination (rowOf op) (lent a awords []) (lent b bwords []))))
+    × (out ≡ laid 0 (take row (combination (rowOf op) (lent a awords []) (lent b bwords []))) out₀)
 
 abbrev μ-loop : tie.MeasureT-loop
 μ-loop op a awords b bwords out₀ len sum₀ row₀ out sum row = len - row
+
+abbrev first-operand : tie.Start Inv-loop μ-loop → Operand
+first-operand s = lent (s .args .a) (now (s .args .awords)) []
+
+abbrev second-operand : tie.Start Inv-loop μ-loop → Operand
+second-operand s = lent (s .args .b) (now (s .args .bwords)) []
 
 length-of-requires : tie.Need-length-of-requires Inv-loop μ-loop
 length-of-requires c κs = search needs
@@ -44,16 +50,16 @@ chunk-len-requires c κs = omega arith
 chunk-requires : tie.Need-chunk-requires Inv-loop μ-loop
 chunk-requires c κs =
     let s = c .before .before .before .before .before .before .before in
-    (s .pre .0, s .pre .1, s .pre .2, omega arith, omega arith, omega (arith, c .before .before .loop .inv .1))
+    (s .pre .0, (omega arith, omega arith), omega (arith, c .before .before .loop .inv .1))
 
 put-requires : tie.Need-put-requires Inv-loop μ-loop
-put-requires c κs = (omega arith, omega arith, omega (arith, c .before .before .before .before .loop .inv .1, c .before .before .before .before .loop .inv .2, c .before .before .before .before .before .before .before .before .before .pre .3))
+put-requires c κs = ((omega arith, omega arith), omega (arith, c .before .before .before .before .loop .inv .1, c .before .before .before .before .loop .inv .2, c .before .before .before .before .before .before .before .before .before .pre .1))
 
 cast-sum : tie.Need-cast-sum Inv-loop μ-loop
 cast-sum c =
     let s = c .before .before .before .before .before .before .before .before .before .before .before .before in
     let l = c .before .before .before .before .before .before .before .loop in
-    let rows = both (rowOf (s .args .op)) (rowsOf (s .args .a) (now (s .args .awords)) []) (rowsOf (s .args .b) (now (s .args .bwords)) []) in
+    let rows = combination (rowOf (s .args .op)) (first-operand s) (second-operand s) in
     let few = turn-few (l .row) (c .before .before .before .before .before .chunk-len .result) rows (c .before .before .before .before .chunk .result) (c .before .before .before .before .chunk .ensures) in
     omega arith
 
@@ -61,12 +67,12 @@ add-sum : tie.Need-add-sum Inv-loop μ-loop
 add-sum c =
     let s = c .before .before .before .before .before .before .before .before .before .before .before .before in
     let l = c .before .before .before .before .before .before .before .loop in
-    let rows = both (rowOf (s .args .op)) (rowsOf (s .args .a) (now (s .args .awords)) []) (rowsOf (s .args .b) (now (s .args .bwords)) []) in
+    let rows = combination (rowOf (s .args .op)) (first-operand s) (second-operand s) in
     let few = turn-few (l .row) (c .before .before .before .before .before .chunk-len .result) rows (c .before .before .before .before .chunk .result) (c .before .before .before .before .chunk .ensures) in
-    omega (arith, l .inv .1, flat-limit (s .args .a) (now (s .args .awords)) (s .pre .0))
+    omega (arith, l .inv .1, flat-limit (first-operand s) (s .pre .0 .0))
 
 add-row : tie.Need-add-row Inv-loop μ-loop
-add-row c = omega (arith, c .before .before .before .before .before .before .before .loop .inv .1, flat-limit (c .before .before .before .before .before .before .before .before .before .before .before .before .args .a) (now (c .before .before .before .before .before .before .before .before .before .before .before .before .args .awords)) (c .before .before .before .before .before .before .before .before .before .before .before .before .pre .0))
+add-row c = omega (arith, c .before .before .before .before .before .before .before .loop .inv .1, flat-limit (first-operand (c .before .before .before .before .before .before .before .before .before .before .before .before)) (c .before .before .before .before .before .before .before .before .before .before .before .before .pre .0 .0))
 
 loop-less : tie.Need-loop-less Inv-loop μ-loop
 loop-less c = omega arith
@@ -75,8 +81,8 @@ loop-again : tie.Need-loop-again Inv-loop μ-loop
 loop-again c =
     let s = c .before .before .before .before .before .before .before .before .before .before .before .before in
     let l = c .before .before .before .before .before .before .before .loop in
-    let rows = both (rowOf (s .args .op)) (rowsOf (s .args .a) (now (s .args .awords)) []) (rowsOf (s .args .b) (now (s .args .bwords)) []) in
-    let long : length rows ≡ lengthOf (s .args .a) = result-length _ (s .args .a) (now (s .args .awords)) (s .args .b) (now (s .args .bwords)) (s .pre .0) (s .pre .1) (s .pre .2) in
+    let rows = combination (rowOf (s .args .op)) (first-operand s) (second-operand s) in
+    let long : length rows ≡ lengthOf (s .args .a) = result-length _ (first-operand s) (second-operand s) (s .pre .0) in
     let n : ℕ = c .before .before .before .before .before .chunk-len .result in
     let bits : ℕ = c .before .before .before .before .chunk .result in
     let room : l .row + n ≤ length rows = omega (arith, l .inv .1, c .before .before .before .before .before .chunk-len .ensures) in
@@ -98,8 +104,8 @@ returns : tie.Need-returns Inv-loop μ-loop
 returns c =
     let s = c .before .before .before .before .before .before in
     let l = c .before .loop in
-    let rows = both (rowOf (s .args .op)) (rowsOf (s .args .a) (now (s .args .awords)) []) (rowsOf (s .args .b) (now (s .args .bwords)) []) in
-    let long : length rows ≡ lengthOf (s .args .a) = result-length _ (s .args .a) (now (s .args .awords)) (s .args .b) (now (s .args .bwords)) (s .pre .0) (s .pre .1) (s .pre .2) in
+    let rows = combination (rowOf (s .args .op)) (first-operand s) (second-operand s) in
+    let long : length rows ≡ lengthOf (s .args .a) = result-length _ (first-operand s) (second-operand s) (s .pre .0) in
     let all : take (l .row) rows ≡ rows = take-all (l .row) rows (omega (arith, l .inv .1)) in
     (l .inv .4 ∙ ap count all, l .inv .5 ∙ ap (λ (z : List Bool). laid 0 z (now (s .args .out))) all)
 

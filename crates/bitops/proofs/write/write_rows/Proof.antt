@@ -3,7 +3,7 @@
 use Prim.Native.Nat.{ℕ, _+_, _-_, _*_, _/_, _%_}
 use mathlib.Core.Path.{_≡_, ap, ap₂, _∙_}
 use mathlib.Core.Bool.{Bool}
-use mathlib.Core.List.{List}
+use mathlib.Core.List.{List, []}
 use native.Mathlib.Omega.{arith}
 use lib.Count.{ones}
 use lib.ListN.{length, take}
@@ -15,11 +15,18 @@ use Rattle.rows.specs.Words.{view}
 use Rattle.rows.specs.Laid.{laid}
 use Rattle.rows.proofs.RowLaws.{count-take-le}
 use Rattle.rules.specs.SetOps.{rowOf}
+use Rattle.rules.specs.Operand.{Operand, lent}
 use Rattle.bitops.proofs.VerdictLaws.{result-length}
 use Rattle.bitops.proofs.WriteLaws.{turn-few, turn-count, turn-laid, whole-part}
 use borrow.Author.Needs.{needs}
 use Rattle.bitops.proofs.write.write_rows.Statement.{statement}
 use Rattle.bitops.proofs.write.write_rows.Tie as tie
+
+abbrev first-operand : tie.Start → Operand
+first-operand s = lent (s .args .a) (now (s .args .awords)) []
+
+abbrev second-operand : tie.Start → Operand
+second-operand s = lent (s .args .b) (now (s .args .bwords)) []
 
 enum-known-a : tie.Need-enum-known-a
 enum-known-a c = search needs
@@ -51,7 +58,7 @@ write-whole-requires c κs =
     let fa = c .before .before .before .before .before .a .given in
     let fb = c .before .before .b .given in
     let q = rw (fa .1, fb .1) at (s .pre) in
-    (omega (arith, q .0 .0), q .0 .1, omega (arith, q .0 .2), q .1 .1, omega (arith, q .1 .2, q .2), omega (arith, q .3))
+    ((omega (arith, q .0 .0 .0), q .0 .0 .1, omega (arith, q .0 .0 .2)), (omega (arith, q .0 .0 .0), q .0 .1 .1, omega (arith, q .0 .1 .2, q .0 .2)), omega (arith, q .1))
 
 same-length-3 : tie.Need-same-length-3
 same-length-3 c = search needs
@@ -66,8 +73,8 @@ returns-3 c =
     let len : ℕ = fa .0 .1 .0 in
     let more : ℕ = fb .0 .1 .0 in
     let rows = both g (view (fa .0 .0) len (now (s .args .awords))) (view (fb .0 .0) more (now (s .args .bwords))) in
-    let part = whole-part g (len / 64 * 64) len more (fa .0 .0) (fb .0 .0) (now (s .args .awords)) (now (s .args .bwords)) (omega arith) (q .2) in
-    let long : length rows ≡ len = rw (fa .1, fb .1) at (result-length g (s .args .a) (now (s .args .awords)) (s .args .b) (now (s .args .bwords)) (s .pre .0) (s .pre .1) (s .pre .2)) in
+    let part = whole-part g (len / 64 * 64) len more (fa .0 .0) (fb .0 .0) (now (s .args .awords)) (now (s .args .bwords)) (omega arith) (q .0 .2) in
+    let long : length rows ≡ len = rw (fa .1, fb .1) at (result-length g (first-operand s) (second-operand s) (s .pre .0)) in
     let all : take (len / 64 * 64) rows ≡ rows = take-all (len / 64 * 64) rows (omega (arith, long, c .if1 .taken)) in
     let e = c .before .before .before .write-whole .ensures in
     rw (fa .1, fb .1) (e .0 ∙ ap count (part ∙ all), e .1 ∙ ap (λ (z : List Bool). laid 0 z (now (s .args .out))) (part ∙ all))
@@ -81,7 +88,7 @@ chunk-requires c κs =
     let fa = c .before .before .before .before .before .before .before .before .before .a .given in
     let fb = c .before .before .before .before .before .before .b .given in
     let q = rw (fa .1, fb .1) at (s .pre) in
-    (q .0, q .1, q .2, omega (arith, c .if1 .left), omega arith, omega arith)
+    (q .0, (omega (arith, c .if1 .left), omega arith), omega arith)
 
 sub-put : tie.Need-sub-put
 sub-put c = search needs
@@ -92,7 +99,7 @@ put-requires c κs =
     let fa = c .before .before .before .before .before .before .before .before .before .before .before .a .given in
     let fb = c .before .before .before .before .before .before .before .before .b .given in
     let q = rw (fa .1, fb .1) at (s .pre) in
-    (omega (arith, c .before .before .if1 .left), omega arith, omega (arith, q .3))
+    ((omega (arith, c .before .before .if1 .left), omega arith), omega (arith, q .1))
 
 cast-result : tie.Need-cast-result
 cast-result c =
@@ -115,8 +122,8 @@ add-result c =
     let len : ℕ = fa .0 .1 .0 in
     let more : ℕ = fb .0 .1 .0 in
     let rows = both g (view (fa .0 .0) len (now (s .args .awords))) (view (fb .0 .0) more (now (s .args .bwords))) in
-    let part = whole-part g (len / 64 * 64) len more (fa .0 .0) (fb .0 .0) (now (s .args .awords)) (now (s .args .bwords)) (omega arith) (q .2) in
-    omega (arith, q .0 .0, c .before .before .before .before .before .before .before .before .write-whole .ensures .0 ∙ ap count part, count-take-le (len / 64 * 64) rows, turn-few (len - len % 64) (len % 64) rows (c .before .before .before .before .chunk .result) (c .before .before .before .before .chunk .ensures))
+    let part = whole-part g (len / 64 * 64) len more (fa .0 .0) (fb .0 .0) (now (s .args .awords)) (now (s .args .bwords)) (omega arith) (q .0 .2) in
+    omega (arith, q .0 .0 .0, c .before .before .before .before .before .before .before .before .write-whole .ensures .0 ∙ ap count part, count-take-le (len / 64 * 64) rows, turn-few (len - len % 64) (len % 64) rows (c .before .before .before .before .chunk .result) (c .before .before .before .before .chunk .ensures))
 
 same-length-4 : tie.Need-same-length-4
 same-length-4 c = search needs
@@ -131,8 +138,8 @@ returns-4 c =
     let len : ℕ = fa .0 .1 .0 in
     let more : ℕ = fb .0 .1 .0 in
     let rows = both g (view (fa .0 .0) len (now (s .args .awords))) (view (fb .0 .0) more (now (s .args .bwords))) in
-    let part = whole-part g (len / 64 * 64) len more (fa .0 .0) (fb .0 .0) (now (s .args .awords)) (now (s .args .bwords)) (omega arith) (q .2) in
-    let long : length rows ≡ len = rw (fa .1, fb .1) at (result-length g (s .args .a) (now (s .args .awords)) (s .args .b) (now (s .args .bwords)) (s .pre .0) (s .pre .1) (s .pre .2)) in
+    let part = whole-part g (len / 64 * 64) len more (fa .0 .0) (fb .0 .0) (now (s .args .awords)) (now (s .args .bwords)) (omega arith) (q .0 .2) in
+    let long : length rows ≡ len = rw (fa .1, fb .1) at (result-length g (first-operand s) (second-operand s) (s .pre .0)) in
     let n : ℕ = len % 64 in
     let row : ℕ = len - n in
     let place : len / 64 * 64 ≡ row = omega arith in

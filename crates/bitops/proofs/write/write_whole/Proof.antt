@@ -35,19 +35,19 @@ loop-holds c =
     (omega arith, omega arith, refl, known, refl, sym (laid-nil 64 0 out known))
 
 whole-word-requires : tie.Need-whole-word-requires Inv-loop μ-loop
-whole-word-requires c κs = (c .before .before .before .before .before .pre .1, omega (arith, c .before .before .before .before .before .pre .2))
+whole-word-requires c κs = (c .before .before .before .before .before .pre .0 .1, omega (arith, c .before .before .before .before .before .pre .0 .2))
 
 whole-word-requires-2 : tie.Need-whole-word-requires-2 Inv-loop μ-loop
-whole-word-requires-2 c κs = (c .before .before .before .before .before .before .pre .3, omega (arith, c .before .before .before .before .before .before .pre .4))
+whole-word-requires-2 c κs = (c .before .before .before .before .before .before .pre .1 .1, omega (arith, c .before .before .before .before .before .before .pre .1 .2))
 
 apply-requires : tie.Need-apply-requires Inv-loop μ-loop
 apply-requires c κs = search needs
 
 mul-out : tie.Need-mul-out Inv-loop μ-loop
-mul-out c = omega (arith, c .before .before .before .before .before .before .before .before .pre .5)
+mul-out c = omega (arith, c .before .before .before .before .before .before .before .before .pre .2)
 
 slice-write-out : tie.Need-slice-write-out Inv-loop μ-loop
-slice-write-out c = omega (arith, c .before .before .before .before .before .before .before .before .pre .5, c .before .before .before .before .loop .inv .2)
+slice-write-out c = omega (arith, c .before .before .before .before .before .before .before .before .pre .2, c .before .before .before .before .loop .inv .2)
 
 cast-count : tie.Need-cast-count Inv-loop μ-loop
 cast-count c =
@@ -57,7 +57,7 @@ cast-count c =
     let bits : ℕ = c .apply .result in
     let is : bits ≡ wordOf (take 64 (drop (l .i * 64) rows)) =
     c .apply .ensures
-    ∙ whole-word (rowOf (a .op)) (a .n * 64) (a .astart) (a .bstart) (now (a .awords)) (now (a .bwords)) (c .before .before .before .before .before .before .before .before .pre .2) (c .before .before .before .before .before .before .before .before .pre .4) (l .i * 64) (c .before .before .whole-word .result) (c .before .whole-word2 .result) (omega arith) (c .before .before .whole-word .ensures) (c .before .whole-word2 .ensures) in
+    ∙ whole-word (rowOf (a .op)) (a .n * 64) (a .astart) (a .bstart) (now (a .awords)) (now (a .bwords)) (c .before .before .before .before .before .before .before .before .pre .0 .2) (c .before .before .before .before .before .before .before .before .pre .1 .2) (l .i * 64) (c .before .before .whole-word .result) (c .before .whole-word2 .result) (omega arith) (c .before .before .whole-word .ensures) (c .before .whole-word2 .ensures) in
     let few = turn-few (l .i * 64) 64 rows bits is in
     omega arith
 
@@ -69,12 +69,12 @@ add-count c =
     let bits : ℕ = c .apply .result in
     let is : bits ≡ wordOf (take 64 (drop (l .i * 64) rows)) =
     c .apply .ensures
-    ∙ whole-word (rowOf (a .op)) (a .n * 64) (a .astart) (a .bstart) (now (a .awords)) (now (a .bwords)) (c .before .before .before .before .before .before .before .before .pre .2) (c .before .before .before .before .before .before .before .before .pre .4) (l .i * 64) (c .before .before .whole-word .result) (c .before .whole-word2 .result) (omega arith) (c .before .before .whole-word .ensures) (c .before .whole-word2 .ensures) in
+    ∙ whole-word (rowOf (a .op)) (a .n * 64) (a .astart) (a .bstart) (now (a .awords)) (now (a .bwords)) (c .before .before .before .before .before .before .before .before .pre .0 .2) (c .before .before .before .before .before .before .before .before .pre .1 .2) (l .i * 64) (c .before .before .whole-word .result) (c .before .whole-word2 .result) (omega arith) (c .before .before .whole-word .ensures) (c .before .whole-word2 .ensures) in
     let few = turn-few (l .i * 64) 64 rows bits is in
-    omega (arith, c .before .before .before .before .before .before .before .before .pre .0, l .inv .1)
+    omega (arith, c .before .before .before .before .before .before .before .before .pre .0 .0, l .inv .1)
 
 add-i : tie.Need-add-i Inv-loop μ-loop
-add-i c = omega (arith, c .before .before .before .before .before .before .before .before .pre .0)
+add-i c = omega (arith, c .before .before .before .before .before .before .before .before .pre .0 .0)
 
 loop-less : tie.Need-loop-less Inv-loop μ-loop
 loop-less c = omega arith
@@ -87,9 +87,9 @@ loop-again c =
     let bits : ℕ = c .apply .result in
     let is : bits ≡ wordOf (take 64 (drop (l .i * 64) rows)) =
     c .apply .ensures
-    ∙ whole-word (rowOf (a .op)) (a .n * 64) (a .astart) (a .bstart) (now (a .awords)) (now (a .bwords)) (c .before .before .before .before .before .before .before .before .pre .2) (c .before .before .before .before .before .before .before .before .pre .4) (l .i * 64) (c .before .before .whole-word .result) (c .before .whole-word2 .result) (omega arith) (c .before .before .whole-word .ensures) (c .before .whole-word2 .ensures) in
+    ∙ whole-word (rowOf (a .op)) (a .n * 64) (a .astart) (a .bstart) (now (a .awords)) (now (a .bwords)) (c .before .before .before .before .before .before .before .before .pre .0 .2) (c .before .before .before .before .before .before .before .before .pre .1 .2) (l .i * 64) (c .before .before .whole-word .result) (c .before .whole-word2 .result) (omega arith) (c .before .before .whole-word .ensures) (c .before .whole-word2 .ensures) in
     let few = turn-few (l .i * 64) 64 rows bits is in
-    let room : l .i * 64 + 64 ≤ length rows = omega (arith, whole-length (rowOf (a .op)) (a .n * 64) (a .astart) (a .bstart) (now (a .awords)) (now (a .bwords)) (c .before .before .before .before .before .before .before .before .pre .2) (c .before .before .before .before .before .before .before .before .pre .4)) in
+    let room : l .i * 64 + 64 ≤ length rows = omega (arith, whole-length (rowOf (a .op)) (a .n * 64) (a .astart) (a .bstart) (now (a .awords)) (now (a .bwords)) (c .before .before .before .before .before .before .before .before .pre .0 .2) (c .before .before .before .before .before .before .before .before .pre .1 .2)) in
     let next : l .i * 64 + 64 ≡ (l .i + 1) * 64 = omega arith in
     let small : bits < 2 ^ 64 = omega (arith, c .apply .ok) in (
       omega arith,
@@ -111,7 +111,7 @@ returns c =
     let a = c .before .before .before .before .before .args in
     let l = c .before .loop in
     let rows = both (rowOf (a .op)) (view (a .astart) (a .n * 64) (now (a .awords))) (view (a .bstart) (a .n * 64) (now (a .bwords))) in
-    let all : take (l .i * 64) rows ≡ rows = take-all (l .i * 64) rows (omega (arith, whole-length (rowOf (a .op)) (a .n * 64) (a .astart) (a .bstart) (now (a .awords)) (now (a .bwords)) (c .before .before .before .before .before .pre .2) (c .before .before .before .before .before .pre .4))) in
+    let all : take (l .i * 64) rows ≡ rows = take-all (l .i * 64) rows (omega (arith, whole-length (rowOf (a .op)) (a .n * 64) (a .astart) (a .bstart) (now (a .awords)) (now (a .bwords)) (c .before .before .before .before .before .pre .0 .2) (c .before .before .before .before .before .pre .1 .2))) in
     (l .inv .4 ∙ ap count all, l .inv .5 ∙ ap (λ (z : List Bool). laid 0 z (now (a .out))) all)
 
 pub write-whole-spec : {M : Type 1} → statement M

@@ -4,12 +4,17 @@ use mathlib.Core.Path.{refl}
 use native.Mathlib.Omega.{arith}
 use lib.ListN.{length}
 use denote.Ref.{now}
-use Rattle.rules.specs.Stream.{Pair, lent, pairOf}
+use Rattle.rules.specs.Operand.{lent}
+use Rattle.rules.specs.Stream.{Pair, pairOf}
 use Rattle.rules.proofs.StreamLaws.{moved-within, self-length, self-count, kept-count}
 use Rattle.rules.proofs.Feeds.{feed-takes}
 use borrow.Author.Needs.{needs}
 use Rattle.composer.proofs.step.step.Statement.{statement}
 use Rattle.composer.proofs.step.step.Tie as tie
+
+-- the pieces that are fed
+abbrev pair : tie.Start → Pair
+pair s = pairOf (lent (s .args .s) (now (s .args .swords)) (now (s .args .srows))) (lent (s .args .r) (now (s .args .rwords)) (now (s .args .rrows)))
 
 length-of-requires : tie.Need-length-of-requires
 length-of-requires c κs = search needs
@@ -22,9 +27,10 @@ count-of-requires-2 c κs = search needs
 
 moved-requires : tie.Need-moved-requires
 moved-requires c κs =
-    let a = (c .before .before .before .before .before .before .before .before) .args in
-    let p : Pair = pairOf (lent (a .s) (now (a .swords)) (now (a .srows))) (lent (a .r) (now (a .rwords)) (now (a .rrows))) in
-    let t = feed-takes (a .state) p (length (now (a .out))) ((c .before .before .before .before .before .before .before .before) .pre) in
+    let s = c .before .before .before .before .before .before .before .before in
+    let a = s .args in
+    let p = pair s in
+    let t = feed-takes (a .state) p (length (now (a .out))) (s .pre) in
     let w = moved-within (a .state) p (length (now (a .out))) t in
     (omega (arith, t .limited, c .before .before .length-of .ensures), omega (arith, c .before .count-of .ensures, self-count p (t .matched), w .1, w .2), omega (arith, c .count-of2 .ensures, kept-count p (t .matched), w .0, w .1, w .2))
 
@@ -33,19 +39,21 @@ document-factors-requires c κs = search needs
 
 lay-composition-requires : tie.Need-lay-composition-requires
 lay-composition-requires c κs =
-    let a = (c .before .before .before .before .before .before .before .before .before .before .before) .args in
-    let p : Pair = pairOf (lent (a .s) (now (a .swords)) (now (a .srows))) (lent (a .r) (now (a .rwords)) (now (a .rrows))) in
-    let t = feed-takes (a .state) p (length (now (a .out))) ((c .before .before .before .before .before .before .before .before .before .before .before) .pre) in
-    (t .matched, omega (arith, t .space), omega (arith, t .limited))
+    let s = c .before .before .before .before .before .before .before .before .before .before .before in
+    let a = s .args in
+    let p = pair s in
+    let t = feed-takes (a .state) p (length (now (a .out))) (s .pre) in
+    (t .matched, (omega (arith, t .space), omega (arith, t .limited)))
 
 same-length : tie.Need-same-length
 same-length c = search needs
 
 returns : tie.Need-returns
 returns c =
-    let a = (c .before .before .before .before .before .before .before .before .before .before .before .before .before .before) .args in
-    let p : Pair = pairOf (lent (a .s) (now (a .swords)) (now (a .srows))) (lent (a .r) (now (a .rwords)) (now (a .rrows))) in
-    let t = feed-takes (a .state) p (length (now (a .out))) ((c .before .before .before .before .before .before .before .before .before .before .before .before .before .before) .pre) in
+    let s = c .before .before .before .before .before .before .before .before .before .before .before .before .before .before in
+    let a = s .args in
+    let p = pair s in
+    let t = feed-takes (a .state) p (length (now (a .out))) (s .pre) in
     (rw (c .before .before .lay-composition .ensures .0, c .before .before .before .before .document-factors .ensures, c .before .before .before .before .before .moved .ensures, c .before .before .before .before .before .before .before .before .length-of .ensures, c .before .before .before .before .before .before .before .count-of .ensures, c .before .before .before .before .before .before .count-of2 .ensures, self-length p (t .matched), self-count p (t .matched), kept-count p (t .matched)) refl, c .before .before .lay-composition .ensures .1)
 
 pub step-spec : {M : Type 1} → statement M

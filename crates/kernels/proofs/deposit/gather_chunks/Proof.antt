@@ -38,7 +38,7 @@ loop-holds : tie.Need-loop-holds Inv-loop μ-loop
 loop-holds c =
     let a = c .before .before .before .before .args in
     let out = now (a .out) in
-    (omega arith, omega arith, sym (add-zero (a .from .rank .0)), refl, sym (laid-nil 64 (a .at) out (below-all (2 ^ 64) out (λ i. c .before .slice-known .given i .fits))), c .before .before .before .before .pre .5)
+    (omega arith, omega arith, sym (add-zero (a .from .rank .0)), refl, sym (laid-nil 64 (a .at) out (below-all (2 ^ 64) out (λ i. c .before .slice-known .given i .fits))), c .before .before .before .before .pre .4)
 
 chunk-len-requires : tie.Need-chunk-len-requires Inv-loop μ-loop
 chunk-len-requires c κs = omega arith
@@ -129,12 +129,12 @@ cast-rank-bits-for-chunk c = omega (arith, few c, sized c)
 
 rank-bits-for-chunk-requires : tie.Need-rank-bits-for-chunk-requires Inv-loop μ-loop
 rank-bits-for-chunk-requires c κs =
-    (omega (arith, few c, sized c), omega (arith, start c .pre .0, start c .pre .4, head c .loop .inv .1, few c, sized c), head c .loop .inv .5)
+    (omega (arith, few c, sized c), omega (arith, start c .pre .0, start c .pre .3, head c .loop .inv .1, few c, sized c), head c .loop .inv .5)
 
 push-result-chunk-requires : tie.Need-push-result-chunk-requires Inv-loop μ-loop
 push-result-chunk-requires c κs =
     let t = c .before .before in
-    (refl, sized t .0, sized t .1, omega (arith, start t .pre .2, sized t, head t .loop .inv .3), omega (arith, start t .pre .3, sized t))
+    (refl, (sized t .0, sized t .1), (omega (arith, start t .pre .2 .0, sized t, head t .loop .inv .3), omega (arith, start t .pre .2 .1, sized t)))
 
 cast-t17 : tie.Need-cast-t17 Inv-loop μ-loop
 cast-t17 c =
@@ -144,7 +144,7 @@ cast-t17 c =
 add-t21 : tie.Need-add-t21 Inv-loop μ-loop
 add-t21 c =
     let t = turn (c .before .before .before) in
-    omega (arith, head t .loop .inv .1, start t .pre .0, start t .pre .4, few t, sized t)
+    omega (arith, head t .loop .inv .1, start t .pre .0, start t .pre .3, few t, sized t)
 
 add-t17 : tie.Need-add-t17 Inv-loop μ-loop
 add-t17 c =

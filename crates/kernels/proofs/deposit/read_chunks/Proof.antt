@@ -112,7 +112,7 @@ rank-bits-requires c κs = omega (arith, start c .pre, head c .loop .inv .1)
 push-result-chunk-requires : tie.Need-push-result-chunk-requires Inv-loop μ-loop
 push-result-chunk-requires c κs =
     let t = c .before .before in
-    (refl, sized t .0, sized t .1, omega (arith, start t .pre, sized t, head t .loop .inv .3), omega (arith, start t .pre, sized t))
+    (refl, (sized t .0, sized t .1), (omega (arith, start t .pre, sized t, head t .loop .inv .3), omega (arith, start t .pre, sized t)))
 
 cast-t20 : tie.Need-cast-t20 Inv-loop μ-loop
 cast-t20 c =

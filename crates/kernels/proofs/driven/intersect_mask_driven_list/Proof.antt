@@ -27,7 +27,7 @@ abbrev μ-loop : tie.MeasureT-loop
 μ-loop words start len ranks at out₀ place₀ i₀ out place i = length ranks - i
 
 loop-holds : tie.Need-loop-holds Inv-loop μ-loop
-loop-holds c = (omega arith, refl, record { walked = refl; ahead = c .before .before .before .pre .3; marks = refl })
+loop-holds c = (omega arith, refl, record { walked = refl; ahead = c .before .before .before .pre .1; marks = refl })
 
 mul-entry : tie.Need-mul-entry Inv-loop μ-loop
 mul-entry c = omega arith
@@ -43,7 +43,7 @@ mark-rank-requires c κs =
     let s = c .before .before .before .before .before .before .before in
     let l = c .before .before .before .loop in
     let t = rw (drop-cons (now (s .args .ranks)) (l .i) 0 (omega arith)) at (l .inv .2 .ahead) in
-    ((s .pre .1, s .pre .2), (omega (arith, l .inv .1, s .pre .4), s .pre .5), l .inv .2 .walked, t .0, t .1)
+    (s .pre .0, (omega (arith, l .inv .1, s .pre .2 .0), s .pre .2 .1), l .inv .2 .walked, t .0, t .1)
 
 add-i : tie.Need-add-i Inv-loop μ-loop
 add-i c = omega arith
@@ -76,7 +76,7 @@ returns c =
     let v = view (a .start) (a .len) (now (a .words)) in
     let none : drop (l .i) (now (a .ranks)) ≡ [] = drop-of-length-le (now (a .ranks)) {i = l .i} (omega arith) in
     sym (ap (λ (rs : List ℕ). marked (a .at) (map (select v) rs) (l .out)) none) ∙ l .inv .2 .marks
-    ∙ ap (λ (rs : List ℕ). marked (a .at) rs (now (a .out))) (sym (rows-at v (now (a .ranks)) (s .pre .3)))
+    ∙ ap (λ (rs : List ℕ). marked (a .at) rs (now (a .out))) (sym (rows-at v (now (a .ranks)) (s .pre .1)))
 
 pub intersect-mask-driven-list-spec : {M : Type 1} → statement M
 intersect-mask-driven-list-spec =

@@ -36,7 +36,7 @@ loop-holds : tie.Need-loop-holds Inv-loop μ-loop
 loop-holds c = (refl, refl, omega arith, refl)
 
 rank-chunk-requires : tie.Need-rank-chunk-requires Inv-loop μ-loop
-rank-chunk-requires c κs = (c .before .before .before .before .before .before .pre .5, omega arith)
+rank-chunk-requires c κs = (c .before .before .before .before .before .before .pre .3, omega arith)
 
 mark-chunk-requires : tie.Need-mark-chunk-requires Inv-loop μ-loop
 mark-chunk-requires c κs =
@@ -46,19 +46,19 @@ mark-chunk-requires c κs =
     let i = l .loop .inv in
     let v = view (a .start) (a .len) (now (a .words)) in
     let r = view (a .from) (a .ranklen) (now (a .ranks)) in
-    let long : length r ≡ a .ranklen = view-length (a .from) (a .ranklen) (now (a .ranks)) (s .pre .5) in (
-      (s .pre .1, s .pre .2),
-      (omega (arith, i .0, s .pre .6), s .pre .7),
+    let long : length r ≡ a .ranklen = view-length (a .from) (a .ranklen) (now (a .ranks)) (s .pre .3) in (
+      s .pre .0,
+      (omega (arith, i .0, s .pre .4 .0), s .pre .4 .1),
       i .1,
       i .2,
-      rw (c .before .rank-chunk .ensures) (chunk-ranks r (l .loop .rank .0) (l .loop .place .passed .0) (count v) (i .2) (omega arith) (omega (arith, s .pre .3))),
+      rw (c .before .rank-chunk .ensures) (chunk-ranks r (l .loop .rank .0) (l .loop .place .passed .0) (count v) (i .2) (omega arith) (omega (arith, s .pre .1))),
     )
 
 add-t17 : tie.Need-add-t17 Inv-loop μ-loop
 add-t17 c =
     let s = c .before .before .before .before .before .before .before .before .before .before .before .before in
     let a = s .args in
-    omega (arith, view-few (a .start) (a .len) (now (a .words)) (s .pre .2), s .pre .3)
+    omega (arith, view-few (a .start) (a .len) (now (a .words)) (s .pre .0 .2), s .pre .1)
 
 loop-less : tie.Need-loop-less Inv-loop μ-loop
 loop-less c = omega arith
@@ -73,7 +73,7 @@ loop-again c =
     let f : ℕ → ℕ = select (view (a .start) (a .len) (now (a .words))) in
     let r = view (a .from) (a .ranklen) (now (a .ranks)) in
     let done : ℕ = l .rank .0 in
-    let long : length r ≡ a .ranklen = view-length (a .from) (a .ranklen) (now (a .ranks)) (s .pre .5) in (
+    let long : length r ≡ a .ranklen = view-length (a .from) (a .ranklen) (now (a .ranks)) (s .pre .3) in (
       ap length (m .2) ∙ marked-length (a .at) (map f (setRows done (bitsOf 64 (k .rank-chunk .result)))) (l .out) ∙ l .inv .0,
       m .0,
       m .1,
@@ -92,9 +92,9 @@ returns c =
     let a = s .args in
     let v = view (a .start) (a .len) (now (a .words)) in
     let r = view (a .from) (a .ranklen) (now (a .ranks)) in
-    let long : length r ≡ a .ranklen = view-length (a .from) (a .ranklen) (now (a .ranks)) (s .pre .5) in
+    let long : length r ≡ a .ranklen = view-length (a .from) (a .ranklen) (now (a .ranks)) (s .pre .3) in
     l .inv .3 ∙ ap (λ (t : List Bool). marked (a .at) (map (select v) (setRows 0 t)) (now (a .out))) (take-all (l .rank .0) r (omega arith))
-    ∙ ap (λ (rs : List ℕ). marked (a .at) rs (now (a .out))) (sym (rows-compose-list v r (long ∙ s .pre .3)))
+    ∙ ap (λ (rs : List ℕ). marked (a .at) rs (now (a .out))) (sym (rows-compose-list v r (long ∙ s .pre .1)))
 
 pub intersect-mask-driven-words-spec : {M : Type 1} → statement M
 intersect-mask-driven-words-spec =

@@ -44,7 +44,7 @@ add-rest c =
     let a = s .args in
     let l = c .before .before .loop in
     let t = rw (rows-low (a .base .0) 64 (l .rest) (omega arith) (l .inv .0)) at (l .inv .3 .ahead) in
-    omega (arith, t .1, view-few (a .start) (a .len) (now (a .words)) (s .pre .0 .1))
+    omega (arith, t .1, view-few (a .start) (a .len) (now (a .words)) (s .pre .0 .2))
 
 mark-rank-requires : tie.Need-mark-rank-requires Inv-loop μ-loop
 mark-rank-requires c κs =

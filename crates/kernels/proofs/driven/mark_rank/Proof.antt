@@ -24,8 +24,8 @@ mark-row-requires c κs =
     let k = c .before in
     let s = k .before .before .before .before in
     let a = s .args in
-    let room = view-few (a .start) (a .len) (now (a .words)) (s .pre .0 .1) in
-    let row = view-row (a .start) (a .len) (now (a .words)) (s .pre .0 .1) (a .rank .0) (s .pre .4) in
+    let room = view-few (a .start) (a .len) (now (a .words)) (s .pre .0 .2) in
+    let row = view-row (a .start) (a .len) (now (a .words)) (s .pre .0 .2) (a .rank .0) (s .pre .4) in
     (omega (arith, k .row-in .ensures), omega (arith, k .row-in .ensures))
 
 same-length : tie.Need-same-length

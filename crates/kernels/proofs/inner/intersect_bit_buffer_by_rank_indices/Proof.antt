@@ -23,7 +23,7 @@ use Rattle.kernels.proofs.inner.intersect_bit_buffer_by_rank_indices.Ti
 gather-chunks-requires : tie.Need-gather-chunks-requires
 gather-chunks-requires c κs =
     let p = c .before .before .before .before .before .pre in
-    (p .1, p .2, p .3, p .4, omega arith, record { within = omega arith; before = tt; after = ascending-climbs 0 _ (now (c .before .before .before .before .before .args .ranks)) (p .5) })
+    (p .0 .0, p .0 .2, p .1, omega arith, record { within = omega arith; before = tt; after = ascending-climbs 0 _ (now (c .before .before .before .before .before .args .ranks)) (p .2) })
 
 same-length : tie.Need-same-length
 same-length c = search needs
@@ -36,24 +36,35 @@ returns c =
 gather-words-requires : tie.Need-gather-words-requires
 gather-words-requires c κs =
     let p = c .before .before .before .before .before .pre in
-    (p .0, omega (arith, p .1), omega (arith, p .2), omega (arith, p .3), ascending-climbs 0 _ (now (c .before .before .before .before .before .args .ranks)) (p .5))
+    (omega (arith, p .0), omega (arith, p .1), ascending-climbs 0 _ (now (c .before .before .before .before .before .args .ranks)) (p .2))
 
 mul-done : tie.Need-mul-done
 mul-done c = omega arith
 
 add-gather-chunks : tie.Need-add-gather-chunks
-add-gather-chunks c = omega (arith, c .before .before .before .before .before .before .before .before .pre .0, c .before .before .before .before .before .before .before .before .pre .1, c .before .before .before .before .before .before .before .before .pre .2, c .before .before .before .before .before .before .before .before .pre .4)
+add-gather-chunks c =
+    let p = c .before .before .before .before .before .before .before .before .pre in
+    omega (arith, p .0, p .1)
 
 sub-gather-chunks : tie.Need-sub-gather-chunks
 sub-gather-chunks c = omega arith
 
 add-gather-chunks-2 : tie.Need-add-gather-chunks-2
-add-gather-chunks-2 c = omega (arith, c .before .before .before .before .before .before .before .before .pre .0, c .before .before .before .before .before .before .before .before .pre .1, c .before .before .before .before .before .before .before .before .pre .2, c .before .before .before .before .before .before .before .before .pre .4)
+add-gather-chunks-2 c =
+    let p = c .before .before .before .before .before .before .before .before .pre in
+    omega (arith, p .0, p .1)
 
 gather-chunks-requires-2 : tie.Need-gather-chunks-requires-2
 gather-chunks-requires-2 c κs =
-    let p = c .before .before .before .before .before .before .before .before .before .pre in
-    (omega (arith, p .1), omega (arith, p .2), omega (arith, p .3, ap length (c .before .before .before .gather-words .ensures .2) ∙ laid-length 64 (c .before .before .before .before .before .before .before .before .before .args .at / 64 * 64) (compose (view (c .before .before .before .before .before .before .before .before .before .args .start) (c .before .before .before .before .before .before .before .before .before .args .len / 64 * 64) (now (c .before .before .before .before .before .before .before .before .before .args .words))) (listed (count (view (c .before .before .before .before .before .before .before .before .before .args .start) (c .before .before .before .before .before .before .before .before .before .args .len / 64 * 64) (now (c .before .before .before .before .before .before .before .before .before .args .words)))) (now (c .before .before .before .before .before .before .before .before .before .args .ranks)))) (now (c .before .before .before .before .before .before .before .before .before .args .out))), omega (arith, p .4), omega (arith, p .1, c .before .before .before .gather-words .ensures .0, count-take-le (c .before .before .before .before .before .before .before .before .before .args .len / 64 * 64) (drop (c .before .before .before .before .before .before .before .before .before .args .start) (bitsOfAll 64 (now (c .before .before .before .before .before .before .before .before .before .args .words))))), c .before .before .before .gather-words .ensures .1)
+    let s = c .before .before .before .before .before .before .before .before .before in
+    let a = s .args in
+    let p = s .pre in
+    let g = c .before .before .before .gather-words .ensures in
+    let done : ℕ = a .len / 64 * 64 in
+    let self = view (a .start) done (now (a .words)) in
+    let long = ap length (g .2) ∙ laid-length 64 (a .at / 64 * 64) (compose self (listed (count self) (now (a .ranks)))) (now (a .out)) in
+    let few = count-take-le done (drop (a .start) (bitsOfAll 64 (now (a .words)))) in
+    (omega (arith, p .0), omega (arith, p .0), (omega (arith, p .1, long), omega (arith, p .1)), omega (arith, p .0, g .0, few), g .1)
 
 same-length-2 : tie.Need-same-length-2
 same-length-2 c = search needs
@@ -77,7 +88,7 @@ returns-2 c =
     ∙ ap₂ (λ (l : List Bool) (o : List ℕ). laid (a .at + done) (compose (view (a .start + done) rest ws) l) o)
     left
     (c .before .before .before .before .before .before .gather-words .ensures .2 ∙ ap₂ (λ (k : ℕ) (l : List Bool). laid k l (now (a .out))) place (listed-more (view (a .start) done ws) passed total es (omega arith) (omega arith)))
-    ∙ whole-and-rest (a .start) (a .at) done rest ws (now (a .out)) r (omega (arith, c .before .before .before .before .before .before .before .before .before .before .before .before .pre .2))
+    ∙ whole-and-rest (a .start) (a .at) done rest ws (now (a .out)) r (omega (arith, c .before .before .before .before .before .before .before .before .before .before .before .before .pre .0 .2))
     ∙ ap (λ (k : ℕ). laid (a .at) (compose (view (a .start) k ws) r) (now (a .out))) all
 
 pub intersect-bit-buffer-by-rank-indices-spec : {M : Type 1} → statement M

@@ -17,12 +17,13 @@ use Rattle.kernels.proofs.inner.lay_driven_by_words.Statement.{statemen
 use Rattle.kernels.proofs.inner.lay_driven_by_words.Tie as tie
 
 clear-requires : tie.Need-clear-requires
-clear-requires c κs = (omega (arith, c .before .before .before .before .pre .6), c .before .before .before .before .pre .7)
+clear-requires c κs = c .before .before .before .before .pre .4
 
 intersect-mask-driven-words-requires : tie.Need-intersect-mask-driven-words-requires
 intersect-mask-driven-words-requires c κs =
     let s = c .before .before .before .before .before .before .before .before in
-    (s .pre .0, s .pre .1, s .pre .2, s .pre .3, s .pre .4, s .pre .5, omega (arith, s .pre .6, ap length (c .before .before .before .clear .ensures), laid-length 64 (s .args .at) (replicate (s .args .len) false) (now (s .args .out))), s .pre .7)
+    let long = laid-length 64 (s .args .at) (replicate (s .args .len) false) (now (s .args .out)) in
+    (s .pre .0, s .pre .1, s .pre .2, s .pre .3, (omega (arith, s .pre .4 .0, ap length (c .before .before .before .clear .ensures), long), s .pre .4 .1))
 
 same-length : tie.Need-same-length
 same-length c = search needs
@@ -34,7 +35,7 @@ returns c =
     let self = view (a .start) (a .len) (now (a .words)) in
     let rank = view (a .from) (a .ranklen) (now (a .ranks)) in
     c .before .before .intersect-mask-driven-words .ensures ∙ ap (marked (a .at) (setRows 0 (compose self rank))) (c .before .before .before .before .before .before .clear .ensures)
-    ∙ marked-compose (a .at) (a .len) self rank (now (a .out)) (view-length (a .start) (a .len) (now (a .words)) (s .pre .2))
+    ∙ marked-compose (a .at) (a .len) self rank (now (a .out)) (view-length (a .start) (a .len) (now (a .words)) (s .pre .0 .2))
 
 pub lay-driven-by-words-spec : {M : Type 1} → statement M
 lay-driven-by-words-spec =

@@ -16,12 +16,13 @@ use Rattle.kernels.proofs.inner.lay_entry_at_rank.Statement.{statement}
 use Rattle.kernels.proofs.inner.lay_entry_at_rank.Tie as tie
 
 clear-requires : tie.Need-clear-requires
-clear-requires c κs = (omega (arith, c .before .before .before .before .pre .2), c .before .before .before .before .pre .3)
+clear-requires c κs = c .before .before .before .before .pre .2
 
 intersect-by-rank-indices-requires : tie.Need-intersect-by-rank-indices-requires
 intersect-by-rank-indices-requires c κs =
     let s = c .before .before .before .before .before .before .before .before in
-    (s .pre .0, s .pre .1, omega (arith, s .pre .2, ap length (c .before .before .before .clear .ensures), laid-length 64 (s .args .at) (replicate (s .args .len) false) (now (s .args .out))), s .pre .3)
+    let long = laid-length 64 (s .args .at) (replicate (s .args .len) false) (now (s .args .out)) in
+    (s .pre .0, s .pre .1, (omega (arith, s .pre .2 .0, ap length (c .before .before .before .clear .ensures), long), s .pre .2 .1))
 
 same-length : tie.Need-same-length
 same-length c = search needs

@@ -17,12 +17,13 @@ use Rattle.kernels.proofs.inner.lay_entry_if_set.Statement.{statement}
 use Rattle.kernels.proofs.inner.lay_entry_if_set.Tie as tie
 
 clear-requires : tie.Need-clear-requires
-clear-requires c κs = (omega (arith, c .before .before .before .before .pre .3), c .before .before .before .before .pre .4)
+clear-requires c κs = c .before .before .before .before .pre .3
 
 intersect-indices-by-rank-bits-requires : tie.Need-intersect-indices-by-rank-bits-requires
 intersect-indices-by-rank-bits-requires c κs =
     let s = c .before .before .before .before .before .before .before .before in
-    (s .pre .0, s .pre .1, s .pre .2, omega (arith, s .pre .3, ap length (c .before .before .before .clear .ensures), laid-length 64 (s .args .at) (replicate (s .args .len) false) (now (s .args .out))), s .pre .4)
+    let long = laid-length 64 (s .args .at) (replicate (s .args .len) false) (now (s .args .out)) in
+    (s .pre .0, s .pre .1, s .pre .2, (omega (arith, s .pre .3 .0, ap length (c .before .before .before .clear .ensures), long), s .pre .3 .1))
 
 same-length : tie.Need-same-length
 same-length c = search needs

@@ -58,7 +58,7 @@ mark-row-requires c κs =
     let rank : ℕ = getD (now (a .ranks)) (l .loop .i) 0 in
     let row : getD (now (a .rows)) rank 0 < a .len = below-at (a .len) (now (a .rows)) rank (ascending-below 0 (a .len) (now (a .rows)) (s .pre .0)) (ranked k) in
     let e : c .before .entry-at .result .0 ≡ getD (now (a .rows)) rank 0 = c .before .entry-at .ensures in
-    (omega (arith, s .pre .2, l .loop .inv .1), omega (arith, s .pre .3))
+    (omega (arith, s .pre .2 .0, l .loop .inv .1), omega (arith, s .pre .2 .1))
 
 add-i : tie.Need-add-i Inv-loop μ-loop
 add-i c = omega arith

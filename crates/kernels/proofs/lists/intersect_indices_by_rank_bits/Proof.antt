@@ -46,7 +46,7 @@ mark-entries-requires c κs =
     let long : length r ≡ n = view-length (a .from) n (now (a .ranks)) (s .pre .2) in
     let ups = chunk-ranks r done 0 n (omega arith) (omega arith) (omega arith) in (
       ascending-below 0 (a .len) (now (a .rows)) (s .pre .0),
-      (omega (arith, l .loop .inv .0, s .pre .3), s .pre .4),
+      (omega (arith, l .loop .inv .0, s .pre .3 .0), s .pre .3 .1),
       rw (c .before .rank-chunk .ensures) (ascending-below 0 n (setRows done (bitsOf 64 (wordOf (chunkAt r done)))) ups),
     )
 

@@ -36,38 +36,38 @@ loop-holds c =
     let a = c .before .before .before .args in
     let out = now (a .out) in
     let known = below-all (2 ^ 64) out (λ i. c .slice-known .given i .fits) in
-    (omega arith, omega arith, refl, refl, known, sym (laid-nil 64 (a .to * 64) out known), record { within = omega arith; before = tt; after = c .before .before .before .pre .4 })
+    (omega arith, omega arith, refl, refl, known, sym (laid-nil 64 (a .to * 64) out known), record { within = omega arith; before = tt; after = c .before .before .before .pre .2 })
 
 whole-word-requires : tie.Need-whole-word-requires Inv-loop μ-loop
-whole-word-requires c κs = (c .before .before .before .before .before .pre .0, omega (arith, c .before .before .before .before .before .pre .2))
+whole-word-requires c κs = (c .before .before .before .before .before .pre .0 .1, omega (arith, c .before .before .before .before .before .pre .0 .2))
 
 cast-rank-bits-for-chunk : tie.Need-cast-rank-bits-for-chunk Inv-loop μ-loop
 cast-rank-bits-for-chunk c = omega (arith, ap ones (c .whole-word .ensures), chunk-few 64 (drop (c .before .before .before .before .before .before .args .start + c .before .before .loop .i * 64) (bitsOfAll 64 (now (c .before .before .before .before .before .before .args .words)))))
 
 rank-bits-for-chunk-requires : tie.Need-rank-bits-for-chunk-requires Inv-loop μ-loop
 rank-bits-for-chunk-requires c κs =
-    (omega (arith, ap ones (c .whole-word .ensures), chunk-few 64 (drop (c .before .before .before .before .before .before .args .start + c .before .before .loop .i * 64) (bitsOfAll 64 (now (c .before .before .before .before .before .before .args .words))))), omega (arith, c .before .before .before .before .before .before .pre .1, c .before .before .loop .inv .1, ap ones (c .whole-word .ensures), chunk-few 64 (drop (c .before .before .before .before .before .before .args .start + c .before .before .loop .i * 64) (bitsOfAll 64 (now (c .before .before .before .before .before .before .args .words))))), c .before .before .loop .inv .6)
+    (omega (arith, ap ones (c .whole-word .ensures), chunk-few 64 (drop (c .before .before .before .before .before .before .args .start + c .before .before .loop .i * 64) (bitsOfAll 64 (now (c .before .before .before .before .before .before .args .words))))), omega (arith, c .before .before .before .before .before .before .pre .0 .0, c .before .before .loop .inv .1, ap ones (c .whole-word .ensures), chunk-few 64 (drop (c .before .before .before .before .before .before .args .start + c .before .before .loop .i * 64) (bitsOfAll 64 (now (c .before .before .before .before .before .before .args .words))))), c .before .before .loop .inv .6)
 
 add-at : tie.Need-add-at Inv-loop μ-loop
-add-at c = omega (arith, c .before .before .before .before .before .before .before .pre .3)
+add-at c = omega (arith, c .before .before .before .before .before .before .before .pre .1)
 
 deposit-bits-requires : tie.Need-deposit-bits-requires Inv-loop μ-loop
 deposit-bits-requires c κs = search needs
 
 mul-out : tie.Need-mul-out Inv-loop μ-loop
-mul-out c = omega (arith, c .before .before .before .before .before .before .before .before .pre .3)
+mul-out c = omega (arith, c .before .before .before .before .before .before .before .before .pre .1)
 
 slice-write-out : tie.Need-slice-write-out Inv-loop μ-loop
-slice-write-out c = omega (arith, c .before .before .before .before .before .before .before .before .pre .3, c .before .before .before .before .loop .inv .3)
+slice-write-out c = omega (arith, c .before .before .before .before .before .before .before .before .pre .1, c .before .before .before .before .loop .inv .3)
 
 cast-t16 : tie.Need-cast-t16 Inv-loop μ-loop
 cast-t16 c = omega (arith, ap ones (c .before .before .whole-word .ensures), chunk-few 64 (drop (c .before .before .before .before .before .before .before .before .args .start + c .before .before .before .before .loop .i * 64) (bitsOfAll 64 (now (c .before .before .before .before .before .before .before .before .args .words)))))
 
 add-t19 : tie.Need-add-t19 Inv-loop μ-loop
-add-t19 c = omega (arith, c .before .before .before .before .before .before .before .before .before .pre .1, c .before .before .before .before .before .loop .inv .1, ap ones (c .before .before .before .whole-word .ensures), chunk-few 64 (drop (c .before .before .before .before .before .before .before .before .before .args .start + c .before .before .before .before .before .loop .i * 64) (bitsOfAll 64 (now (c .before .before .before .before .before .before .before .before .before .args .words)))))
+add-t19 c = omega (arith, c .before .before .before .before .before .before .before .before .before .pre .0 .0, c .before .before .before .before .before .loop .inv .1, ap ones (c .before .before .before .whole-word .ensures), chunk-few 64 (drop (c .before .before .before .before .before .before .before .before .before .args .start + c .before .before .before .before .before .loop .i * 64) (bitsOfAll 64 (now (c .before .before .before .before .before .before .before .before .before .args .words)))))
 
 add-i : tie.Need-add-i Inv-loop μ-loop
-add-i c = omega (arith, c .before .before .before .before .before .before .before .before .before .pre .1)
+add-i c = omega (arith, c .before .before .before .before .before .before .before .before .before .pre .0 .0)
 
 loop-less : tie.Need-loop-less Inv-loop μ-loop
 loop-less c = omega arith
@@ -80,7 +80,7 @@ loop-again c =
     let es = now (a .ranks) in
     let total : ℕ = count (view (a .start) (a .n * 64) ws) in
     let r = listed total es in
-    let reach : a .start + l .i * 64 + 64 ≤ length ws * 64 = omega (arith, c .before .before .before .before .before .before .before .before .before .pre .2) in
+    let reach : a .start + l .i * 64 + 64 ≤ length ws * 64 = omega (arith, c .before .before .before .before .before .before .before .before .before .pre .0 .2) in
     let t = fit 64 (drop (a .start + l .i * 64) (bitsOfAll 64 ws)) in
     let passed : ℕ = count (view (a .start) (l .i * 64) ws) in
     let g = c .before .before .rank-bits-for-chunk in

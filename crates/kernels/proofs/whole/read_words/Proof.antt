@@ -38,31 +38,31 @@ loop-holds c =
     (omega arith, omega arith, refl, refl, known, sym (laid-nil 64 (a .to * 64) out known))
 
 whole-word-requires : tie.Need-whole-word-requires Inv-loop μ-loop
-whole-word-requires c κs = (c .before .before .before .before .before .pre .0, omega (arith, c .before .before .before .before .before .pre .2))
+whole-word-requires c κs = (c .before .before .before .before .before .pre .0 .1, omega (arith, c .before .before .before .before .before .pre .0 .2))
 
 rank-bits-requires : tie.Need-rank-bits-requires Inv-loop μ-loop
-rank-bits-requires c κs = omega (arith, c .before .before .before .before .before .before .pre .1, c .before .before .before .before .before .before .pre .3, c .before .before .loop .inv .1)
+rank-bits-requires c κs = omega (arith, c .before .before .before .before .before .before .pre .0 .0, c .before .before .before .before .before .before .pre .1, c .before .before .loop .inv .1)
 
 add-at : tie.Need-add-at Inv-loop μ-loop
-add-at c = omega (arith, c .before .before .before .before .before .before .before .pre .4)
+add-at c = omega (arith, c .before .before .before .before .before .before .before .pre .2)
 
 deposit-bits-requires : tie.Need-deposit-bits-requires Inv-loop μ-loop
 deposit-bits-requires c κs = search needs
 
 mul-out : tie.Need-mul-out Inv-loop μ-loop
-mul-out c = omega (arith, c .before .before .before .before .before .before .before .before .pre .4)
+mul-out c = omega (arith, c .before .before .before .before .before .before .before .before .pre .2)
 
 slice-write-out : tie.Need-slice-write-out Inv-loop μ-loop
-slice-write-out c = omega (arith, c .before .before .before .before .before .before .before .before .pre .4, c .before .before .before .before .loop .inv .3)
+slice-write-out c = omega (arith, c .before .before .before .before .before .before .before .before .pre .2, c .before .before .before .before .loop .inv .3)
 
 cast-t16 : tie.Need-cast-t16 Inv-loop μ-loop
 cast-t16 c = omega (arith, ap ones (c .before .before .whole-word .ensures), chunk-few 64 (drop (c .before .before .before .before .before .before .before .before .args .start + c .before .before .before .before .loop .i * 64) (bitsOfAll 64 (now (c .before .before .before .before .before .before .before .before .args .words)))))
 
 add-t19 : tie.Need-add-t19 Inv-loop μ-loop
-add-t19 c = omega (arith, c .before .before .before .before .before .before .before .before .before .pre .1, c .before .before .before .before .before .loop .inv .1, ap ones (c .before .before .before .whole-word .ensures), chunk-few 64 (drop (c .before .before .before .before .before .before .before .before .before .args .start + c .before .before .before .before .before .loop .i * 64) (bitsOfAll 64 (now (c .before .before .before .before .before .before .before .before .before .args .words)))))
+add-t19 c = omega (arith, c .before .before .before .before .before .before .before .before .before .pre .0 .0, c .before .before .before .before .before .loop .inv .1, ap ones (c .before .before .before .whole-word .ensures), chunk-few 64 (drop (c .before .before .before .before .before .before .before .before .before .args .start + c .before .before .before .before .before .loop .i * 64) (bitsOfAll 64 (now (c .before .before .before .before .before .before .before .before .before .args .words)))))
 
 add-i : tie.Need-add-i Inv-loop μ-loop
-add-i c = omega (arith, c .before .before .before .before .before .before .before .before .before .pre .1)
+add-i c = omega (arith, c .before .before .before .before .before .before .before .before .before .pre .0 .0)
 
 loop-less : tie.Need-loop-less Inv-loop μ-loop
 loop-less c = omega arith
@@ -73,7 +73,7 @@ loop-again c =
     let l = c .before .before .before .before .before .loop in
     let ws = now (a .words) in
     let r = drop (a .from) (bitsOfAll 64 (now (a .ranks))) in
-    let reach : a .start + l .i * 64 + 64 ≤ length ws * 64 = omega (arith, c .before .before .before .before .before .before .before .before .before .pre .2) in
+    let reach : a .start + l .i * 64 + 64 ≤ length ws * 64 = omega (arith, c .before .before .before .before .before .before .before .before .before .pre .0 .2) in
     let t = fit 64 (drop (a .start + l .i * 64) (bitsOfAll 64 ws)) in
     let passed : ℕ = count (view (a .start) (l .i * 64) ws) in
     let source = c .before .before .rank-bits .result in

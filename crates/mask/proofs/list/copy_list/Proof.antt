@@ -1,16 +1,16 @@
 -- `mask::list::copy_list` meets its contract.
 -- The invariant: the entries before `i` are copied. Assumes nothing.
 use Prim.Native.Nat.{ℕ, _-_, _≤_}
-use mathlib.Core.Path.{_≡_, refl, sym, ap, _∙_}
+use mathlib.Core.Path.{_≡_, refl, sym, ap, ap₂, _∙_}
 use mathlib.Core.List.{List}
+use native.Mathlib.Nat.{zero-add}
 use native.Mathlib.Numerals.{add-one}
 use native.Mathlib.Omega.{arith}
 use lib.ListN.{length, take, getD, set, length-set}
 use lib.Seq.{take-all}
 use denote.Ref.{now}
 use Rattle.rows.specs.Rows.{splice}
-use Rattle.rows.proofs.SpliceLaws.{splice-nil}
-use Rattle.mask.proofs.ListOutLaws.{copy-turn}
+use Rattle.rows.proofs.SpliceLaws.{splice-nil, splice-turn}
 use borrow.Author.Needs.{needs}
 use Rattle.mask.proofs.list.copy_list.Statement.{statement}
 use Rattle.mask.proofs.list.copy_list.Tie as tie
@@ -50,7 +50,8 @@ loop-again c =
       omega arith,
       refl,
       length-set (l .out) (l .i) y ∙ l .inv .2,
-      rw (add-one (l .i)) (ap (λ (o : List ℕ). set o (l .i) y) (l .inv .3) ∙ copy-turn (now (a .out)) (now (a .rows)) (l .i) (omega arith)),
+      rw (add-one (l .i))
+          (ap₂ (λ (o : List ℕ) (k : ℕ). set o k y) (l .inv .3) (sym (zero-add (l .i))) ∙ splice-turn 0 (now (a .out)) (now (a .rows)) (l .i) 0 (omega arith)),
     )
 
 same-length : tie.Need-same-length Inv-loop μ-loop

@@ -10,22 +10,27 @@ use denote.Ref.{now}
 use Rattle.rows.specs.Rows.{count, splice}
 use Rattle.rows.specs.Lists.{setRows}
 use Rattle.rows.proofs.ListLaws.{rows-listed, rows-count}
-use Rattle.rules.specs.Operand.{rowsOf, lengthOf, countOf, isList}
-use Rattle.rules.proofs.OperandLaws.{accepted-list, accepted-count, list-rows, list-count}
+use Rattle.rules.specs.Operand.{Operand, lent, rowsOf, lengthOf, countOf}
+use Rattle.rules.proofs.OperandLaws.{accepted-count}
+use Rattle.mask.specs.Flat.{hasRowNumbers}
+use Rattle.mask.proofs.NumberLaws.{accepted-list, list-rows, list-count}
 use Rattle.mask.proofs.FlatLaws.{accepted-flat, flat-rows}
 use Rattle.mask.proofs.ListOutLaws.{list-front}
 use borrow.Author.Needs.{needs}
 use Rattle.mask.proofs.list.write_list.Statement.{statement}
 use Rattle.mask.proofs.list.write_list.Tie as tie
 
-is-list-requires : tie.Need-is-list-requires
-is-list-requires c κs = search needs
+abbrev operand : tie.Start → Operand
+operand s = lent (s .args .form) (now (s .args .words)) (now (s .args .rows))
+
+has-row-numbers-requires : tie.Need-has-row-numbers-requires
+has-row-numbers-requires c κs = search needs
 
 copy-list-requires : tie.Need-copy-list-requires
 copy-list-requires c κs =
     let s = c .before .before .before .before .before .before in
-    let e : isList (s .args .form) ≡ true = sym (c .before .before .is-list .ensures) ∙ c .before .if1 .taken in
-    omega (arith, list-count (s .args .form) (now (s .args .rows)) e, s .pre .1)
+    let e : hasRowNumbers (s .args .form) ≡ true = sym (c .before .before .has-row-numbers .ensures) ∙ c .before .if1 .taken in
+    omega (arith, list-count (operand s) e, s .pre .1)
 
 same-length : tie.Need-same-length
 same-length c = search needs
@@ -35,19 +40,19 @@ returns c =
     let s = c .before .before .before .before .before .before .before .before .before in
     let a = s .args in
     let es = now (a .rows) in
-    let e : isList (a .form) ≡ true = sym (c .before .before .before .before .before .is-list .ensures) ∙ c .before .before .before .before .if1 .taken in
-    let same : setRows 0 (rowsOf (a .form) (now (a .words)) es) ≡ es =
-    ap (setRows 0) (list-rows (a .form) (now (a .words)) es e) ∙ rows-listed (lengthOf (a .form)) 0 (lengthOf (a .form)) es (zero-add (lengthOf (a .form))) (accepted-list (a .form) (now (a .words)) es e (s .pre .0)) in
+    let e : hasRowNumbers (a .form) ≡ true = sym (c .before .before .before .before .before .has-row-numbers .ensures) ∙ c .before .before .before .before .if1 .taken in
+    let same : setRows 0 (rowsOf (operand s)) ≡ es =
+    ap (setRows 0) (list-rows (operand s) e) ∙ rows-listed (lengthOf (a .form)) 0 (lengthOf (a .form)) es (zero-add (lengthOf (a .form))) (accepted-list (operand s) e (s .pre .0)) in
     c .before .before .copy-list .ensures ∙ ap (splice 0 (now (a .out))) (sym same)
-    ∙ list-front (now (a .out)) (setRows 0 (rowsOf (a .form) (now (a .words)) es)) (countOf (a .form) es) (ap length same ∙ sym (list-count (a .form) es e)) (s .pre .1)
+    ∙ list-front (now (a .out)) (setRows 0 (rowsOf (operand s))) (countOf (operand s)) (ap length same ∙ sym (list-count (operand s) e)) (s .pre .1)
 
 list-flat-requires : tie.Need-list-flat-requires
 list-flat-requires c κs =
     let s = c .before .before .before .before .before .before in
     let a = s .args in
-    let e : isList (a .form) ≡ false = sym (c .before .before .is-list .ensures) ∙ c .before .if1 .left in
-    let f = accepted-flat (a .form) (now (a .words)) (now (a .rows)) e (s .pre .0) in
-    (f, omega (arith, ap count (flat-rows (a .form) (now (a .words)) (now (a .rows)) f), accepted-count (a .form) (now (a .words)) (now (a .rows)) (s .pre .0), s .pre .1))
+    let e : hasRowNumbers (a .form) ≡ false = sym (c .before .before .has-row-numbers .ensures) ∙ c .before .if1 .left in
+    let f = accepted-flat (operand s) e (s .pre .0) in
+    (f, omega (arith, ap count (flat-rows (operand s) f), accepted-count (operand s) (s .pre .0), s .pre .1))
 
 same-length-2 : tie.Need-same-length-2
 same-length-2 c = search needs
@@ -57,17 +62,17 @@ returns-2 c =
     let s = c .before .before .before .before .before .before .before .before .before in
     let a = s .args in
     let es = now (a .rows) in
-    let e : isList (a .form) ≡ false = sym (c .before .before .before .before .before .is-list .ensures) ∙ c .before .before .before .before .if1 .left in
-    let rows = rowsOf (a .form) (now (a .words)) es in
+    let e : hasRowNumbers (a .form) ≡ false = sym (c .before .before .before .before .before .has-row-numbers .ensures) ∙ c .before .before .before .before .if1 .left in
+    let rows = rowsOf (operand s) in
     c .before .before .list-flat .ensures
-    ∙ ap (λ (z : List Bool). splice 0 (now (a .out)) (setRows 0 z)) (sym (flat-rows (a .form) (now (a .words)) es (accepted-flat (a .form) (now (a .words)) es e (s .pre .0))))
-    ∙ list-front (now (a .out)) (setRows 0 rows) (countOf (a .form) es) (rows-count 0 rows ∙ accepted-count (a .form) (now (a .words)) es (s .pre .0)) (s .pre .1)
+    ∙ ap (λ (z : List Bool). splice 0 (now (a .out)) (setRows 0 z)) (sym (flat-rows (operand s) (accepted-flat (operand s) e (s .pre .0))))
+    ∙ list-front (now (a .out)) (setRows 0 rows) (countOf (operand s)) (rows-count 0 rows ∙ accepted-count (operand s) (s .pre .0)) (s .pre .1)
 
 pub write-list-spec : {M : Type 1} → statement M
 write-list-spec =
     tie.close
     (tie.spec
-    is-list-requires
+    has-row-numbers-requires
     copy-list-requires
     same-length
     returns

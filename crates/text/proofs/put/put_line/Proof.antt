@@ -1,6 +1,6 @@
 -- `text::put::put_line` meets its contract: the key, the number and the newline, one after the other, are the line.
 -- By the law of parts one after the other. Assumes nothing.
-use Prim.Native.Nat.{ℕ, _+_, _-_}
+use Prim.Native.Nat.{ℕ}
 use mathlib.Core.Path.{ap, _∙_}
 use mathlib.Core.List.{List, [], _∷_, _++_}
 use native.Mathlib.Omega.{arith}

@@ -53,7 +53,7 @@ sub-put c =
 
 put-requires : tie.Need-put-requires Inv-loop μ-loop
 put-requires c κs =
-    (omega arith, omega arith, omega (arith, c .before .before .before .loop .inv .1, c .before .before .before .before .before .before .clear-last .kept .0, c .before .before .before .before .before .before .before .before .before .before .pre .2))
+    ((omega arith, omega arith), omega (arith, c .before .before .before .loop .inv .1, c .before .before .before .before .before .before .clear-last .kept .0, c .before .before .before .before .before .before .before .before .before .before .pre .2))
 
 add-i : tie.Need-add-i Inv-loop μ-loop
 add-i c = search needs

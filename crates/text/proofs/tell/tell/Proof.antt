@@ -8,6 +8,7 @@ use denote.Ref.{now}
 use borrow.Author.Needs.{needs}
 use Rattle.rows.specs.Rows.{splice}
 use Rattle.rules.specs.declared.Answer.{Answer}
+use Rattle.rules.specs.Answer.{refused}
 use Rattle.text.specs.declared.Written.{Written}
 use Rattle.text.specs.Text.{linesOf, answerFor, textOf, withText}
 use Rattle.text.proofs.ToldLaws.{answer-ill, text-ill, found-ill, text-front}
@@ -19,6 +20,9 @@ find-requires c κs = search needs
 
 enum-told : tie.Need-enum-told
 enum-told c = search needs
+
+refusal-requires : tie.Need-refusal-requires
+refusal-requires c κs = search needs
 
 refused-requires : tie.Need-refused-requires
 refused-requires c κs = search needs
@@ -40,12 +44,15 @@ same-length c = search needs
 
 returns : tie.Need-returns
 returns c =
-    let z = c .before .before .before .before .before .before .before .before .before .before .before in
+    let refused-place = c .before .before .before .before .before in
+    let told = refused-place .before .before in
+    let found = told .before .before in
+    let z = found .before .before .before in
     let input = now (z .args .input) in
     let out = now (z .args .out) in
     let p = c .before .before .put-answer in
-    let ill = found-ill input (sym (c .before .before .before .before .before .before .before .before .find .ensures) ∙ c .before .before .before .before .before .before .enum-told .given .1) in
-    let thirteen = c .before .before .before .before .before .refused .ensures in
+    let ill = found-ill input (sym (found .find .ensures) ∙ told .enum-told .given .1) in
+    let thirteen = refused-place .refused .ensures ∙ ap refused (refused-place .before .refusal .ensures) in
     let text = ap (λ (a : Answer). linesOf a []) thirteen ∙ sym (text-ill input ill) in
     let whole : p .result ≡ withText (answerFor input) (textOf input) = p .ensures .0 ∙ ap₂ withText (thirteen ∙ sym (answer-ill input ill)) text in
     let n : p .result .len ≡ length (textOf input) = ap (λ (w : Written). w .len) whole in (
@@ -72,6 +79,7 @@ tell-spec =
     (tie.spec
     find-requires
     enum-told
+    refusal-requires
     refused-requires
     slice-aggregate-put-answer
     put-answer-requires

@@ -11,6 +11,7 @@ use Rattle.rows.specs.Words.{view}
 use Rattle.rules.specs.declared.Form.{Form}
 use Rattle.rules.specs.Route.{published}
 use Rattle.rules.specs.Compose.{composed, composedOut}
+use Rattle.rules.specs.Operand.{lent}
 use Rattle.text.specs.Text.{withText}
 use Rattle.text.proofs.ToldLaws.{rows-ignored, rows-ignored-out, words-answered, words-told}
 use Rattle.text.proofs.tell.tell_words.Statement.{statement}
@@ -54,8 +55,8 @@ returns c =
     let out = now (a .words) in
     let one = c .before .before .before .before .before .before .before .before .before .before .before .before .operand .ensures in
     let two = c .before .before .before .before .before .before .before .before .before .before .operand2 .ensures in
-    let answer = i .ensures .0 ∙ ap₂ (λ (f g : Form). composed published f sws es g rws es out) one two ∙ rows-ignored (a .s) (count (view 0 (a .s) sws)) (a .r) (count (view 0 (a .r) rws)) sws rws es es out in
-    let left = i .ensures .1 ∙ ap₂ (λ (f g : Form). composedOut f sws es g rws es out) one two ∙ rows-ignored-out (a .s) (count (view 0 (a .s) sws)) (a .r) (count (view 0 (a .r) rws)) sws rws es es out in
+    let answer = i .ensures .0 ∙ ap₂ (λ (f g : Form). composed published (lent f sws es) (lent g rws es) out) one two ∙ rows-ignored (a .s) (count (view 0 (a .s) sws)) (a .r) (count (view 0 (a .r) rws)) sws rws es es out in
+    let left = i .ensures .1 ∙ ap₂ (λ (f g : Form). composedOut (lent f sws es) (lent g rws es) out) one two ∙ rows-ignored-out (a .s) (count (view 0 (a .s) sws)) (a .r) (count (view 0 (a .r) rws)) sws rws es es out in
     let e = words-told sws (a .s) rws (a .r) out (i .result) (i .last .1 .1 .1 .1 .1 .1 .0) answer left in (
       p .ensures .0 ∙ ap₂ withText (words-answered sws (a .s) rws (a .r) out (i .result) answer) e,
       p .ensures .1 ∙ ap (splice 0 (now (a .out))) e,
