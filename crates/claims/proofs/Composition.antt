@@ -19,11 +19,13 @@ use Rattle.rules.specs.Route.{published}
 use Rattle.rules.specs.Compose.{routed, composedOut}
 use Rattle.rules.proofs.AnswerLaws.{Bare}
 use Rattle.rules.proofs.Writes.{bitAt, row, Writes}
+use Rattle.rules.proofs.Densities.{Nearest}
 use Rattle.rules.proofs.Compositions.{Refuses, Accepts, composed-refuses, composed-accepts, composed-refused, composed-writes, composed-row}
 use Rattle.intersect_by_rank.proofs.inner.compose.compose_with.Kinds as with-kinds
 use Rattle.intersect_by_rank.proofs.inner.compose.compose_with.Reads as with-reads
 use Rattle.intersect_by_rank.proofs.intersect_by_rank.Kinds as kinds
 use Rattle.intersect_by_rank.proofs.intersect_by_rank.Reads as reads
+use Rattle.claims.proofs.Densities.{written-nearest}
 
 module _ (κs : Lfts 5) (a : Dens κs kinds.ps) (x : resT kinds.r κs .Denot) (v : Lasts (endedOf 5 kinds.ps kinds.r) κs a) (allowed : reads.Post κs a x (atExit (endedOf 5 kinds.ps kinds.r) κs a v)) where
   abbrev s : Operand
@@ -56,6 +58,10 @@ module _ (κs : Lfts 5) (a : Dens κs kinds.ps) (x : resT kinds.r κs .Denot) (v
   -- accepted: the rows, the count of the rows written, the route of the table, the density, the tail and the later words
   pub accepted-writes : Accepts s r (length out) → Writes (lengthOf (s .form)) (λ i. row s i && row r (rankAt (rowsOf s) i)) (routed published s r) answer after out
   accepted-writes = rw (allowed .0, allowed .1) (composed-writes s r published out)
+
+  -- the density told is the value of the format nearest to the told count over self's length
+  pub accepted-density : Accepts s r (length out) → 0 < lengthOf (s .form) → Nearest (answer .summary .count) (lengthOf (s .form)) (answer .summary .density)
+  accepted-density t = written-nearest (accepted-writes t)
 
   -- row i of the result is set exactly if self has i and the rank mask has i's rank
   pub row-exactly : Accepts s r (length out) → (i : ℕ) → i < lengthOf (s .form)

@@ -18,12 +18,14 @@ use Rattle.rules.specs.Operand.{Operand, lent, rowsOf, lengthOf, countOf, Accep
 use Rattle.rules.specs.Convert.{toWords, toWordsOut, toList, toListOut}
 use Rattle.rules.proofs.AnswerLaws.{Bare}
 use Rattle.rules.proofs.Writes.{row, Writes, Lists}
+use Rattle.rules.proofs.Densities.{Nearest}
 use Rattle.rules.proofs.Conversions.{Refuses, to-words-refuses, to-words-accepts, to-words-refused, to-list-refuses, to-list-accepts, to-list-refused}
 use Rattle.rules.proofs.RoundTrips.{to-words-writes, to-words-back, to-list-lists, to-list-back}
 use Rattle.mask.proofs.to_words.Kinds as words-kinds
 use Rattle.mask.proofs.to_words.Reads as words-reads
 use Rattle.mask.proofs.to_list.Kinds as list-kinds
 use Rattle.mask.proofs.to_list.Reads as list-reads
+use Rattle.claims.proofs.Densities.{written-nearest, listed-nearest}
 
 -- what a conversion that needs so many elements owes, refused: each refusal exactly when, and accepted exactly otherwise; and a refusal
 -- changes no lent element, and reports count 0, route 0 and density 0.0
@@ -38,6 +40,8 @@ pub record ToWords (o : Operand) (out : List ℕ) (answer : Answer) (after : Lis
   pub refusing : Refusing o (wordsFor (lengthOf (o .form))) out answer after
   -- accepted: its rows bit by bit, their own count, route 0, their density, the tail and the later words
   pub accepted-writes : Accepted o → wordsFor (lengthOf (o .form)) ≤ length out → Writes (lengthOf (o .form)) (row o) 0 answer after out
+  -- the density told is the value of the format nearest to the told count over the length
+  pub accepted-density : Accepted o → wordsFor (lengthOf (o .form)) ≤ length out → 0 < lengthOf (o .form) → Nearest (answer .summary .count) (lengthOf (o .form)) (answer .summary .density)
   -- and what was written, read as words, is the same mask
   pub reads-back : Accepted o → wordsFor (lengthOf (o .form)) ≤ length out → let back = lent (Words 0 (lengthOf (o .form)) (countOf o)) after [] in Accepted back × (rowsOf back ≡ rowsOf o)
 
@@ -47,6 +51,7 @@ words-demands o out answer after e f =
     (record {
       refusing = record { refuses-exactly = to-words-refuses o out; accepts-exactly = to-words-accepts o out; refused-changes-nothing = to-words-refused o out };
       accepted-writes = to-words-writes o out;
+      accepted-density = λ a r. written-nearest (to-words-writes o out a r);
       reads-back = to-words-back o out;
     })
 
@@ -61,6 +66,8 @@ pub record ToList (o : Operand) (out : List ℕ) (answer : Answer) (after : List
   pub refusing : Refusing o (countOf o) out answer after
   -- accepted: its set rows as entries, as many as it counts, route 0, its density and the later entries
   pub accepted-lists : Accepted o → countOf o ≤ length out → Lists (lengthOf (o .form)) (rowsOf o) answer after out
+  -- the density told is the value of the format nearest to the told count over the length
+  pub accepted-density : Accepted o → countOf o ≤ length out → 0 < lengthOf (o .form) → Nearest (answer .summary .count) (lengthOf (o .form)) (answer .summary .density)
   -- and what was written, read as a list, is the same mask
   pub reads-back : Accepted o → countOf o ≤ length out → let back = lent (Listed (lengthOf (o .form))) [] (take (countOf o) after) in Accepted back × (rowsOf back ≡ rowsOf o)
 
@@ -70,6 +77,7 @@ list-demands o out answer after e f =
     (record {
       refusing = record { refuses-exactly = to-list-refuses o out; accepts-exactly = to-list-accepts o out; refused-changes-nothing = to-list-refused o out };
       accepted-lists = to-list-lists o out;
+      accepted-density = λ a r. listed-nearest o a (to-list-lists o out a r);
       reads-back = to-list-back o out;
     })
 

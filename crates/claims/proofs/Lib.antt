@@ -1,5 +1,6 @@
 pub mod Composition
 pub mod Conversions
+pub mod Densities
 pub mod Examples
 pub mod Once
 pub mod OnceInner

@@ -17,6 +17,7 @@ use Rattle.rules.specs.Operand.{Operand, lent, lengthOf}
 use Rattle.rules.specs.SetOps.{andNot, combined, combinedOut, negated, negatedOut}
 use Rattle.rules.proofs.AnswerLaws.{Bare}
 use Rattle.rules.proofs.Writes.{row, Writes}
+use Rattle.rules.proofs.Densities.{Nearest}
 use Rattle.rules.proofs.SetOperations.{Refuses, Accepts, NotRefuses, NotAccepts, combined-refuses, combined-accepts, combined-refused, combined-writes, not-refuses, not-accepts, not-refused, not-writes}
 use Rattle.bitops.proofs.and.Kinds as and-kinds
 use Rattle.bitops.proofs.and.Reads as and-reads
@@ -26,6 +27,7 @@ use Rattle.bitops.proofs.and_not.Kinds as and-not-kinds
 use Rattle.bitops.proofs.and_not.Reads as and-not-reads
 use Rattle.bitops.proofs.not.Kinds as not-kinds
 use Rattle.bitops.proofs.not.Reads as not-reads
+use Rattle.claims.proofs.Densities.{written-nearest}
 
 -- ---- two operands, by g row by row
 
@@ -38,6 +40,8 @@ pub record Demands (g : Bool → Bool → Bool) (a b : Operand) (out : List ℕ)
   pub refused-changes-nothing : answer .refusal .number ≢ 0 → (after ≡ out) × Bare answer
   -- accepted: the rows, their count, route 0, the density, the tail and the later words
   pub accepted-writes : Accepts a b (length out) → Writes (lengthOf (a .form)) (λ i. g (row a i) (row b i)) 0 answer after out
+  -- the density told is the value of the format nearest to the told count over the length
+  pub accepted-density : Accepts a b (length out) → 0 < lengthOf (a .form) → Nearest (answer .summary .count) (lengthOf (a .form)) (answer .summary .density)
 
 demands : (g : Bool → Bool → Bool) (a b : Operand) (out : List ℕ) (answer : Answer) (after : List ℕ)
     → answer ≡ combined g a b out → after ≡ combinedOut g a b out → Demands g a b out answer after
@@ -48,6 +52,7 @@ demands g a b out answer after e f =
       accepts-exactly = combined-accepts a b g out;
       refused-changes-nothing = combined-refused a b g out;
       accepted-writes = combined-writes a b g out;
+      accepted-density = λ t. written-nearest (combined-writes a b g out t);
     })
 
 pub and-demands : (κs : Lfts 5) (a : Dens κs and-kinds.ps) (x : resT and-kinds.r κs .Denot) (v : Lasts (endedOf 5 and-kinds.ps and-kinds.r) κs a) → and-reads.Post κs a x (atExit (endedOf 5 and-kinds.ps and-kinds.r) κs a v)
@@ -69,6 +74,7 @@ pub record NotDemands (a : Operand) (out : List ℕ) (answer : Answer) (after : 
   pub accepts-exactly : (answer .refusal .number ≡ 0) ↔ NotAccepts a (length out)
   pub refused-changes-nothing : answer .refusal .number ≢ 0 → (after ≡ out) × Bare answer
   pub accepted-writes : NotAccepts a (length out) → Writes (lengthOf (a .form)) (λ i. not (row a i)) 0 answer after out
+  pub accepted-density : NotAccepts a (length out) → 0 < lengthOf (a .form) → Nearest (answer .summary .count) (lengthOf (a .form)) (answer .summary .density)
 
 one-demands : (a : Operand) (out : List ℕ) (answer : Answer) (after : List ℕ) → answer ≡ negated a out → after ≡ negatedOut a out → NotDemands a out answer after
 one-demands a out answer after e f =
@@ -78,6 +84,7 @@ one-demands a out answer after e f =
       accepts-exactly = not-accepts a out;
       refused-changes-nothing = not-refused a out;
       accepted-writes = not-writes a out;
+      accepted-density = λ t. written-nearest (not-writes a out t);
     })
 
 pub not-demands : (κs : Lfts 3) (a : Dens κs not-kinds.ps) (x : resT not-kinds.r κs .Denot) (v : Lasts (endedOf 3 not-kinds.ps not-kinds.r) κs a) → not-reads.Post κs a x (atExit (endedOf 3 not-kinds.ps not-kinds.r) κs a v)

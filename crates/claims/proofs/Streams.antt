@@ -26,9 +26,11 @@ use Rattle.rules.proofs.Writes.{bitAt, row}
 use Rattle.rules.proofs.Compositions.{composed-accepts, composed-row}
 use Rattle.rules.proofs.StreamLaws.{Within, Accepts}
 use Rattle.rules.proofs.Feeds.{Refuses, Feeds, fed-refuses, fed-accepts, fed-refused, fed-within, fed-feeds}
+use Rattle.rules.proofs.Densities.{Nearest}
 use Rattle.rules.proofs.Demand3.{forward, converse, converse-in-words}
 use Rattle.composer.proofs.feed.Kinds as kinds
 use Rattle.composer.proofs.feed.Reads as reads
+use Rattle.claims.proofs.Densities.{fed-nearest}
 
 -- ---- one call
 
@@ -64,6 +66,10 @@ module _ (κs : Lfts 5) (a : Dens κs kinds.ps) where
     -- accepted: the piece's rows from done on and no other bit, its count, route and density, and the state moved
     pub accepted-feed-writes : Accepts state pair (length out) → Feeds state pair gave (left v) out
     accepted-feed-writes = rw (allowed .0, allowed .1) (fed-feeds state pair out)
+
+    -- the density told is the value of the format nearest to the told count over the piece's length
+    pub accepted-feed-density : Accepts state pair (length out) → 0 < long pair → Nearest (gave .answer .summary .count) (long pair) (gave .answer .summary .density)
+    accepted-feed-density t = fed-nearest t (accepted-feed-writes t)
 
     -- and the state is within refusal 10's bound again
     pub feed-keeps-bound : Accepts state pair (length out) → Within (gave .state)
