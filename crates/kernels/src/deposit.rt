@@ -70,11 +70,13 @@ pub fn read_chunks(
     while row.0 < len {
         let n = chunk_len(len, row.0);
         let mask = self_bits(words, start, row, n);
-        let count = u64::count_ones(mask);
         let source = rank_bits(ranks, from, rank);
+        let count = u64::count_ones(mask);
         push_result_chunk(way, mask, count, n, source, at, row, out);
-        rank = Rank(rank.0 + count as u64);
-        row = Row(row.0 + n);
+        let past = rank.0 + count as u64;
+        rank = Rank(past);
+        let below = row.0 + n;
+        row = Row(below);
     }
 }
 
@@ -134,7 +136,9 @@ pub fn gather_chunks(
         let gathered = rank_bits_for_chunk(ranks, next, rank, set as u64);
         push_result_chunk(way, mask, set, n, gathered.bits, at, row, out);
         next = gathered.next;
-        rank = Rank(rank.0 + set as u64);
-        row = Row(row.0 + n);
+        let past = rank.0 + set as u64;
+        rank = Rank(past);
+        let below = row.0 + n;
+        row = Row(below);
     }
 }

@@ -37,11 +37,12 @@ pub fn read_words(
     let mut rank = Rank(0);
     while i < n {
         let mask = whole_word(words, start, i);
-        let count = u64::count_ones(mask);
         let source = rank_bits(ranks, from, rank);
+        let count = u64::count_ones(mask);
         let at = to + i;
         out[at] = deposit_bits(way, source, mask, count);
-        rank = Rank(rank.0 + count as u64);
+        let past = rank.0 + count as u64;
+        rank = Rank(past);
         i += 1;
     }
     rank
@@ -71,7 +72,8 @@ pub fn gather_words(
         let at = to + i;
         out[at] = deposit_bits(way, gathered.bits, mask, set);
         next = gathered.next;
-        rank = Rank(rank.0 + set as u64);
+        let past = rank.0 + set as u64;
+        rank = Rank(past);
         i += 1;
     }
     Reached { rank, next }
