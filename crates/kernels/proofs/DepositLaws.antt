@@ -1,18 +1,18 @@
 -- One chunk of self with its rank bits deposited is one chunk more of the composition. By PDEP against composition, and by
 -- the split law: the ranks of a chunk start at the count of what stands before it.
 -- Assumes nothing.
-use Prim.Native.Nat.{ℕ, _+_, _-_, _*_, _≤_, _<_, min}
-use mathlib.Core.Path.{_≡_, sym, ap, _∙_}
+use Prim.Native.Nat.{ℕ, _+_, _-_, _*_, _^_, _≤_, _<_, min}
+use mathlib.Core.Path.{_≡_, refl, sym, ap, ap₂, _∙_}
 use mathlib.Core.Bool.{Bool}
 use mathlib.Core.List.{List}
 use native.Mathlib.Omega.{arith}
-use native.Mathlib.Nat.{zero-add}
+use native.Mathlib.Nat.{add-zero, add-assoc, zero-add}
 use lib.ListN.{length, take, drop, take-append-drop}
 use lib.Seq.{take-take}
 use lib.Count.{ones}
 use Rattle.rows.specs.Rows.{count, compose}
 use Rattle.rows.specs.Word.{bitsOf, wordOf}
-use Rattle.rows.specs.Words.{fit, bitsOfAll, view}
+use Rattle.rows.specs.Words.{Below, fit, bitsOfAll, view}
 use Rattle.rows.specs.Lists.{tab, member, listed}
 use Rattle.rows.specs.Pdep.{pdep}
 use Rattle.rows.specs.Laid.{laid}
@@ -21,7 +21,7 @@ use Rattle.rows.proofs.WordLaws.{ones-word}
 use Rattle.rows.proofs.WordsLaws.{fit-length, fit-all, bitsOf-wordOf-fit, view-length}
 use Rattle.rows.proofs.FitLaws.{fit-is-take, take-fit, compose-split, compose-take, compose-fit, compose-cut, view-step}
 use Rattle.rows.proofs.PdepLaws.{pdep-is}
-use Rattle.rows.proofs.LaidLaws.{laid-append}
+use Rattle.rows.proofs.LaidLaws.{laid-nil, laid-length, laid-append}
 use Rattle.kernels.proofs.GatherLaws.{tab-part}
 
 -- t is a chunk of n rows, r the ranks from its first on, and the source has as many of them as t sets
@@ -36,6 +36,25 @@ deposited-chunk n source t r long short same =
 pub read-same : (t r : List Bool) → length t ≤ 64 → compose t (bitsOf 64 (wordOf (fit 64 r))) ≡ compose t r
 read-same t r short =
     ap (compose t) (bitsOf-wordOf-fit 64 (fit 64 r) ∙ fit-all 64 (fit 64 r) (fit-length 64 r)) ∙ compose-fit 64 t r (omega (arith, count-le-length t))
+
+-- how many rows a chunk has, by the rows that are left
+pub chunk-sized : (n row len : ℕ) → row < len → n ≡ min 64 (len - row) → (0 < n) × (n ≤ 64) × (row + n ≤ len)
+chunk-sized n row len h e = (omega arith, omega arith, omega arith)
+
+-- a chunk has no more set rows than rows
+pub chunk-few : (n : ℕ) (bs : List Bool) → ones (wordOf (fit n bs)) ≤ n
+chunk-few n bs = omega (arith, ones-word (fit n bs), count-le-length (fit n bs), fit-length n bs)
+
+-- the rows before `row` are laid from a first rank on: the rank after them, and the words of the output
+pub record Deposited (start at first : ℕ) (ws out₀ : List ℕ) (r : List Bool) (row rank : ℕ) (out : List ℕ) : Type 0 where
+  pub few : rank ≤ first + row
+  pub counted : rank ≡ first + count (view start row ws)
+  pub long : length out ≡ length out₀
+  pub composed : out ≡ laid at (compose (view start row ws) r) out₀
+
+pub deposited-none : (start at first : ℕ) (ws out : List ℕ) (r : List Bool) → Below (2 ^ 64) out → Deposited start at first ws out r 0 first out
+deposited-none start at first ws out r b =
+    record { few = omega arith; counted = sym (add-zero first); long = refl; composed = sym (laid-nil 64 at out b) }
 
 module _ (start row n at : ℕ) (ws out : List ℕ) (r : List Bool) (reach : start + row + n ≤ length ws * 64) where
   abbrev done : List Bool
@@ -64,13 +83,21 @@ module _ (start row n at : ℕ) (ws out : List ℕ) (r : List Bool) (reach : sta
       ap (λ (l : List Bool). laid (at + row) l (laid at (compose done r) out)) (deposited-chunk n source next (drop (count done) r) (fit-length n (drop (start + row) (bitsOfAll 64 ws))) short same)
       ∙ laid-turn
 
--- how many rows a chunk has, by the rows that are left
-pub chunk-sized : (n row len : ℕ) → row < len → n ≡ min 64 (len - row) → (0 < n) × (n ≤ 64) × (row + n ≤ len)
-chunk-sized n row len h e = (omega arith, omega arith, omega arith)
-
--- a chunk has no more set rows than rows
-pub chunk-few : (n : ℕ) (bs : List Bool) → ones (wordOf (fit n bs)) ≤ n
-chunk-few n bs = omega (arith, ones-word (fit n bs), count-le-length (fit n bs), fit-length n bs)
+  -- one chunk more
+  pub deposited-turn : n ≤ 64 → (first rank mask source : ℕ) (o then : List ℕ) → Deposited start at first ws out r row rank o
+      → mask ≡ wordOf next
+      → compose next (bitsOf 64 source) ≡ compose next (drop (count done) r)
+      → then ≡ laid (at + row) (bitsOf n (pdep 64 source mask)) o → Deposited start at first ws out r (row + n) (rank + ones mask) then
+  deposited-turn short first rank mask source o then d m same e =
+      let on : then ≡ laid at (compose (view start (row + n) ws) r) out =
+      e ∙ ap₂ (λ (x : ℕ) (l : List ℕ). laid (at + row) (bitsOf n (pdep 64 source x)) l) m (d .composed) ∙ chunk-turn short source same in
+      record {
+        few = omega (arith, d .few, ap ones m, chunk-few n (drop (start + row) (bitsOfAll 64 ws)));
+        counted = ap₂ (λ (x y : ℕ). x + ones y) (d .counted) m ∙ add-assoc first (count done) (ones (wordOf next))
+            ∙ ap (λ (k : ℕ). first + k) (sym rank-turn);
+        long = ap length on ∙ laid-length 64 at (compose (view start (row + n) ws) r) out;
+        composed = on;
+      }
 
 -- rank bits gathered from a list: those of a part of the listed ranks, as many as the chunk sets
 pub gathered-same : (t : List Bool) (rank len : ℕ) (es : List ℕ) → length t ≤ 64 → rank + count t ≤ len
