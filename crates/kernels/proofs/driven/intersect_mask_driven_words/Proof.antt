@@ -32,54 +32,85 @@ Inv-loop words start len ranks from ranklen at out₀ place₀ rank₀ out place
 abbrev μ-loop : tie.MeasureT-loop
 μ-loop words start len ranks from ranklen at out₀ place₀ rank₀ out place rank = ranklen - rank .0
 
+-- ---- the places, each from the one after it
+
+abbrev entry : tie.After-slice-known Inv-loop μ-loop → tie.Start Inv-loop μ-loop
+entry c = c .before .before .before
+
+abbrev head : tie.Then1 Inv-loop μ-loop → tie.At-loop Inv-loop μ-loop
+head c = c .before .before
+
+abbrev start : tie.Then1 Inv-loop μ-loop → tie.Start Inv-loop μ-loop
+start c = entry (head c .before)
+
+abbrev turn : tie.After-rank-chunk Inv-loop μ-loop → tie.Then1 Inv-loop μ-loop
+turn c = c .before
+
+abbrev read : tie.After-mark-chunk Inv-loop μ-loop → tie.After-rank-chunk Inv-loop μ-loop
+read c = c .before .before
+
+abbrev back : tie.After-struct-known2 Inv-loop μ-loop → tie.After-mark-chunk Inv-loop μ-loop
+back c = c .before .before .before
+
+abbrev last : tie.Else1 Inv-loop μ-loop → tie.At-loop Inv-loop μ-loop
+last c = c .before .before
+
+-- ---- what is lent: self's rows, and as many rank bits as it sets
+
+module _ (c : tie.Start Inv-loop μ-loop) where
+  abbrev self : List Bool
+  self = view (c .args .start) (c .args .len) (now (c .args .words))
+
+  abbrev r : List Bool
+  r = view (c .args .from) (c .args .ranklen) (now (c .args .ranks))
+
+  long : length r ≡ c .args .ranklen
+  long = view-length (c .args .from) (c .args .ranklen) (now (c .args .ranks)) (c .pre .3)
+
+-- ---- the answers
+
 loop-holds : tie.Need-loop-holds Inv-loop μ-loop
 loop-holds c = (refl, refl, omega arith, refl)
 
 rank-chunk-requires : tie.Need-rank-chunk-requires Inv-loop μ-loop
-rank-chunk-requires c κs = (c .before .before .before .before .before .before .pre .3, omega arith)
+rank-chunk-requires c κs = (start c .pre .3, omega arith)
 
 mark-chunk-requires : tie.Need-mark-chunk-requires Inv-loop μ-loop
 mark-chunk-requires c κs =
-    let l = c .before .before .before .before in
-    let s = l .before .before .before .before in
-    let a = s .args in
-    let i = l .loop .inv in
-    let v = view (a .start) (a .len) (now (a .words)) in
-    let r = view (a .from) (a .ranklen) (now (a .ranks)) in
-    let long : length r ≡ a .ranklen = view-length (a .from) (a .ranklen) (now (a .ranks)) (s .pre .3) in (
+    let t = turn (c .before) in
+    let s = start t in
+    let l = head t .loop in
+    let ups = chunk-ranks (r s) (l .rank .0) (l .place .passed .0) (count (self s)) (l .inv .2) (omega (arith, long s)) (omega (arith, long s, s .pre .1)) in (
       s .pre .0,
-      (omega (arith, i .0, s .pre .4 .0), s .pre .4 .1),
-      i .1,
-      i .2,
-      rw (c .before .rank-chunk .ensures) (chunk-ranks r (l .loop .rank .0) (l .loop .place .passed .0) (count v) (i .2) (omega arith) (omega (arith, s .pre .1))),
+      (omega (arith, l .inv .0, s .pre .4 .0), s .pre .4 .1),
+      l .inv .1,
+      l .inv .2,
+      rw (c .before .rank-chunk .ensures) ups,
     )
 
 add-t17 : tie.Need-add-t17 Inv-loop μ-loop
 add-t17 c =
-    let s = c .before .before .before .before .before .before .before .before .before .before .before .before in
-    let a = s .args in
-    omega (arith, view-few (a .start) (a .len) (now (a .words)) (s .pre .0 .2), s .pre .1)
+    let s = start (turn (read (back c))) in
+    omega (arith, view-few (s .args .start) (s .args .len) (now (s .args .words)) (s .pre .0 .2), s .pre .1)
 
 loop-less : tie.Need-loop-less Inv-loop μ-loop
 loop-less c = omega arith
 
 loop-again : tie.Need-loop-again Inv-loop μ-loop
 loop-again c =
-    let k = c .before .before .before .before .before in
-    let l = k .before .before .before .loop in
-    let s = k .before .before .before .before .before .before .before in
+    let m = back c .mark-chunk .ensures in
+    let k = read (back c) in
+    let s = start (turn k) in
     let a = s .args in
-    let m = c .before .before .before .mark-chunk .ensures in
-    let f : ℕ → ℕ = select (view (a .start) (a .len) (now (a .words))) in
-    let r = view (a .from) (a .ranklen) (now (a .ranks)) in
-    let done : ℕ = l .rank .0 in
-    let long : length r ≡ a .ranklen = view-length (a .from) (a .ranklen) (now (a .ranks)) (s .pre .3) in (
+    let l = head (turn k) .loop in
+    let f : ℕ → ℕ = select (self s) in
+    let done : ℕ = l .rank .0 in (
       ap length (m .2) ∙ marked-length (a .at) (map f (setRows done (bitsOf 64 (k .rank-chunk .result)))) (l .out) ∙ l .inv .0,
       m .0,
       m .1,
       m .2 ∙ ap (λ (x : ℕ). marked (a .at) (map f (setRows done (bitsOf 64 x))) (l .out)) (k .rank-chunk .ensures)
-          ∙ ap (marked (a .at) (map f (setRows done (bitsOf 64 (wordOf (chunkAt r done)))))) (l .inv .3)
-          ∙ chunk-marks (a .at) f r done (now (a .out)) (omega arith),
+          ∙ ap (marked (a .at) (map f (setRows done (bitsOf 64 (wordOf (chunkAt (r s) done)))))) (l .inv .3)
+          ∙ chunk-marks (a .at) f (r s) done (now (a .out)) (omega (arith, long s)),
     )
 
 same-length : tie.Need-same-length Inv-loop μ-loop
@@ -87,14 +118,12 @@ same-length c = search needs
 
 returns : tie.Need-returns Inv-loop μ-loop
 returns c =
-    let l = c .before .before .loop in
-    let s = c .before .before .before .before .before .before in
+    let l = last c .loop in
+    let s = entry (last c .before) in
     let a = s .args in
-    let v = view (a .start) (a .len) (now (a .words)) in
-    let r = view (a .from) (a .ranklen) (now (a .ranks)) in
-    let long : length r ≡ a .ranklen = view-length (a .from) (a .ranklen) (now (a .ranks)) (s .pre .3) in
-    l .inv .3 ∙ ap (λ (t : List Bool). marked (a .at) (map (select v) (setRows 0 t)) (now (a .out))) (take-all (l .rank .0) r (omega arith))
-    ∙ ap (λ (rs : List ℕ). marked (a .at) rs (now (a .out))) (sym (rows-compose-list v r (long ∙ s .pre .1)))
+    let all = take-all (l .rank .0) (r s) (omega (arith, long s)) in
+    l .inv .3 ∙ ap (λ (t : List Bool). marked (a .at) (map (select (self s)) (setRows 0 t)) (now (a .out))) all
+    ∙ ap (λ (rs : List ℕ). marked (a .at) rs (now (a .out))) (sym (rows-compose-list (self s) (r s) (long s ∙ s .pre .1)))
 
 pub intersect-mask-driven-words-spec : {M : Type 1} → statement M
 intersect-mask-driven-words-spec =

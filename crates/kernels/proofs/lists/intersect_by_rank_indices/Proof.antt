@@ -21,10 +21,73 @@ use Rattle.kernels.proofs.lists.intersect_by_rank_indices.Tie as tie
 
 abbrev Inv-loop : tie.InvT-loop
 Inv-loop rows ranks len at out₀ i₀ out i =
-    (i ≤ length ranks) × (length out ≡ length out₀) × (out ≡ marked at (take i (setRows 0 (compose (listed len rows) (listed (length rows) ranks)))) out₀)
+    (i ≤ length ranks) × (length out ≡ length out₀)
+    × (out ≡ marked at (take i (setRows 0 (compose (listed len rows) (listed (length rows) ranks)))) out₀)
 
 abbrev μ-loop : tie.MeasureT-loop
 μ-loop rows ranks len at out₀ i₀ out i = length ranks - i
+
+-- ---- the places, each from the one after it
+
+abbrev entry : tie.After-slice-known Inv-loop μ-loop → tie.Start Inv-loop μ-loop
+entry c = c .before .before .before
+
+abbrev head : tie.After-shared-slice-known3 Inv-loop μ-loop → tie.At-loop Inv-loop μ-loop
+head c = c .before .before
+
+abbrev start : tie.After-shared-slice-known3 Inv-loop μ-loop → tie.Start Inv-loop μ-loop
+start c = entry (head c .before)
+
+abbrev turn : tie.After-entry-at Inv-loop μ-loop → tie.After-shared-slice-known3 Inv-loop μ-loop
+turn c = c .before
+
+abbrev found : tie.After-mark-row Inv-loop μ-loop → tie.After-entry-at Inv-loop μ-loop
+found c = c .before .before
+
+abbrev back : tie.After-slice-known2 Inv-loop μ-loop → tie.After-mark-row Inv-loop μ-loop
+back c = c .before .before
+
+abbrev last : tie.After-loop Inv-loop μ-loop → tie.At-loop Inv-loop μ-loop
+last c = c .before
+
+-- ---- the rows of the composition, one for each listed rank
+
+module _ (c : tie.Start Inv-loop μ-loop) where
+  abbrev rows : List ℕ
+  rows = now (c .args .rows)
+
+  abbrev ranks : List ℕ
+  ranks = now (c .args .ranks)
+
+  abbrev result : List ℕ
+  result = setRows 0 (compose (listed (c .args .len) rows) (listed (length rows) ranks))
+
+  long : length result ≡ length ranks
+  long = ranked-length (c .args .len) rows ranks (c .pre .0) (c .pre .1)
+
+-- ---- a turn: the listed rank is one of self's, and its entry is the composition's row
+
+module _ (c : tie.After-shared-slice-known3 Inv-loop μ-loop) where
+  abbrev i : ℕ
+  i = head c .loop .i
+
+  abbrev rank : ℕ
+  rank = getD (ranks (start c)) i 0
+
+  ranked : rank < length (rows (start c))
+  ranked =
+      let n : ℕ = length (rows (start c)) in
+      below-at n (ranks (start c)) i (ascending-below 0 n (ranks (start c)) (start c .pre .1)) (omega arith)
+
+  row : getD (rows (start c)) rank 0 < start c .args .len
+  row =
+      let len : ℕ = start c .args .len in
+      below-at len (rows (start c)) rank (ascending-below 0 len (rows (start c)) (start c .pre .0)) ranked
+
+  composed : getD (result (start c)) i 0 ≡ getD (rows (start c)) rank 0
+  composed = ranked-at (start c .args .len) (rows (start c)) (ranks (start c)) (start c .pre .0) (start c .pre .1) i (omega arith)
+
+-- ---- the answers
 
 loop-holds : tie.Need-loop-holds Inv-loop μ-loop
 loop-holds c = (omega arith, refl, refl)
@@ -36,29 +99,17 @@ shared-slice-read-entry : tie.Need-shared-slice-read-entry Inv-loop μ-loop
 shared-slice-read-entry c = omega arith
 
 cast-entry : tie.Need-cast-entry Inv-loop μ-loop
-cast-entry c = omega (arith, c .shared-slice-known3 .given (c .before .before .loop .i))
-
--- the listed rank is one of self's
-ranked : (c : tie.After-shared-slice-known3 Inv-loop μ-loop)
-    → getD (now (c .before .before .before .before .before .before .args .ranks)) (c .before .before .loop .i) 0 < length (now (c .before .before .before .before .before .before .args .rows))
-ranked c =
-    let s = c .before .before .before .before .before .before in
-    let n : ℕ = length (now (s .args .rows)) in
-    below-at n (now (s .args .ranks)) (c .before .before .loop .i) (ascending-below 0 n (now (s .args .ranks)) (s .pre .1)) (omega arith)
+cast-entry c = omega (arith, c .shared-slice-known3 .given (i c))
 
 entry-at-requires : tie.Need-entry-at-requires Inv-loop μ-loop
 entry-at-requires c κs = ranked c
 
 mark-row-requires : tie.Need-mark-row-requires Inv-loop μ-loop
 mark-row-requires c κs =
-    let k = c .before .before in
-    let l = k .before .before in
-    let s = l .before .before .before .before in
-    let a = s .args in
-    let rank : ℕ = getD (now (a .ranks)) (l .loop .i) 0 in
-    let row : getD (now (a .rows)) rank 0 < a .len = below-at (a .len) (now (a .rows)) rank (ascending-below 0 (a .len) (now (a .rows)) (s .pre .0)) (ranked k) in
-    let e : c .before .entry-at .result .0 ≡ getD (now (a .rows)) rank 0 = c .before .entry-at .ensures in
-    (omega (arith, s .pre .2 .0, l .loop .inv .1), omega (arith, s .pre .2 .1))
+    let e = c .before in
+    let k = turn e in
+    let room = start k .pre .2 in
+    (omega (arith, row k, e .entry-at .ensures, room .0, head k .loop .inv .1), omega (arith, row k, e .entry-at .ensures, room .1))
 
 add-i : tie.Need-add-i Inv-loop μ-loop
 add-i c = omega arith
@@ -68,20 +119,18 @@ loop-less c = omega arith
 
 loop-again : tie.Need-loop-again Inv-loop μ-loop
 loop-again c =
-    let k = c .before .before .before .before in
-    let l = k .before .before .before .loop in
-    let s = k .before .before .before .before .before .before .before in
+    let m = back c in
+    let e = found m in
+    let k = turn e in
+    let s = start k in
     let a = s .args in
-    let rows = now (a .rows) in
-    let ranks = now (a .ranks) in
-    let result = setRows 0 (compose (listed (a .len) rows) (listed (length rows) ranks)) in
-    let e = c .before .before .mark-row .ensures in
-    let row : k .entry-at .result .0 ≡ getD result (l .i) 0 = k .entry-at .ensures ∙ sym (ranked-at (a .len) rows ranks (s .pre .0) (s .pre .1) (l .i) (omega arith)) in (
+    let l = head k .loop in (
       omega arith,
-      ap length e ∙ laid-length 64 (a .at + k .entry-at .result .0) (true ∷ []) (l .out) ∙ l .inv .1,
-      e ∙ ap₂ (λ (x : ℕ) (o : List ℕ). laid (a .at + x) (true ∷ []) o) row (l .inv .2)
-          ∙ marked-next (a .at) (l .i) result (now (a .out)) (omega (arith, ranked-length (a .len) rows ranks (s .pre .0) (s .pre .1)))
-          ∙ ap (λ (j : ℕ). marked (a .at) (take j result) (now (a .out))) (sym (add-one (l .i))),
+      ap length (m .mark-row .ensures) ∙ laid-length 64 (a .at + e .entry-at .result .0) (true ∷ []) (l .out) ∙ l .inv .1,
+      m .mark-row .ensures
+          ∙ ap₂ (λ (x : ℕ) (o : List ℕ). laid (a .at + x) (true ∷ []) o) (e .entry-at .ensures ∙ sym (composed k)) (l .inv .2)
+          ∙ marked-next (a .at) (l .i) (result s) (now (a .out)) (omega (arith, long s))
+          ∙ ap (λ (j : ℕ). marked (a .at) (take j (result s)) (now (a .out))) (sym (add-one (l .i))),
     )
 
 same-length : tie.Need-same-length Inv-loop μ-loop
@@ -89,10 +138,9 @@ same-length c = search needs
 
 returns : tie.Need-returns Inv-loop μ-loop
 returns c =
-    let s = c .before .before .before .before .before in
-    let a = s .args in
-    let l = c .before .loop in
-    l .inv .2 ∙ ap (λ (rs : List ℕ). marked (a .at) rs (now (a .out))) (take-all (l .i) _ (omega (arith, ranked-length (a .len) (now (a .rows)) (now (a .ranks)) (s .pre .0) (s .pre .1))))
+    let l = last c .loop in
+    let s = entry (last c .before) in
+    l .inv .2 ∙ ap (λ (rs : List ℕ). marked (s .args .at) rs (now (s .args .out))) (take-all (l .i) (result s) (omega (arith, long s)))
 
 pub intersect-by-rank-indices-spec : {M : Type 1} → statement M
 intersect-by-rank-indices-spec =
