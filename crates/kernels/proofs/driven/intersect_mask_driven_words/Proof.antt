@@ -77,7 +77,8 @@ rank-chunk-requires c κs = (start c .pre .3, omega arith)
 
 mark-chunk-requires : tie.Need-mark-chunk-requires Inv-loop μ-loop
 mark-chunk-requires c κs =
-    let t = turn (c .before) in
+    let k = c .before in
+    let t = turn k in
     let s = start t in
     let l = head t .loop in
     let ups = chunk-ranks (r s) (l .rank .0) (l .place .passed .0) (count (self s)) (l .inv .2) (omega (arith, long s)) (omega (arith, long s, s .pre .1)) in (
@@ -85,7 +86,7 @@ mark-chunk-requires c κs =
       (omega (arith, l .inv .0, s .pre .4 .0), s .pre .4 .1),
       l .inv .1,
       l .inv .2,
-      rw (c .before .rank-chunk .ensures) ups,
+      rw (k .rank-chunk .ensures) ups,
     )
 
 add-t17 : tie.Need-add-t17 Inv-loop μ-loop

@@ -77,7 +77,7 @@ module _ (c : tie.In-loop Inv-loop μ-loop) where
   goal = marked (start c .args .at) (map (select self) (setRows base (bitsOf 64 (start c .args .chunk)))) (now (start c .args .out))
 
   left : Left self (start c .args .at) (head c .loop .place) (lowest ∷ others) (head c .loop .out) goal
-  left = rw (rows-low base 64 rest (omega arith) (head c .loop .inv .0)) at (c .before .loop .inv .3)
+  left = rw (rows-low base 64 rest (omega arith) (head c .loop .inv .0)) at (head c .loop .inv .3)
 
 -- ---- the answers
 

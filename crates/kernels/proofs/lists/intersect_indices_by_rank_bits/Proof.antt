@@ -76,14 +76,15 @@ rank-chunk-requires c κs = (start c .pre .2, omega arith)
 
 mark-entries-requires : tie.Need-mark-entries-requires Inv-loop μ-loop
 mark-entries-requires c κs =
-    let t = turn (c .before) in
+    let k = c .before in
+    let t = turn k in
     let s = start t in
     let n : ℕ = length (rows s) in
     let done : ℕ = head t .loop .rank .0 in
     let ups = chunk-ranks (r s) done 0 n (omega arith) (omega (arith, long s)) (omega (arith, long s)) in (
       ascending-below 0 (s .args .len) (rows s) (s .pre .0),
       (omega (arith, head t .loop .inv .0, s .pre .3 .0), s .pre .3 .1),
-      rw (c .before .rank-chunk .ensures) (ascending-below 0 n (setRows done (bitsOf 64 (wordOf (chunkAt (r s) done)))) ups),
+      rw (k .rank-chunk .ensures) (ascending-below 0 n (setRows done (bitsOf 64 (wordOf (chunkAt (r s) done)))) ups),
     )
 
 add-t15 : tie.Need-add-t15 Inv-loop μ-loop

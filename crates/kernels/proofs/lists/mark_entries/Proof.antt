@@ -79,7 +79,7 @@ module _ (c : tie.In-loop Inv-loop μ-loop) where
   split = rows-low base 64 rest (omega arith) (head c .loop .inv .0)
 
   below : (lowest < length rows) × Below (length rows) others
-  below = rw split at (c .before .loop .inv .2)
+  below = rw split at (head c .loop .inv .2)
 
   row : getD rows lowest 0 < start c .args .len
   row = below-at (start c .args .len) rows lowest (start c .pre .0) (below .0)
