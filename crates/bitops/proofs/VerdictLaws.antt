@@ -10,9 +10,9 @@ use Rattle.rows.proofs.BothLaws.{both-length, both-not}
 use Rattle.rules.specs.Operand.{Operand, rowsOf, lengthOf}
 use Rattle.rules.specs.SetOps.{combination}
 use Rattle.rules.proofs.SetOperations.{Taken}
-use Rattle.mask.specs.Flat.{Flat, flat, Abreast}
-use Rattle.mask.proofs.NumberLaws.{no-numbers}
-use Rattle.mask.proofs.FlatLaws.{accepted-flat, flat-rows, flat-length}
+use Rattle.operand.specs.Flat.{Flat, flat, Abreast}
+use Rattle.operand.proofs.NumberLaws.{no-numbers}
+use Rattle.operand.proofs.FlatLaws.{accepted-flat, flat-rows, flat-length}
 
 pub taken-flat : (o : Operand) → Taken o → Flat o
 taken-flat o t = accepted-flat o (no-numbers (o .form) (t .0)) (t .1)

@@ -5,7 +5,7 @@ ghost use denote.Ref.{now};
 ghost use Rattle.rules.specs.SetOps.{andNot, combined, combinedOut, negated, negatedOut};
 ghost use Rattle.rules.specs.Operand.{lent};
 use judge::judge_one;
-use mask::inner::answers::refused;
+use operand::inner::answers::refused;
 use rows::Verdict;
 use rules::Answer;
 use rules::Form;

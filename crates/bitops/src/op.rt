@@ -8,9 +8,9 @@ ghost use Rattle.rows.specs.Word.{bitsOf, wordOf, both};
 ghost use Rattle.rows.specs.Asks.{Chunk};
 ghost use Rattle.rules.specs.Operand.{lent, lengthOf};
 ghost use Rattle.rules.specs.SetOps.{combination, rowOf};
-ghost use Rattle.mask.specs.Flat.{Abreast};
+ghost use Rattle.operand.specs.Flat.{Abreast};
 use lent::inner::ones;
-use mask::inner::chunks::chunk_of;
+use operand::inner::chunks::chunk_of;
 use rules::Form;
 use rules::Operation;
 

@@ -31,7 +31,7 @@ use Rattle.composer.proofs.feed.Kinds as feed-kinds
 use Rattle.composer.proofs.feed.Reads as feed
 use Rattle.text.proofs.answer.Kinds as answer-kinds
 use Rattle.text.proofs.answer.Reads as answer
-use Rattle.probe.specs.Probe.{AnswerCells, Memory}
+use Rattle.cells.specs.Probe.{AnswerCells, Memory}
 use Rattle.probe.proofs.probe_deposit.Kinds as probe-deposit-kinds
 use Rattle.probe.proofs.probe_deposit.Reads as probe-deposit
 use Rattle.probe.proofs.probe_select.Kinds as probe-select-kinds

@@ -9,14 +9,14 @@ use Rattle.host.proofs.boltamber_deposit.Kinds as host-boltamber-deposit-kinds
 use Rattle.host.proofs.boltamber_deposit.Reads as host-boltamber-deposit
 use Rattle.host.proofs.boltamber_select.Kinds as host-boltamber-select-kinds
 use Rattle.host.proofs.boltamber_select.Reads as host-boltamber-select
-use Rattle.intersect_by_rank.proofs.inner.route.few.Kinds as intersect-by-rank-few-kinds
-use Rattle.intersect_by_rank.proofs.inner.route.few.Reads as intersect-by-rank-few
+use Rattle.routes.proofs.inner.few.Kinds as routes-few-kinds
+use Rattle.routes.proofs.inner.few.Reads as routes-few
 use Rattle.intersect_by_rank.proofs.inner.lay.compose_at.Kinds as intersect-by-rank-compose-at-kinds
 use Rattle.intersect_by_rank.proofs.inner.lay.compose_at.Reads as intersect-by-rank-compose-at
 use Rattle.intersect_by_rank.proofs.inner.lay.lay_composition.Kinds as intersect-by-rank-lay-composition-kinds
 use Rattle.intersect_by_rank.proofs.inner.lay.lay_composition.Reads as intersect-by-rank-lay-composition
-use Rattle.intersect_by_rank.proofs.inner.route.document_factors.Kinds as intersect-by-rank-document-factors-kinds
-use Rattle.intersect_by_rank.proofs.inner.route.document_factors.Reads as intersect-by-rank-document-factors
+use Rattle.routes.proofs.inner.document_factors.Kinds as routes-document-factors-kinds
+use Rattle.routes.proofs.inner.document_factors.Reads as routes-document-factors
 use Rattle.intersect_by_rank.proofs.inner.judge.judge_both.Kinds as intersect-by-rank-judge-both-kinds
 use Rattle.intersect_by_rank.proofs.inner.judge.judge_both.Reads as intersect-by-rank-judge-both
 use Rattle.intersect_by_rank.proofs.inner.compose.compose_with.Kinds as intersect-by-rank-compose-with-kinds
@@ -51,42 +51,44 @@ use Rattle.lent.proofs.inner.has_count.Kinds as lent-has-count-kinds
 use Rattle.lent.proofs.inner.has_count.Reads as lent-has-count
 use Rattle.lent.proofs.inner.count_view.Kinds as lent-count-view-kinds
 use Rattle.lent.proofs.inner.count_view.Reads as lent-count-view
-use Rattle.lent.proofs.inner.put.Kinds as lent-put-kinds
-use Rattle.lent.proofs.inner.put.Reads as lent-put
-use Rattle.lent.proofs.inner.clear.Kinds as lent-clear-kinds
-use Rattle.lent.proofs.inner.clear.Reads as lent-clear
-use Rattle.lent.proofs.inner.set_bit.Kinds as lent-set-bit-kinds
-use Rattle.lent.proofs.inner.set_bit.Reads as lent-set-bit
+use Rattle.laid.proofs.inner.put.Kinds as laid-put-kinds
+use Rattle.laid.proofs.inner.put.Reads as laid-put
+use Rattle.laid.proofs.inner.clear.Kinds as laid-clear-kinds
+use Rattle.laid.proofs.inner.clear.Reads as laid-clear
+use Rattle.laid.proofs.inner.set_bit.Kinds as laid-set-bit-kinds
+use Rattle.laid.proofs.inner.set_bit.Reads as laid-set-bit
 use Rattle.lent.proofs.inner.words_for.Kinds as lent-words-for-kinds
 use Rattle.lent.proofs.inner.words_for.Reads as lent-words-for
-use Rattle.lent.proofs.inner.clear_last.Kinds as lent-clear-last-kinds
-use Rattle.lent.proofs.inner.clear_last.Reads as lent-clear-last
-use Rattle.mask.proofs.inner.checks.check.Kinds as mask-check-kinds
-use Rattle.mask.proofs.inner.checks.check.Reads as mask-check
-use Rattle.mask.proofs.inner.checks.check_set.Kinds as mask-check-set-kinds
-use Rattle.mask.proofs.inner.checks.check_set.Reads as mask-check-set
-use Rattle.mask.proofs.inner.forms.length_of.Kinds as mask-length-of-kinds
-use Rattle.mask.proofs.inner.forms.length_of.Reads as mask-length-of
-use Rattle.mask.proofs.inner.forms.start_of.Kinds as mask-start-of-kinds
-use Rattle.mask.proofs.inner.forms.start_of.Reads as mask-start-of
-use Rattle.mask.proofs.inner.forms.count_of.Kinds as mask-count-of-kinds
-use Rattle.mask.proofs.inner.forms.count_of.Reads as mask-count-of
-use Rattle.mask.proofs.inner.forms.is_empty.Kinds as mask-is-empty-kinds
-use Rattle.mask.proofs.inner.forms.is_empty.Reads as mask-is-empty
-use Rattle.mask.proofs.inner.forms.is_full.Kinds as mask-is-full-kinds
-use Rattle.mask.proofs.inner.forms.is_full.Reads as mask-is-full
-use Rattle.mask.proofs.inner.chunks.chunk_of.Kinds as mask-chunk-of-kinds
-use Rattle.mask.proofs.inner.chunks.chunk_of.Reads as mask-chunk-of
+use Rattle.laid.proofs.inner.clear_last.Kinds as laid-clear-last-kinds
+use Rattle.laid.proofs.inner.clear_last.Reads as laid-clear-last
+use Rattle.operand.proofs.inner.checks.check.Kinds as operand-check-kinds
+use Rattle.operand.proofs.inner.checks.check.Reads as operand-check
+use Rattle.operand.proofs.inner.checks.check_set.Kinds as operand-check-set-kinds
+use Rattle.operand.proofs.inner.checks.check_set.Reads as operand-check-set
+use Rattle.operand.proofs.inner.forms.length_of.Kinds as operand-length-of-kinds
+use Rattle.operand.proofs.inner.forms.length_of.Reads as operand-length-of
+use Rattle.operand.proofs.inner.forms.start_of.Kinds as operand-start-of-kinds
+use Rattle.operand.proofs.inner.forms.start_of.Reads as operand-start-of
+use Rattle.operand.proofs.inner.forms.count_of.Kinds as operand-count-of-kinds
+use Rattle.operand.proofs.inner.forms.count_of.Reads as operand-count-of
+use Rattle.operand.proofs.inner.forms.is_empty.Kinds as operand-is-empty-kinds
+use Rattle.operand.proofs.inner.forms.is_empty.Reads as operand-is-empty
+use Rattle.operand.proofs.inner.forms.is_full.Kinds as operand-is-full-kinds
+use Rattle.operand.proofs.inner.forms.is_full.Reads as operand-is-full
+use Rattle.operand.proofs.inner.chunks.chunk_of.Kinds as operand-chunk-of-kinds
+use Rattle.operand.proofs.inner.chunks.chunk_of.Reads as operand-chunk-of
 use Rattle.mask.proofs.inner.lay.lay_rows.Kinds as mask-lay-rows-kinds
 use Rattle.mask.proofs.inner.lay.lay_rows.Reads as mask-lay-rows
 use Rattle.mask.proofs.inner.lay.write_rows.Kinds as mask-write-rows-kinds
 use Rattle.mask.proofs.inner.lay.write_rows.Reads as mask-write-rows
-use Rattle.mask.proofs.inner.answers.density.Kinds as mask-density-kinds
-use Rattle.mask.proofs.inner.answers.density.Reads as mask-density
-use Rattle.mask.proofs.inner.answers.accepted.Kinds as mask-accepted-kinds
-use Rattle.mask.proofs.inner.answers.accepted.Reads as mask-accepted
-use Rattle.mask.proofs.inner.answers.refused.Kinds as mask-refused-kinds
-use Rattle.mask.proofs.inner.answers.refused.Reads as mask-refused
+use Rattle.operand.proofs.inner.answers.density.Kinds as operand-density-kinds
+use Rattle.operand.proofs.inner.answers.density.Reads as operand-density
+use Rattle.operand.proofs.inner.answers.accepted.Kinds as operand-accepted-kinds
+use Rattle.operand.proofs.inner.answers.accepted.Reads as operand-accepted
+use Rattle.operand.proofs.inner.answers.refused.Kinds as operand-refused-kinds
+use Rattle.operand.proofs.inner.answers.refused.Reads as operand-refused
+use Rattle.network.proofs.inner.deposit_bytewise.Kinds as network-deposit-bytewise-kinds
+use Rattle.network.proofs.inner.deposit_bytewise.Reads as network-deposit-bytewise
 use Rattle.word.proofs.inner.deposit_portable.Kinds as word-deposit-portable-kinds
 use Rattle.word.proofs.inner.deposit_portable.Reads as word-deposit-portable
 use Rattle.word.proofs.inner.deposit_portable_loop.Kinds as word-deposit-portable-loop-kinds
@@ -115,18 +117,18 @@ use Rattle.rows.proofs.inner.answers.read_answer.Kinds as rows-read-answer-kind
 use Rattle.rows.proofs.inner.answers.read_answer.Reads as rows-read-answer
 use Rattle.word.proofs.inner.deposit_by.Kinds as word-deposit-by-kinds
 use Rattle.word.proofs.inner.deposit_by.Reads as word-deposit-by
-use Rattle.mask.proofs.inner.forms.counts_as_list.Kinds as mask-counts-as-list-kinds
-use Rattle.mask.proofs.inner.forms.counts_as_list.Reads as mask-counts-as-list
-use Rattle.mask.proofs.inner.forms.has_row_numbers.Kinds as mask-has-row-numbers-kinds
-use Rattle.mask.proofs.inner.forms.has_row_numbers.Reads as mask-has-row-numbers
-use Rattle.intersect_by_rank.proofs.inner.route.number.Kinds as intersect-by-rank-number-kinds
-use Rattle.intersect_by_rank.proofs.inner.route.number.Reads as intersect-by-rank-number
-use Rattle.intersect_by_rank.proofs.inner.route.choose_route.Kinds as intersect-by-rank-choose-route-kinds
-use Rattle.intersect_by_rank.proofs.inner.route.choose_route.Reads as intersect-by-rank-choose-route
+use Rattle.operand.proofs.inner.forms.counts_as_list.Kinds as operand-counts-as-list-kinds
+use Rattle.operand.proofs.inner.forms.counts_as_list.Reads as operand-counts-as-list
+use Rattle.operand.proofs.inner.forms.has_row_numbers.Kinds as operand-has-row-numbers-kinds
+use Rattle.operand.proofs.inner.forms.has_row_numbers.Reads as operand-has-row-numbers
+use Rattle.routes.proofs.inner.number.Kinds as routes-number-kinds
+use Rattle.routes.proofs.inner.number.Reads as routes-number
+use Rattle.routes.proofs.inner.choose_route.Kinds as routes-choose-route-kinds
+use Rattle.routes.proofs.inner.choose_route.Reads as routes-choose-route
 use Rattle.intersect_by_rank.proofs.inner.judge.judge.Kinds as intersect-by-rank-judge-kinds
 use Rattle.intersect_by_rank.proofs.inner.judge.judge.Reads as intersect-by-rank-judge
-use Rattle.lent.proofs.inner.copy_words.Kinds as lent-copy-words-kinds
-use Rattle.lent.proofs.inner.copy_words.Reads as lent-copy-words
+use Rattle.laid.proofs.inner.copy_words.Kinds as laid-copy-words-kinds
+use Rattle.laid.proofs.inner.copy_words.Reads as laid-copy-words
 
 pub host-boltamber-deposit-one : OneAnswer 0 host-boltamber-deposit-kinds.ps host-boltamber-deposit-kinds.r host-boltamber-deposit.Pre host-boltamber-deposit.Post
 host-boltamber-deposit-one κs a p x y v w hv hw = (hv ∙ sym hw, refl)
@@ -134,8 +136,8 @@ host-boltamber-deposit-one κs a p x y v w hv hw = (hv ∙ sym hw, refl)
 pub host-boltamber-select-one : OneAnswer 0 host-boltamber-select-kinds.ps host-boltamber-select-kinds.r host-boltamber-select.Pre host-boltamber-select.Post
 host-boltamber-select-one κs a p x y v w hv hw = (hv ∙ sym hw, refl)
 
-pub intersect-by-rank-few-one : OneAnswer 0 intersect-by-rank-few-kinds.ps intersect-by-rank-few-kinds.r intersect-by-rank-few.Pre intersect-by-rank-few.Post
-intersect-by-rank-few-one κs a p x y v w hv hw = (hv ∙ sym hw, refl)
+pub routes-few-one : OneAnswer 0 routes-few-kinds.ps routes-few-kinds.r routes-few.Pre routes-few.Post
+routes-few-one κs a p x y v w hv hw = (hv ∙ sym hw, refl)
 
 pub intersect-by-rank-compose-at-one : OneAnswer 5 intersect-by-rank-compose-at-kinds.ps intersect-by-rank-compose-at-kinds.r intersect-by-rank-compose-at.Pre intersect-by-rank-compose-at.Post
 intersect-by-rank-compose-at-one κs a p x y v w hv hw = (refl, ap (λ (l : List ℕ). (tt, (tt, (tt, (tt, (tt, (tt, (tt, (tt, (l, tt)))))))))) (hv ∙ sym hw))
@@ -143,8 +145,8 @@ intersect-by-rank-compose-at-one κs a p x y v w hv hw = (refl, ap (λ (l : List
 pub intersect-by-rank-lay-composition-one : OneAnswer 5 intersect-by-rank-lay-composition-kinds.ps intersect-by-rank-lay-composition-kinds.r intersect-by-rank-lay-composition.Pre intersect-by-rank-lay-composition.Post
 intersect-by-rank-lay-composition-one κs a p x y v w hv hw = (hv .0 ∙ sym (hw .0), ap (λ (l : List ℕ). (tt, (tt, (tt, (tt, (tt, (tt, (tt, (tt, (l, tt)))))))))) (hv .1 ∙ sym (hw .1)))
 
-pub intersect-by-rank-document-factors-one : OneAnswer 0 intersect-by-rank-document-factors-kinds.ps intersect-by-rank-document-factors-kinds.r intersect-by-rank-document-factors.Pre intersect-by-rank-document-factors.Post
-intersect-by-rank-document-factors-one κs a p x y v w hv hw = (hv ∙ sym hw, refl)
+pub routes-document-factors-one : OneAnswer 0 routes-document-factors-kinds.ps routes-document-factors-kinds.r routes-document-factors.Pre routes-document-factors.Post
+routes-document-factors-one κs a p x y v w hv hw = (hv ∙ sym hw, refl)
 
 pub intersect-by-rank-judge-both-one : OneAnswer 4 intersect-by-rank-judge-both-kinds.ps intersect-by-rank-judge-both-kinds.r intersect-by-rank-judge-both.Pre intersect-by-rank-judge-both.Post
 intersect-by-rank-judge-both-one κs a p x y v w hv hw = (hv ∙ sym hw, refl)
@@ -197,44 +199,44 @@ lent-has-count-one κs a p x y v w hv hw = (hv ∙ sym hw, refl)
 pub lent-count-view-one : OneAnswer 1 lent-count-view-kinds.ps lent-count-view-kinds.r lent-count-view.Pre lent-count-view.Post
 lent-count-view-one κs a p x y v w hv hw = (hv ∙ sym hw, refl)
 
-pub lent-put-one : OneAnswer 1 lent-put-kinds.ps lent-put-kinds.r lent-put.Pre lent-put.Post
-lent-put-one κs a p x y v w hv hw = (refl, ap (λ (l : List ℕ). (l, (tt, (tt, (tt, tt))))) (hv ∙ sym hw))
+pub laid-put-one : OneAnswer 1 laid-put-kinds.ps laid-put-kinds.r laid-put.Pre laid-put.Post
+laid-put-one κs a p x y v w hv hw = (refl, ap (λ (l : List ℕ). (l, (tt, (tt, (tt, tt))))) (hv ∙ sym hw))
 
-pub lent-clear-one : OneAnswer 1 lent-clear-kinds.ps lent-clear-kinds.r lent-clear.Pre lent-clear.Post
-lent-clear-one κs a p x y v w hv hw = (refl, ap (λ (l : List ℕ). (l, (tt, (tt, tt)))) (hv ∙ sym hw))
+pub laid-clear-one : OneAnswer 1 laid-clear-kinds.ps laid-clear-kinds.r laid-clear.Pre laid-clear.Post
+laid-clear-one κs a p x y v w hv hw = (refl, ap (λ (l : List ℕ). (l, (tt, (tt, tt)))) (hv ∙ sym hw))
 
-pub lent-set-bit-one : OneAnswer 1 lent-set-bit-kinds.ps lent-set-bit-kinds.r lent-set-bit.Pre lent-set-bit.Post
-lent-set-bit-one κs a p x y v w hv hw = (refl, ap (λ (l : List ℕ). (l, (tt, tt))) (hv ∙ sym hw))
+pub laid-set-bit-one : OneAnswer 1 laid-set-bit-kinds.ps laid-set-bit-kinds.r laid-set-bit.Pre laid-set-bit.Post
+laid-set-bit-one κs a p x y v w hv hw = (refl, ap (λ (l : List ℕ). (l, (tt, tt))) (hv ∙ sym hw))
 
 pub lent-words-for-one : OneAnswer 0 lent-words-for-kinds.ps lent-words-for-kinds.r lent-words-for.Pre lent-words-for.Post
 lent-words-for-one κs a p x y v w hv hw = (hv ∙ sym hw, refl)
 
-pub lent-clear-last-one : OneAnswer 1 lent-clear-last-kinds.ps lent-clear-last-kinds.r lent-clear-last.Pre lent-clear-last.Post
-lent-clear-last-one κs a p x y v w hv hw = (refl, ap (λ (l : List ℕ). (l, (tt, tt))) (hv ∙ sym hw))
+pub laid-clear-last-one : OneAnswer 1 laid-clear-last-kinds.ps laid-clear-last-kinds.r laid-clear-last.Pre laid-clear-last.Post
+laid-clear-last-one κs a p x y v w hv hw = (refl, ap (λ (l : List ℕ). (l, (tt, tt))) (hv ∙ sym hw))
 
-pub mask-check-one : OneAnswer 2 mask-check-kinds.ps mask-check-kinds.r mask-check.Pre mask-check.Post
-mask-check-one κs a p x y v w hv hw = (hv ∙ sym hw, refl)
+pub operand-check-one : OneAnswer 2 operand-check-kinds.ps operand-check-kinds.r operand-check.Pre operand-check.Post
+operand-check-one κs a p x y v w hv hw = (hv ∙ sym hw, refl)
 
-pub mask-check-set-one : OneAnswer 2 mask-check-set-kinds.ps mask-check-set-kinds.r mask-check-set.Pre mask-check-set.Post
-mask-check-set-one κs a p x y v w hv hw = (hv ∙ sym hw, refl)
+pub operand-check-set-one : OneAnswer 2 operand-check-set-kinds.ps operand-check-set-kinds.r operand-check-set.Pre operand-check-set.Post
+operand-check-set-one κs a p x y v w hv hw = (hv ∙ sym hw, refl)
 
-pub mask-length-of-one : OneAnswer 0 mask-length-of-kinds.ps mask-length-of-kinds.r mask-length-of.Pre mask-length-of.Post
-mask-length-of-one κs a p x y v w hv hw = (hv ∙ sym hw, refl)
+pub operand-length-of-one : OneAnswer 0 operand-length-of-kinds.ps operand-length-of-kinds.r operand-length-of.Pre operand-length-of.Post
+operand-length-of-one κs a p x y v w hv hw = (hv ∙ sym hw, refl)
 
-pub mask-start-of-one : OneAnswer 0 mask-start-of-kinds.ps mask-start-of-kinds.r mask-start-of.Pre mask-start-of.Post
-mask-start-of-one κs a p x y v w hv hw = (hv ∙ sym hw, refl)
+pub operand-start-of-one : OneAnswer 0 operand-start-of-kinds.ps operand-start-of-kinds.r operand-start-of.Pre operand-start-of.Post
+operand-start-of-one κs a p x y v w hv hw = (hv ∙ sym hw, refl)
 
-pub mask-count-of-one : OneAnswer 1 mask-count-of-kinds.ps mask-count-of-kinds.r mask-count-of.Pre mask-count-of.Post
-mask-count-of-one κs a p x y v w hv hw = (hv ∙ sym hw, refl)
+pub operand-count-of-one : OneAnswer 1 operand-count-of-kinds.ps operand-count-of-kinds.r operand-count-of.Pre operand-count-of.Post
+operand-count-of-one κs a p x y v w hv hw = (hv ∙ sym hw, refl)
 
-pub mask-is-empty-one : OneAnswer 1 mask-is-empty-kinds.ps mask-is-empty-kinds.r mask-is-empty.Pre mask-is-empty.Post
-mask-is-empty-one κs a p x y v w hv hw = (hv ∙ sym hw, refl)
+pub operand-is-empty-one : OneAnswer 1 operand-is-empty-kinds.ps operand-is-empty-kinds.r operand-is-empty.Pre operand-is-empty.Post
+operand-is-empty-one κs a p x y v w hv hw = (hv ∙ sym hw, refl)
 
-pub mask-is-full-one : OneAnswer 1 mask-is-full-kinds.ps mask-is-full-kinds.r mask-is-full.Pre mask-is-full.Post
-mask-is-full-one κs a p x y v w hv hw = (hv ∙ sym hw, refl)
+pub operand-is-full-one : OneAnswer 1 operand-is-full-kinds.ps operand-is-full-kinds.r operand-is-full.Pre operand-is-full.Post
+operand-is-full-one κs a p x y v w hv hw = (hv ∙ sym hw, refl)
 
-pub mask-chunk-of-one : OneAnswer 1 mask-chunk-of-kinds.ps mask-chunk-of-kinds.r mask-chunk-of.Pre mask-chunk-of.Post
-mask-chunk-of-one κs a p x y v w hv hw = (hv ∙ sym hw, refl)
+pub operand-chunk-of-one : OneAnswer 1 operand-chunk-of-kinds.ps operand-chunk-of-kinds.r operand-chunk-of.Pre operand-chunk-of.Post
+operand-chunk-of-one κs a p x y v w hv hw = (hv ∙ sym hw, refl)
 
 pub mask-lay-rows-one : OneAnswer 3 mask-lay-rows-kinds.ps mask-lay-rows-kinds.r mask-lay-rows.Pre mask-lay-rows.Post
 mask-lay-rows-one κs a p x y v w hv hw = (refl, ap (λ (l : List ℕ). (tt, (tt, (tt, (tt, (l, tt)))))) (hv ∙ sym hw))
@@ -242,14 +244,17 @@ mask-lay-rows-one κs a p x y v w hv hw = (refl, ap (λ (l : List ℕ). (tt, (tt
 pub mask-write-rows-one : OneAnswer 3 mask-write-rows-kinds.ps mask-write-rows-kinds.r mask-write-rows.Pre mask-write-rows.Post
 mask-write-rows-one κs a p x y v w hv hw = (refl, ap (λ (l : List ℕ). (tt, (tt, (tt, (l, tt))))) (hv ∙ sym hw))
 
-pub mask-density-one : OneAnswer 0 mask-density-kinds.ps mask-density-kinds.r mask-density.Pre mask-density.Post
-mask-density-one κs a p x y v w hv hw = (hv ∙ sym hw, refl)
+pub operand-density-one : OneAnswer 0 operand-density-kinds.ps operand-density-kinds.r operand-density.Pre operand-density.Post
+operand-density-one κs a p x y v w hv hw = (hv ∙ sym hw, refl)
 
-pub mask-accepted-one : OneAnswer 0 mask-accepted-kinds.ps mask-accepted-kinds.r mask-accepted.Pre mask-accepted.Post
-mask-accepted-one κs a p x y v w hv hw = (hv ∙ sym hw, refl)
+pub operand-accepted-one : OneAnswer 0 operand-accepted-kinds.ps operand-accepted-kinds.r operand-accepted.Pre operand-accepted.Post
+operand-accepted-one κs a p x y v w hv hw = (hv ∙ sym hw, refl)
 
-pub mask-refused-one : OneAnswer 0 mask-refused-kinds.ps mask-refused-kinds.r mask-refused.Pre mask-refused.Post
-mask-refused-one κs a p x y v w hv hw = (hv ∙ sym hw, refl)
+pub operand-refused-one : OneAnswer 0 operand-refused-kinds.ps operand-refused-kinds.r operand-refused.Pre operand-refused.Post
+operand-refused-one κs a p x y v w hv hw = (hv ∙ sym hw, refl)
+
+pub network-deposit-bytewise-one : OneAnswer 0 network-deposit-bytewise-kinds.ps network-deposit-bytewise-kinds.r network-deposit-bytewise.Pre network-deposit-bytewise.Post
+network-deposit-bytewise-one κs a p x y v w hv hw = (hv ∙ sym hw, refl)
 
 pub word-deposit-portable-one : OneAnswer 0 word-deposit-portable-kinds.ps word-deposit-portable-kinds.r word-deposit-portable.Pre word-deposit-portable.Post
 word-deposit-portable-one κs a p x y v w hv hw = (hv ∙ sym hw, refl)
@@ -293,20 +298,20 @@ rows-read-answer-one κs a p x y v w hv hw = (hv ∙ sym hw, refl)
 pub word-deposit-by-one : OneAnswer 0 word-deposit-by-kinds.ps word-deposit-by-kinds.r word-deposit-by.Pre word-deposit-by.Post
 word-deposit-by-one κs a p x y v w hv hw = (hv ∙ sym hw, refl)
 
-pub mask-counts-as-list-one : OneAnswer 0 mask-counts-as-list-kinds.ps mask-counts-as-list-kinds.r mask-counts-as-list.Pre mask-counts-as-list.Post
-mask-counts-as-list-one κs a p x y v w hv hw = (hv ∙ sym hw, refl)
+pub operand-counts-as-list-one : OneAnswer 0 operand-counts-as-list-kinds.ps operand-counts-as-list-kinds.r operand-counts-as-list.Pre operand-counts-as-list.Post
+operand-counts-as-list-one κs a p x y v w hv hw = (hv ∙ sym hw, refl)
 
-pub mask-has-row-numbers-one : OneAnswer 0 mask-has-row-numbers-kinds.ps mask-has-row-numbers-kinds.r mask-has-row-numbers.Pre mask-has-row-numbers.Post
-mask-has-row-numbers-one κs a p x y v w hv hw = (hv ∙ sym hw, refl)
+pub operand-has-row-numbers-one : OneAnswer 0 operand-has-row-numbers-kinds.ps operand-has-row-numbers-kinds.r operand-has-row-numbers.Pre operand-has-row-numbers.Post
+operand-has-row-numbers-one κs a p x y v w hv hw = (hv ∙ sym hw, refl)
 
-pub intersect-by-rank-number-one : OneAnswer 0 intersect-by-rank-number-kinds.ps intersect-by-rank-number-kinds.r intersect-by-rank-number.Pre intersect-by-rank-number.Post
-intersect-by-rank-number-one κs a p x y v w hv hw = (hv ∙ sym hw, refl)
+pub routes-number-one : OneAnswer 0 routes-number-kinds.ps routes-number-kinds.r routes-number.Pre routes-number.Post
+routes-number-one κs a p x y v w hv hw = (hv ∙ sym hw, refl)
 
-pub intersect-by-rank-choose-route-one : OneAnswer 2 intersect-by-rank-choose-route-kinds.ps intersect-by-rank-choose-route-kinds.r intersect-by-rank-choose-route.Pre intersect-by-rank-choose-route.Post
-intersect-by-rank-choose-route-one κs a p x y v w hv hw = (hv ∙ sym hw, refl)
+pub routes-choose-route-one : OneAnswer 2 routes-choose-route-kinds.ps routes-choose-route-kinds.r routes-choose-route.Pre routes-choose-route.Post
+routes-choose-route-one κs a p x y v w hv hw = (hv ∙ sym hw, refl)
 
 pub intersect-by-rank-judge-one : OneAnswer 4 intersect-by-rank-judge-kinds.ps intersect-by-rank-judge-kinds.r intersect-by-rank-judge.Pre intersect-by-rank-judge.Post
 intersect-by-rank-judge-one κs a p x y v w hv hw = (hv ∙ sym hw, refl)
 
-pub lent-copy-words-one : OneAnswer 2 lent-copy-words-kinds.ps lent-copy-words-kinds.r lent-copy-words.Pre lent-copy-words.Post
-lent-copy-words-one κs a p x y v w hv hw = (refl, ap (λ (l : List ℕ). (tt, (tt, (tt, (l, tt))))) (hv ∙ sym hw))
+pub laid-copy-words-one : OneAnswer 2 laid-copy-words-kinds.ps laid-copy-words-kinds.r laid-copy-words.Pre laid-copy-words.Post
+laid-copy-words-one κs a p x y v w hv hw = (refl, ap (λ (l : List ℕ). (tt, (tt, (tt, (l, tt))))) (hv ∙ sym hw))

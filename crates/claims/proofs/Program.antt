@@ -20,12 +20,12 @@ use Rattle.rows.specs.Table.{refusal}
 use Rattle.rows.proofs.TableLaws.{chosen}
 use Rattle.rules.specs.declared.Answer.{Answer}
 use Rattle.rules.specs.Answer.{refused, answered}
-use Rattle.text.specs.declared.Written.{Written}
-use Rattle.text.specs.Parts.{begins}
-use Rattle.text.specs.Text.{ascii, WellFormed, lines, answerFor, textOf, withText, writtenFor, textOut}
-use Rattle.text.proofs.ToldLaws.{no-room}
-use Rattle.text.proofs.AnswerLaws.{routeTaken}
-use Rattle.text.proofs.Theorems.{only-these, eight-exactly, ill-formed-answered, ill-formed-told, paired-answered, paired-told, unpaired-answered, unpaired-told}
+use Rattle.lines.specs.declared.Written.{Written}
+use Rattle.lines.specs.Parts.{begins}
+use Rattle.lines.specs.Text.{ascii, WellFormed, lines, answerFor, textOf, withText, writtenFor, textOut}
+use Rattle.lines.proofs.ToldLaws.{no-room}
+use Rattle.lines.proofs.AnswerLaws.{routeTaken}
+use Rattle.lines.proofs.Theorems.{only-these, eight-exactly, ill-formed-answered, ill-formed-told, paired-answered, paired-told, unpaired-answered, unpaired-told}
 use Rattle.text.proofs.answer.Kinds as kinds
 use Rattle.text.proofs.answer.Reads as reads
 

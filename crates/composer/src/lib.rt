@@ -4,7 +4,7 @@ ghost use denote.Ref.{now};
 ghost use Rattle.rules.specs.Operand.{lent};
 ghost use Rattle.rules.specs.Stream.{pairOf, fresh, fed, fedOut};
 use judge::judge;
-use mask::inner::answers::refused;
+use operand::inner::answers::refused;
 use rows::Rank;
 use rows::Row;
 use rows::Verdict;

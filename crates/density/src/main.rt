@@ -4,8 +4,8 @@ ghost use mathlib.Core.Path.{_≡_};
 ghost use Prim.Native.Nat.{_+_, _≤_, _<_};
 ghost use lib.Ieee.{lt};
 ghost use Rattle.rules.specs.Answer.{densityOf};
-use intersect_by_rank::inner::route::few;
 use libc::STDOUT_FILENO;
+use routes::inner::few;
 
 // How many pairs of a count and a length were compared, and at how many of them the two tests differ.
 struct Tally {
@@ -18,7 +18,7 @@ fn thin(bound: f64, count: u64, length: u64) -> bool
     requires { ⌜ (count ≤ 1048576) × (length ≤ 1048576) ⌝ }
     ensures { λ b. ⌜ b ≡ lt (densityOf count length) bound ⌝ }
 {
-    mask::inner::answers::density(count, length) < bound
+    operand::inner::answers::density(count, length) < bound
 }
 
 // 1 where the two tests differ, and else 0: a number, so that a loop adds it with no branch.

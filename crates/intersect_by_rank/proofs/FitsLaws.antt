@@ -28,8 +28,8 @@ use Rattle.rules.specs.Route.{routeOf, wayOf}
 use Rattle.rules.specs.Compose.{Paired, result}
 use Rattle.rules.proofs.OperandLaws.{accepted-length, accepted-count, words-reach}
 use Rattle.rules.proofs.ComposeLaws.{ranks-length}
-use Rattle.mask.specs.Flat.{hasRowNumbers, startOf}
-use Rattle.mask.proofs.NumberLaws.{accepted-list, list-numbers, list-rows, list-count}
+use Rattle.operand.specs.Flat.{hasRowNumbers, startOf}
+use Rattle.operand.proofs.NumberLaws.{accepted-list, list-numbers, list-rows, list-count}
 use Rattle.intersect_by_rank.specs.Fits.{AsList, InWords, Fits}
 
 -- ---- the chosen route's line fits, whatever the factors are

@@ -1,2 +1,1 @@
 pub mod FitsLaws
-pub mod RouteLaws

@@ -2,4 +2,3 @@
 pub mod compose;
 pub mod judge;
 pub mod lay;
-pub mod route;

@@ -5,7 +5,7 @@ ghost use Rattle.rules.specs.Operand.{lent};
 ghost use Rattle.rules.specs.Route.{published};
 ghost use Rattle.rules.specs.Compose.{composed, composedOut};
 use inner::compose::compose_with;
-use inner::route::document_factors;
+use routes::inner::document_factors;
 use rules::Answer;
 use rules::Form;
 

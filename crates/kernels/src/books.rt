@@ -11,11 +11,11 @@ ghost use Rattle.rows.specs.Words.{fit, bitsOfAll, view};
 ghost use Rattle.rows.specs.Laid.{laid};
 ghost use Rattle.rows.specs.Asks.{Room, Chunk};
 ghost use Rattle.kernels.specs.Driven.{chunkAt};
+use laid::inner::put;
+use laid::inner::set_bit;
 use lent::inner::chunk;
 use lent::inner::chunk_len;
-use lent::inner::put;
 use lent::inner::read;
-use lent::inner::set_bit;
 use rows::Rank;
 use rows::Row;
 

@@ -18,7 +18,7 @@ use super::lists::intersect_by_rank_indices;
 use super::lists::intersect_indices_by_rank_bits;
 use super::whole::gather_words;
 use super::whole::read_words;
-use lent::inner::clear;
+use laid::inner::clear;
 use rows::Rank;
 use rows::Way;
 

@@ -1,5 +1,1 @@
-pub mod Quotient
 pub mod ListOutLaws
-pub mod ClimbLaws
-pub mod FlatLaws
-pub mod NumberLaws

@@ -9,12 +9,12 @@ ghost use Rattle.rows.specs.Lists.{setRows};
 ghost use Rattle.rows.specs.Laid.{wordsFor, written};
 ghost use Rattle.rules.specs.Operand.{lent, rowsOf, lengthOf, countOf, limit, Accepted};
 ghost use Rattle.rules.specs.Answer.{accepted, answered, noRoute};
-use super::inner::answers::NO_ROUTE;
-use super::inner::answers::accepted;
-use super::inner::forms::count_of;
-use super::inner::forms::length_of;
 use super::inner::lay::write_rows;
 use super::list::write_list;
+use operand::inner::answers::NO_ROUTE;
+use operand::inner::answers::accepted;
+use operand::inner::forms::count_of;
+use operand::inner::forms::length_of;
 use rules::Answer;
 use rules::Form;
 

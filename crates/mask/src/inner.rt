@@ -1,6 +1,2 @@
-// What our own crates call of an operand, a module for each subject.
-pub mod answers;
-pub mod checks;
-pub mod chunks;
-pub mod forms;
+// What our own crates call of the conversions: an operand's rows laid over lent words.
 pub mod lay;

@@ -1,14 +1,13 @@
-// Operands: a mask's form by value with the lent slices beside it, its checks in document 01's order, and its conversions
-// to words and to a list.
+// The conversions of an operand, checked: any form to words, and any form to a list.
 ghost use mathlib.Core.Path.{_≡_};
 ghost use denote.Ref.{now};
 ghost use Rattle.rules.specs.Operand.{lent};
 ghost use Rattle.rules.specs.Convert.{toWords, toWordsOut, toList, toListOut};
 use convert::convert_to_list;
 use convert::convert_to_words;
-use inner::answers::refused;
 use judge::judge_list;
 use judge::judge_words;
+use operand::inner::answers::refused;
 use rows::Verdict;
 use rules::Answer;
 use rules::Form;

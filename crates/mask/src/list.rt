@@ -8,11 +8,11 @@ ghost use Rattle.rows.specs.Rows.{count, splice};
 ghost use Rattle.rows.specs.Word.{bitsOf};
 ghost use Rattle.rows.specs.Lists.{setRows};
 ghost use Rattle.rules.specs.Operand.{lent, rowsOf, countOf, Accepted};
-ghost use Rattle.mask.specs.Flat.{Flat};
-use super::inner::chunks::chunk_of;
-use super::inner::forms::has_row_numbers;
-use super::inner::forms::length_of;
+ghost use Rattle.operand.specs.Flat.{Flat};
 use lent::inner::chunk_len;
+use operand::inner::chunks::chunk_of;
+use operand::inner::forms::has_row_numbers;
+use operand::inner::forms::length_of;
 use rules::Form;
 
 fn copy_list(rows: &[u32], out: &mut [u32])

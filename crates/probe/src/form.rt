@@ -1,12 +1,8 @@
 // An operand's form, by its number.
 ghost use mathlib.Core.Path.{_≡_};
-ghost use Rattle.probe.specs.Probe.{formOf};
+ghost use Rattle.cells.specs.Probe.{formOf};
+use cells::Given;
 use rules::Form;
-
-pub enum Given {
-    Good(Form),
-    Bad,
-}
 
 pub fn form_of(kind: u64, length: u64, start: u64, claimed: u64) -> Given
     ensures { λ g. ⌜ g ≡ formOf kind length start claimed ⌝ }

@@ -3,7 +3,7 @@
 ghost use mathlib.Core.Path.{_≡_};
 ghost use denote.Ref.{now};
 ghost use Rattle.rules.specs.Stream.{stateOf};
-ghost use Rattle.probe.specs.Probe.{answerCells, tells, memory, does, given, formOf, depositTold, selectTold, readTold, toWordsDone, toListDone, composeDone, setsDone, feedDone, programDone};
+ghost use Rattle.cells.specs.Probe.{answerCells, tells, memory, does, given, formOf, depositTold, selectTold, readTold, toWordsDone, toListDone, composeDone, setsDone, feedDone, programDone};
 use form::form_of;
 use tell::ready;
 use tell::tell;

@@ -3,27 +3,14 @@ ghost use mathlib.Core.Path.{_≡_};
 ghost use Prim.Native.Nat.{_≤_, _<_};
 ghost use lib.ListN.{length};
 ghost use denote.Ref.{now};
-ghost use Rattle.probe.specs.Probe.{answerCells, enough, over, wordTold, badTold, stateTold, answerTold, fedTold, writtenTold};
-use lent::inner::copy_words;
+ghost use Rattle.cells.specs.Probe.{answerCells, enough, over, wordTold, badTold, stateTold, answerTold, fedTold, writtenTold};
+use cells::Told;
+use laid::inner::copy_words;
+use lines::Written;
 use rows::Refusal;
 use rows::inner::verdicts::refusal;
 use rules::Answer;
 use rules::Fed;
-use text::Written;
-
-// The numbers that the cells have, and the density.
-pub struct Told {
-    pub refusal: u64,
-    pub operand: u64,
-    pub count: u64,
-    pub route: u64,
-    pub word: u64,
-    pub done: u64,
-    pub ranks: u64,
-    pub kept: u64,
-    pub bytes: u64,
-    pub density: f64,
-}
 
 // A refusal, or its place empty, and a word or a position.
 pub fn of_word(refusal: Refusal, word: u64) -> Told

@@ -13,8 +13,8 @@ use lib.Seq.{take-suc, length-take-le, getD-drop}
 use Rattle.rows.specs.Word.{bitsOf}
 use Rattle.rows.specs.Laid.{laid}
 use Rattle.rows.proofs.LaidLaws.{laid-append}
-use Rattle.text.specs.Text.{digitOf, rowsIn}
-use Rattle.text.proofs.FindLaws.{rows-at, rows-within}
+use Rattle.lines.specs.Text.{digitOf, rowsIn}
+use Rattle.lines.proofs.FindLaws.{rows-at, rows-within}
 
 digit-bit : (row : Bool) → bitsOf 1 (digitOf row - 48) ≡ row ∷ []
 unfolding bitsOf

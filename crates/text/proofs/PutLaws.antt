@@ -23,8 +23,8 @@ use Rattle.rows.proofs.WordLaws.{wordOf-lt}
 use Rattle.rows.proofs.WordsLaws.{fit-length}
 use Rattle.rows.proofs.FitLaws.{view-step}
 use Rattle.rules.specs.declared.Answer.{Answer}
-use Rattle.text.specs.Text.{digitOf, digits, line, bitsKey, decimalIn, decimal, lines, linesOf}
-use Rattle.text.proofs.SaidLaws.{digits-length}
+use Rattle.lines.specs.Text.{digitOf, digits, line, bitsKey, decimalIn, decimal, lines, linesOf}
+use Rattle.lines.proofs.SaidLaws.{digits-length}
 
 -- ---- bytes
 

@@ -3,14 +3,9 @@ ghost use mathlib.Core.Path.{_≡_};
 ghost use Prim.Native.Nat.{_+_, _≤_};
 ghost use lib.ListN.{length, drop};
 ghost use denote.Ref.{now};
-ghost use Rattle.text.specs.Text.{isDigit, rowsIn};
-ghost use Rattle.text.specs.Parts.{begins, foundIn};
-
-// What an input has: so many digits for self and so many for the rank mask, or no two masks.
-pub enum Found {
-    Masks { s: usize, r: usize },
-    Malformed,
-}
+ghost use Rattle.lines.specs.Text.{isDigit, rowsIn};
+ghost use Rattle.lines.specs.Parts.{begins, foundIn};
+use lines::Found;
 
 // The key stands at index at.
 fn has_key(input: &[u8], at: usize, key: &[u8]) -> bool

@@ -2,21 +2,15 @@
 ghost use mathlib.Core.Path.{_≡_};
 ghost use lib.ListN.{length};
 ghost use denote.Ref.{now};
-ghost use Rattle.text.specs.Text.{writtenFor, textOut};
-use mask::inner::answers::refused;
+ghost use Rattle.lines.specs.Text.{writtenFor, textOut};
+use lines::Written;
+use operand::inner::answers::refused;
 use rows::inner::verdicts::refusal;
 use rules::Answer;
 
 mod find;
 mod put;
 mod tell;
-
-// What was written: the answer, and how long the text of its lines is. An output that is shorter than the text has refusal 8 and
-// length 0.
-pub struct Written {
-    pub answer: Answer,
-    pub len: usize,
-}
 
 // The text for any input, from the start of out on; later bytes as they were.
 pub fn answer(input: &[u8], out: &mut [u8]) -> Written

@@ -7,8 +7,8 @@ ghost use native.Mathlib.Decide.{ℕ-discrete};
 ghost use Rattle.rows.specs.Rows.{splice};
 ghost use Rattle.rows.specs.Words.{view};
 ghost use Rattle.rows.specs.Table.{choose};
-ghost use Rattle.text.specs.Text.{digits, line, bitsKey, decimal, lines, linesOf, withText};
-use super::Written;
+ghost use Rattle.lines.specs.Text.{digits, line, bitsKey, decimal, lines, linesOf, withText};
+use lines::Written;
 use rules::Answer;
 
 // All of bytes.

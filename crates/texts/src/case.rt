@@ -7,7 +7,7 @@ use super::files::read_file;
 use super::output::MARK;
 use super::output::same;
 use super::output::untouched;
-use text::Written;
+use lines::Written;
 
 pub enum Finding {
     Agrees,

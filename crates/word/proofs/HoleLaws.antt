@@ -9,10 +9,10 @@ use native.Mathlib.Omega.{arith}
 use lib.Pow.{pow-pos, mod-mod-pow}
 use lib.Bits.{bitAnd, bitOr, and-zero-r, and-mask}
 use lib.Count.{ones, ones-step}
-use Rattle.word.specs.Lowest.{lowestSet, withoutLowest, pastHole, ifSet}
-use Rattle.word.proofs.DigitLaws.{digit, mod-digit, and-by, or-by}
-use Rattle.word.proofs.LowestLaws.{lowestSet-even, lowestSet-odd, withoutLowest-even, withoutLowest-odd, withoutLowest-lt, ones-none, ones-clear-sub, ones-zero}
-use Rattle.word.proofs.DealtLaws.{dealt, dealt-even, dealt-odd}
+use Rattle.network.specs.Lowest.{lowestSet, withoutLowest, pastHole, ifSet}
+use Rattle.network.proofs.DigitLaws.{digit, mod-digit, and-by, or-by}
+use Rattle.network.proofs.LowestLaws.{lowestSet-even, lowestSet-odd, withoutLowest-even, withoutLowest-odd, withoutLowest-lt, ones-none, ones-clear-sub, ones-zero}
+use Rattle.network.proofs.DealtLaws.{dealt, dealt-even, dealt-odd}
 
 -- ---- the digits below the lowest set digit of h; all w where none is set
 unfoldable pub under : ℕ → ℕ → ℕ

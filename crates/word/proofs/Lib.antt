@@ -1,13 +1,3 @@
-pub mod DigitLaws
-pub mod EveryBelow
-pub mod LowestLaws
 pub mod NumLaws
-pub mod DealtLaws
 pub mod SelectWord
 pub mod HoleLaws
-pub mod LaneLaws
-pub mod CountLaws
-pub mod GatherLaws
-pub mod NetworkLaws
-pub mod ByteLaw
-pub mod Bytewise

@@ -1,16 +1,14 @@
--- What the functions of `num` compute, as laws on numbers.
--- By the cases of a digit, and by halves of 32 digits. Assumes nothing.
-use mathlib.Core.Path.{_≡_, sym, ap, ap₂, _∙_}
+-- The lowest set bit of a word, and a word where a bit is set, as laws on numbers.
+-- By the cases of a digit. Assumes nothing.
+use mathlib.Core.Path.{_≡_, sym, ap, _∙_}
 use mathlib.Core.Logic.{_⊎_, ⊎-elim}
-use Prim.Native.Nat.{ℕ, _+_, _-_, _*_, _/_, _%_, _^_, _<_}
-use native.Mathlib.Nat.{eq-zero-or-pos, mul-zero, mul-one, mod-eq-of-lt, add-mul, mul-add, mul-assoc, mul-right-comm, lt-of-le-of-lt, le-of-lt, mul-le-mul-left, mul-lt-mul-of-pos-right, mul-add-mod-self-right, add-mod-mod}
+use Prim.Native.Nat.{ℕ, _-_, _*_, _%_, _^_, _<_}
+use native.Mathlib.Nat.{eq-zero-or-pos, mul-zero, mul-one, mod-eq-of-lt}
 use native.Mathlib.Omega.{arith}
-use lib.Pow.{pow-pos, split}
 use lib.Bits.{bitAnd, and-zero-r, and-mask}
-use Rattle.word.specs.Lanes.{inEach}
-use Rattle.word.specs.Lowest.{lowestSet}
-use Rattle.word.proofs.DigitLaws.{digit}
-use Rattle.word.proofs.LowestLaws.{and-neg, lowestSet-zero}
+use Rattle.network.specs.Lowest.{lowestSet}
+use Rattle.network.proofs.DigitLaws.{digit}
+use Rattle.network.proofs.LowestLaws.{and-neg, lowestSet-zero}
 
 pub low-word : (x r : ℕ) → x < 2 ^ 64 → r ≡ (2 ^ 64 - x) % 2 ^ 64 → bitAnd x r ≡ lowestSet 64 x
 low-word x r hx e = ⊎-elim (λ (z : x ≡ 0). rw z (sym (lowestSet-zero 64))) (λ (p : 0 < x). and-neg 64 x r hx (omega arith)) (eq-zero-or-pos x)
@@ -22,39 +20,3 @@ if-odd-word x b r hx e =
     (λ (z : b % 2 ≡ 0). let q : r ≡ 0 = omega arith in ap (bitAnd x) q ∙ and-zero-r x ∙ sym (mul-zero x) ∙ ap (λ (d : ℕ). x * d) (sym z))
     (λ (z : b % 2 ≡ 1).
     let q : r ≡ 2 ^ 64 - 1 = omega arith in ap (bitAnd x) q ∙ and-mask x 64 ∙ mod-eq-of-lt hx ∙ sym (mul-one x) ∙ ap (λ (d : ℕ). x * d) (sym z)) (digit b)
-
--- a byte in each byte of a word is a product
-pub in-each : (b : ℕ) → inEach 8 b ≡ b * 0x0101_0101_0101_0101
-unfolding inEach
-in-each b = omega arith
-
-pub mul-lt : {x y : ℕ} → x < 2 ^ 32 → y < 2 ^ 32 → x * y < 2 ^ 64
-mul-lt {x} {y} hx hy = lt-of-le-of-lt (mul-le-mul-left x (le-of-lt hy)) (mul-lt-mul-of-pos-right hx (pow-pos 32))
-
--- a product by halves of one factor
-halves : (x y : ℕ) → x * y ≡ x * (y / 2 ^ 32) * 2 ^ 32 + x * (y % 2 ^ 32)
-halves x y = ap (λ (n : ℕ). x * n) (sym (split y 32)) ∙ mul-add x (y / 2 ^ 32 * 2 ^ 32) (y % 2 ^ 32) ∙ ap (λ (n : ℕ). n + x * (y % 2 ^ 32)) (sym (mul-assoc x (y / 2 ^ 32) (2 ^ 32)))
-
--- what is above the word does not count
-shift-mod : (n : ℕ) → (n % 2 ^ 64 * 2 ^ 32) % 2 ^ 64 ≡ (n * 2 ^ 32) % 2 ^ 64
-shift-mod n = omega arith
-
-drop-high : (h n : ℕ) → (h * 2 ^ 64 + n) % 2 ^ 64 ≡ n % 2 ^ 64
-drop-high h n = mul-add-mod-self-right h (2 ^ 64) n
-
-gather : (p q r s n : ℕ) → n ≡ (p * 2 ^ 32 + q) * 2 ^ 32 + (r * 2 ^ 32 + s) → n ≡ p * 2 ^ 64 + (s + (q + r) * 2 ^ 32)
-gather p q r s n e = omega arith
-
-pub mul-word : (a b mid r : ℕ) → mid ≡ (a / 2 ^ 32 * (b % 2 ^ 32) + a % 2 ^ 32 * (b / 2 ^ 32)) % 2 ^ 64
-    → r ≡ (a % 2 ^ 32 * (b % 2 ^ 32) + (mid * 2 ^ 32) % 2 ^ 64) % 2 ^ 64 → r ≡ (a * b) % 2 ^ 64
-mul-word a b mid r e f =
-    let a1 : ℕ = a / 2 ^ 32 in
-    let a0 : ℕ = a % 2 ^ 32 in
-    let b1 : ℕ = b / 2 ^ 32 in
-    let b0 : ℕ = b % 2 ^ 32 in
-    let m : ℕ = a1 * b0 + a0 * b1 in
-    let ab : a * b ≡ (a1 * b1 * 2 ^ 32 + a1 * b0) * 2 ^ 32 + (a0 * b1 * 2 ^ 32 + a0 * b0) =
-    ap (λ (n : ℕ). n * b) (sym (split a 32)) ∙ add-mul (a1 * 2 ^ 32) a0 b ∙ ap (λ (n : ℕ). n + a0 * b) (mul-right-comm a1 (2 ^ 32) b)
-    ∙ ap₂ (λ (x y : ℕ). x * 2 ^ 32 + y) (halves a1 b) (halves a0 b) in
-    f ∙ ap (λ (n : ℕ). (a0 * b0 + (n * 2 ^ 32) % 2 ^ 64) % 2 ^ 64) e ∙ ap (λ (n : ℕ). (a0 * b0 + n) % 2 ^ 64) (shift-mod m)
-    ∙ add-mod-mod (a0 * b0) (m * 2 ^ 32) (2 ^ 64) ∙ sym (ap (λ (n : ℕ). n % 2 ^ 64) (gather (a1 * b1) (a1 * b0) (a0 * b1) (a0 * b0) (a * b) ab) ∙ drop-high (a1 * b1) (a0 * b0 + m * 2 ^ 32))

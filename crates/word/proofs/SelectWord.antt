@@ -16,7 +16,7 @@ use Rattle.rows.specs.Lists.{select}
 use Rattle.rows.proofs.WordLaws.{bitsOf-length, bitsOf-add, bits-mod, count-bits-mod}
 use Rattle.rows.proofs.SelectLaws.{select-unset, select-in, select-skip, select-cleared}
 use Rattle.rows.proofs.ClearLaws.{cleared-bits}
-use Rattle.word.proofs.DigitLaws.{digit}
+use Rattle.network.proofs.DigitLaws.{digit}
 
 -- the rank is past the k low bits
 pub skip-bits : (k w n r : ℕ) → ones (n % 2 ^ k) ≤ r → select (bitsOf (k + w) n) r ≡ k + select (bitsOf w (n / 2 ^ k)) (r - ones (n % 2 ^ k))

@@ -3,7 +3,7 @@ ghost use mathlib.Core.Path.{_≡_};
 ghost use Prim.Native.Nat.{_≤_};
 ghost use lib.Count.{ones};
 ghost use Rattle.rows.specs.Pdep.{pdep};
-ghost use Rattle.word.specs.Lowest.{pastHole, withoutLowest};
+ghost use Rattle.network.specs.Lowest.{pastHole, withoutLowest};
 use super::num::if_odd;
 use super::num::lowest;
 

@@ -10,7 +10,6 @@ use rows::inner::verdicts::refusal;
 
 mod forms;
 pub mod inner;
-mod network;
 mod num;
 
 // Bit k of the source at the k-th set bit of the mask. The claimed count must be the mask's: refusal 4.

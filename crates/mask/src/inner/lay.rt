@@ -9,16 +9,16 @@ ghost use Rattle.rows.specs.Words.{view, Below};
 ghost use Rattle.rows.specs.Laid.{wordsFor, written, laid, marked};
 ghost use Rattle.rows.specs.Asks.{Room};
 ghost use Rattle.rules.specs.Operand.{lent, rowsOf, lengthOf, Accepted};
-ghost use Rattle.mask.specs.Flat.{Flat};
-use super::chunks::chunk_of;
-use super::forms::has_row_numbers;
-use super::forms::length_of;
+ghost use Rattle.operand.specs.Flat.{Flat};
+use laid::inner::clear;
+use laid::inner::clear_last;
+use laid::inner::copy_words;
+use laid::inner::put;
+use laid::inner::set_bit;
 use lent::inner::chunk_len;
-use lent::inner::clear;
-use lent::inner::clear_last;
-use lent::inner::copy_words;
-use lent::inner::put;
-use lent::inner::set_bit;
+use operand::inner::chunks::chunk_of;
+use operand::inner::forms::has_row_numbers;
+use operand::inner::forms::length_of;
 use rules::Form;
 
 // All, none or words: chunk by chunk.

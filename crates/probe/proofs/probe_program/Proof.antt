@@ -3,8 +3,8 @@
 use mathlib.Core.Path.{sym, _∙_}
 use denote.Ref.{now}
 use borrow.Author.Tests.{not-true, not-false}
-use Rattle.probe.specs.Probe.{memory}
-use Rattle.probe.proofs.TellLaws.{enough-room, does-over}
+use Rattle.cells.specs.Probe.{memory}
+use Rattle.cells.proofs.TellLaws.{enough-room, does-over}
 use borrow.Author.Needs.{needs}
 use Rattle.probe.proofs.probe_program.Statement.{statement}
 use Rattle.probe.proofs.probe_program.Tie as tie

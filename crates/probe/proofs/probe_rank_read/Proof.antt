@@ -4,8 +4,8 @@ use mathlib.Core.Path.{sym, _∙_}
 use denote.Ref.{now}
 use borrow.Author.Needs.{needs}
 use borrow.Author.Tests.{not-true, not-false}
-use Rattle.probe.specs.Probe.{answerCells}
-use Rattle.probe.proofs.TellLaws.{enough-room, tells-over}
+use Rattle.cells.specs.Probe.{answerCells}
+use Rattle.cells.proofs.TellLaws.{enough-room, tells-over}
 use Rattle.probe.proofs.probe_rank_read.Statement.{statement}
 use Rattle.probe.proofs.probe_rank_read.Tie as tie
 

@@ -4,8 +4,8 @@ use mathlib.Core.Path.{sym, _∙_}
 use denote.Ref.{now}
 use borrow.Author.Needs.{needs}
 use borrow.Author.Tests.{not-true, not-false}
-use Rattle.probe.specs.Probe.{memory}
-use Rattle.probe.proofs.TellLaws.{enough-room, does-over}
+use Rattle.cells.specs.Probe.{memory}
+use Rattle.cells.proofs.TellLaws.{enough-room, does-over}
 use Rattle.probe.proofs.probe_set.Statement.{statement}
 use Rattle.probe.proofs.probe_set.Tie as tie
 

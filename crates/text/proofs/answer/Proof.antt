@@ -10,9 +10,9 @@ use borrow.Author.Needs.{needs}
 use Rattle.rows.specs.Rows.{splice}
 use Rattle.rules.specs.declared.Answer.{Answer}
 use Rattle.rules.specs.Answer.{refused}
-use Rattle.text.specs.declared.Written.{Written}
-use Rattle.text.specs.Text.{textOf, withText}
-use Rattle.text.proofs.ToldLaws.{no-room, room}
+use Rattle.lines.specs.declared.Written.{Written}
+use Rattle.lines.specs.Text.{textOf, withText}
+use Rattle.lines.proofs.ToldLaws.{no-room, room}
 use Rattle.text.proofs.answer.Statement.{statement}
 use Rattle.text.proofs.answer.Tie as tie
 

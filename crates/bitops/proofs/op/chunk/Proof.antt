@@ -10,7 +10,7 @@ use Rattle.rows.specs.Word.{bitsOf, wordOf, both}
 use Rattle.rows.proofs.BothLaws.{both-part}
 use Rattle.rules.specs.Operand.{Operand, lent, rowsOf}
 use Rattle.rules.specs.SetOps.{rowOf}
-use Rattle.mask.proofs.FlatLaws.{flat-length}
+use Rattle.operand.proofs.FlatLaws.{flat-length}
 use Rattle.rows.proofs.ChunkLaws.{chunk-bits}
 use Rattle.bitops.proofs.OpLaws.{cut-word}
 use Rattle.bitops.proofs.op.chunk.Statement.{statement}

@@ -10,7 +10,7 @@ use Rattle.rows.proofs.RowLaws.{count-le-length}
 use Rattle.rules.specs.Operand.{Operand, lent, lengthOf}
 use Rattle.rules.specs.Answer.{accepted, noRoute}
 use Rattle.rules.specs.SetOps.{combination, rowOf}
-use Rattle.mask.proofs.FlatLaws.{flat-limit}
+use Rattle.operand.proofs.FlatLaws.{flat-limit}
 use Rattle.bitops.proofs.VerdictLaws.{result-length}
 use Rattle.bitops.proofs.write.answer.Statement.{statement}
 use Rattle.bitops.proofs.write.answer.Tie as tie

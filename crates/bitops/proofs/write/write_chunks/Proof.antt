@@ -15,7 +15,7 @@ use Rattle.rows.specs.Laid.{laid}
 use Rattle.rows.proofs.LaidLaws.{below-all, laid-nil, laid-length}
 use Rattle.rules.specs.Operand.{Operand, lent, lengthOf}
 use Rattle.rules.specs.SetOps.{combination, rowOf}
-use Rattle.mask.proofs.FlatLaws.{flat-limit}
+use Rattle.operand.proofs.FlatLaws.{flat-limit}
 use Rattle.bitops.proofs.VerdictLaws.{result-length}
 use Rattle.bitops.proofs.WriteLaws.{turn-few, turn-count, turn-laid}
 use Rattle.bitops.proofs.write.write_chunks.Statement.{statement}

@@ -14,7 +14,7 @@ use Rattle.rows.specs.Lists.{setRows}
 use Rattle.rows.proofs.SpliceLaws.{splice-nil, splice-length}
 use Rattle.rows.proofs.PartLaws.{count-part}
 use Rattle.rules.specs.Operand.{Operand, lent, rowsOf, lengthOf}
-use Rattle.mask.proofs.FlatLaws.{flat-length, flat-limit}
+use Rattle.operand.proofs.FlatLaws.{flat-length, flat-limit}
 use Rattle.mask.proofs.ListOutLaws.{list-count, list-turn}
 use Rattle.mask.proofs.list.list_flat.Statement.{statement}
 use Rattle.mask.proofs.list.list_flat.Tie as tie

@@ -12,9 +12,9 @@ use Rattle.rows.specs.Lists.{setRows}
 use Rattle.rows.proofs.ListLaws.{rows-listed, rows-count}
 use Rattle.rules.specs.Operand.{Operand, lent, rowsOf, lengthOf, countOf}
 use Rattle.rules.proofs.OperandLaws.{accepted-count}
-use Rattle.mask.specs.Flat.{hasRowNumbers}
-use Rattle.mask.proofs.NumberLaws.{accepted-list, list-rows, list-count}
-use Rattle.mask.proofs.FlatLaws.{accepted-flat, flat-rows}
+use Rattle.operand.specs.Flat.{hasRowNumbers}
+use Rattle.operand.proofs.NumberLaws.{accepted-list, list-rows, list-count}
+use Rattle.operand.proofs.FlatLaws.{accepted-flat, flat-rows}
 use Rattle.mask.proofs.ListOutLaws.{list-front}
 use borrow.Author.Needs.{needs}
 use Rattle.mask.proofs.list.write_list.Statement.{statement}

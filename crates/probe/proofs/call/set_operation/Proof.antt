@@ -4,7 +4,7 @@ use Prim.Native.Nat.{ℕ}
 use native.Mathlib.Omega.{arith}
 use borrow.Author.Needs.{needs}
 use borrow.Author.Tests.{eq-eqb, ne-eqb}
-use Rattle.probe.specs.Probe.{setDone}
+use Rattle.cells.specs.Probe.{setDone}
 use Rattle.probe.proofs.call.set_operation.Statement.{statement}
 use Rattle.probe.proofs.call.set_operation.Tie as tie
 

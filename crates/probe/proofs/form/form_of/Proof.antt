@@ -3,7 +3,7 @@
 use Prim.Native.Nat.{ℕ}
 use native.Mathlib.Omega.{arith}
 use borrow.Author.Tests.{eq-eqb, ne-eqb}
-use Rattle.probe.specs.Probe.{formOf}
+use Rattle.cells.specs.Probe.{formOf}
 use Rattle.probe.proofs.form.form_of.Statement.{statement}
 use Rattle.probe.proofs.form.form_of.Tie as tie
 

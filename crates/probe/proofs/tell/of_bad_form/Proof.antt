@@ -3,7 +3,7 @@
 use mathlib.Core.Path.{ap, _∙_}
 use borrow.Author.Needs.{needs}
 use Rattle.rows.specs.declared.Refusal.{Refusal}
-use Rattle.probe.specs.Probe.{wordTold}
+use Rattle.cells.specs.Probe.{wordTold}
 use Rattle.probe.proofs.tell.of_bad_form.Statement.{statement}
 use Rattle.probe.proofs.tell.of_bad_form.Tie as tie
 

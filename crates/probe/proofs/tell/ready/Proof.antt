@@ -1,7 +1,7 @@
 -- `probe::tell::ready` meets its contract: one test and then the other.
 -- By the tests on the way. Assumes nothing.
 use borrow.Author.Tests.{le-leb, lt-leb}
-use Rattle.probe.specs.Probe.{enough}
+use Rattle.cells.specs.Probe.{enough}
 use Rattle.probe.proofs.tell.ready.Statement.{statement}
 use Rattle.probe.proofs.tell.ready.Tie as tie
 

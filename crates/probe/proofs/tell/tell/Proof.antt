@@ -5,8 +5,8 @@ use native.Mathlib.Omega.{arith}
 use denote.Ref.{now}
 use borrow.Author.Needs.{needs}
 use Rattle.rows.proofs.SpliceLaws.{splice-eq}
-use Rattle.probe.specs.Probe.{answerCells}
-use Rattle.probe.proofs.TellLaws.{set-first}
+use Rattle.cells.specs.Probe.{answerCells}
+use Rattle.cells.proofs.TellLaws.{set-first}
 use Rattle.probe.proofs.tell.tell.Statement.{statement}
 use Rattle.probe.proofs.tell.tell.Tie as tie
 

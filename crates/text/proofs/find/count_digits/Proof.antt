@@ -11,8 +11,8 @@ use lib.ListN.{length, drop, length-drop}
 use denote.Ref.{now}
 use borrow.Author.Needs.{needs}
 use borrow.Author.Tests.{not-true, not-false}
-use Rattle.text.specs.Text.{rowsIn}
-use Rattle.text.proofs.FindLaws.{rows-within, rows-next, rows-end}
+use Rattle.lines.specs.Text.{rowsIn}
+use Rattle.lines.proofs.FindLaws.{rows-within, rows-next, rows-end}
 use Rattle.text.proofs.find.count_digits.Statement.{statement}
 use Rattle.text.proofs.find.count_digits.Tie as tie
 

@@ -8,9 +8,9 @@ use lib.ListN.{length, drop, length-drop}
 use denote.Ref.{now}
 use borrow.Author.Tests.{not-true, not-false}
 use borrow.Author.Needs.{needs}
-use Rattle.text.specs.Text.{selfKey, rankKey, selfIn, rankIn}
-use Rattle.text.proofs.FindLaws.{rows-within}
-use Rattle.text.proofs.SaidLaws.{begins-length, rank-counted, no-first-key, self-long, no-second-key, rank-long, no-newline, other-length, both-found}
+use Rattle.lines.specs.Text.{selfKey, rankKey, selfIn, rankIn}
+use Rattle.lines.proofs.FindLaws.{rows-within}
+use Rattle.lines.proofs.SaidLaws.{begins-length, rank-counted, no-first-key, self-long, no-second-key, rank-long, no-newline, other-length, both-found}
 use Rattle.text.proofs.find.find.Statement.{statement}
 use Rattle.text.proofs.find.find.Tie as tie
 

@@ -12,8 +12,8 @@ use lib.Seq.{drop-length}
 use denote.Ref.{now}
 use borrow.Author.Needs.{needs}
 use borrow.Author.Tests.{eq-eqb, ne-eqb}
-use Rattle.text.specs.Parts.{begins}
-use Rattle.text.proofs.FindLaws.{begins-short, begins-next}
+use Rattle.lines.specs.Parts.{begins}
+use Rattle.lines.proofs.FindLaws.{begins-short, begins-next}
 use Rattle.text.proofs.find.has_key.Statement.{statement}
 use Rattle.text.proofs.find.has_key.Tie as tie
 

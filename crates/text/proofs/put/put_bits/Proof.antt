@@ -10,8 +10,8 @@ use borrow.Author.Needs.{needs}
 use Rattle.rows.specs.Rows.{splice}
 use Rattle.rows.specs.Words.{view}
 use Rattle.rows.proofs.WordsLaws.{view-length}
-use Rattle.text.specs.Text.{digits, bitsKey}
-use Rattle.text.proofs.SaidLaws.{digits-length}
+use Rattle.lines.specs.Text.{digits, bitsKey}
+use Rattle.lines.proofs.SaidLaws.{digits-length}
 use Rattle.text.proofs.PutLaws.{put-after}
 use Rattle.text.proofs.put.put_bits.Statement.{statement}
 use Rattle.text.proofs.put.put_bits.Tie as tie

@@ -6,7 +6,7 @@ use lib.ListN.{length, take}
 use denote.Ref.{now}
 use borrow.Author.Needs.{needs}
 use Rattle.rows.specs.Rows.{splice}
-use Rattle.text.specs.Text.{decimal}
+use Rattle.lines.specs.Text.{decimal}
 use Rattle.text.proofs.PutLaws.{decimal-is, few-places}
 use Rattle.text.proofs.put.put_decimal.Statement.{statement}
 use Rattle.text.proofs.put.put_decimal.Tie as tie

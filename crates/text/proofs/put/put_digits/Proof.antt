@@ -11,8 +11,8 @@ use Rattle.rows.specs.Rows.{splice}
 use Rattle.rows.specs.Words.{bitsOfAll, view}
 use Rattle.rows.proofs.SpliceLaws.{splice-nil}
 use Rattle.rows.proofs.WordsLaws.{view-length}
-use Rattle.text.specs.Text.{digits}
-use Rattle.text.proofs.SaidLaws.{digits-length}
+use Rattle.lines.specs.Text.{digits}
+use Rattle.lines.proofs.SaidLaws.{digits-length}
 use Rattle.text.proofs.PutLaws.{one-more, bit-small, digit-next}
 use Rattle.text.proofs.put.put_digits.Statement.{statement}
 use Rattle.text.proofs.put.put_digits.Tie as tie

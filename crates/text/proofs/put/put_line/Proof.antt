@@ -8,7 +8,7 @@ use lib.ListN.{length-append}
 use denote.Ref.{now}
 use borrow.Author.Needs.{needs}
 use Rattle.rows.specs.Rows.{splice}
-use Rattle.text.specs.Text.{decimal}
+use Rattle.lines.specs.Text.{decimal}
 use Rattle.text.proofs.PutLaws.{put-after}
 use Rattle.text.proofs.put.put_line.Statement.{statement}
 use Rattle.text.proofs.put.put_line.Tie as tie

@@ -10,7 +10,7 @@ use borrow.Author.Needs.{needs}
 use Rattle.rows.specs.Rows.{splice}
 use Rattle.rows.specs.Words.{view}
 use Rattle.rows.proofs.WordsLaws.{view-length}
-use Rattle.text.specs.Text.{digits, line, decimal, refusalKey, routeKey, countKey, bitsKey, lines}
+use Rattle.lines.specs.Text.{digits, line, decimal, refusalKey, routeKey, countKey, bitsKey, lines}
 use Rattle.text.proofs.PutLaws.{put-after, bits-line}
 use Rattle.text.proofs.put.put_lines.Statement.{statement}
 use Rattle.text.proofs.put.put_lines.Tie as tie

@@ -12,7 +12,7 @@ use Rattle.rows.specs.Word.{bitsOf}
 use Rattle.rows.specs.Laid.{laid}
 use Rattle.rows.proofs.LaidLaws.{below-all, laid-nil, laid-length}
 use Rattle.rows.proofs.WrittenLaws.{laid-written}
-use Rattle.text.specs.Text.{rowsIn}
+use Rattle.lines.specs.Text.{rowsIn}
 use Rattle.text.proofs.PackLaws.{digit-within, digit-at-least, pack-next}
 use Rattle.text.proofs.tell.pack.Statement.{statement}
 use Rattle.text.proofs.tell.pack.Tie as tie

@@ -9,9 +9,9 @@ use borrow.Author.Needs.{needs}
 use Rattle.rows.specs.Rows.{splice}
 use Rattle.rules.specs.declared.Answer.{Answer}
 use Rattle.rules.specs.Answer.{refused}
-use Rattle.text.specs.declared.Written.{Written}
-use Rattle.text.specs.Text.{linesOf, answerFor, textOf, withText}
-use Rattle.text.proofs.ToldLaws.{answer-ill, text-ill, found-ill, text-front}
+use Rattle.lines.specs.declared.Written.{Written}
+use Rattle.lines.specs.Text.{linesOf, answerFor, textOf, withText}
+use Rattle.lines.proofs.ToldLaws.{answer-ill, text-ill, found-ill, text-front}
 use Rattle.text.proofs.tell.tell.Statement.{statement}
 use Rattle.text.proofs.tell.tell.Tie as tie
 

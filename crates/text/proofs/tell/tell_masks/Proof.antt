@@ -10,9 +10,9 @@ use denote.Ref.{now}
 use borrow.Author.Needs.{needs}
 use Rattle.rows.specs.Rows.{splice}
 use Rattle.rows.specs.Laid.{wordsFor}
-use Rattle.text.specs.Text.{rowsIn, selfIn, rankIn, withText}
-use Rattle.text.proofs.SaidLaws.{said-length}
-use Rattle.text.proofs.ToldLaws.{found-masks, packed-answered}
+use Rattle.lines.specs.Text.{rowsIn, selfIn, rankIn, withText}
+use Rattle.lines.proofs.SaidLaws.{said-length}
+use Rattle.lines.proofs.ToldLaws.{found-masks, packed-answered}
 use Rattle.text.proofs.tell.tell_masks.Statement.{statement}
 use Rattle.text.proofs.tell.tell_masks.Tie as tie
 

@@ -12,8 +12,8 @@ use Rattle.rules.specs.declared.Form.{Form}
 use Rattle.rules.specs.Route.{published}
 use Rattle.rules.specs.Compose.{composed, composedOut}
 use Rattle.rules.specs.Operand.{lent}
-use Rattle.text.specs.Text.{withText}
-use Rattle.text.proofs.ToldLaws.{rows-ignored, rows-ignored-out, words-answered, words-told}
+use Rattle.lines.specs.Text.{withText}
+use Rattle.lines.proofs.ToldLaws.{rows-ignored, rows-ignored-out, words-answered, words-told}
 use Rattle.text.proofs.tell.tell_words.Statement.{statement}
 use Rattle.text.proofs.tell.tell_words.Tie as tie
 

@@ -4,7 +4,7 @@ use mathlib.Core.Path.{sym}
 use native.Mathlib.Omega.{arith}
 use lib.Seq.{length-take-le}
 use borrow.Author.Needs.{needs}
-use Rattle.text.proofs.Theorems.{written-within}
+use Rattle.lines.proofs.Theorems.{written-within}
 use Rattle.texts.proofs.case.tells.Statement.{statement}
 use Rattle.texts.proofs.case.tells.Tie as tie
 

@@ -5,8 +5,8 @@ use Prim.Native.Nat.{ℕ, _+_, _-_, _^_, _<_}
 use native.Mathlib.Omega.{arith}
 use lib.Bits.{bitAnd}
 use borrow.Author.Needs.{needs}
-use Rattle.word.specs.Lowest.{pastHole}
-use Rattle.word.proofs.DealtLaws.{pdep-dealt}
+use Rattle.network.specs.Lowest.{pastHole}
+use Rattle.network.proofs.DealtLaws.{pdep-dealt}
 use Rattle.word.proofs.HoleLaws.{two-holes, ones-comp}
 use Rattle.word.proofs.forms.deposit_two_holes.Statement.{statement}
 use Rattle.word.proofs.forms.deposit_two_holes.Tie as tie

@@ -3,9 +3,9 @@ use mathlib.Core.Path.{_≡_, ap, ap₂, sym, _∙_}
 use Prim.Native.Nat.{ℕ, _*_, _/_, _%_, _^_, _<_}
 use lib.Bits.{bitOr, bitXor}
 use borrow.Author.Needs.{needs}
-use Rattle.word.specs.Lowest.{lowestSet, withoutLowest}
-use Rattle.word.proofs.LowestLaws.{xor-low}
-use Rattle.word.proofs.DealtLaws.{two-lowest, pdep-dealt}
+use Rattle.network.specs.Lowest.{lowestSet, withoutLowest}
+use Rattle.network.proofs.LowestLaws.{xor-low}
+use Rattle.network.proofs.DealtLaws.{two-lowest, pdep-dealt}
 use Rattle.word.proofs.forms.deposit_two_lowest.Statement.{statement}
 use Rattle.word.proofs.forms.deposit_two_lowest.Tie as tie
 

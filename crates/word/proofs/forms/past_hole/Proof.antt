@@ -5,8 +5,8 @@ use native.Mathlib.Nat.{add-zero}
 use native.Mathlib.Omega.{arith}
 use lib.Bits.{bitAnd, bitOr, bitXor}
 use borrow.Author.Needs.{needs}
-use Rattle.word.specs.Lowest.{pastHole, withoutLowest}
-use Rattle.word.proofs.LowestLaws.{xor-low}
+use Rattle.network.specs.Lowest.{pastHole, withoutLowest}
+use Rattle.network.proofs.LowestLaws.{xor-low}
 use Rattle.word.proofs.HoleLaws.{under, below-hole, pastHole-is}
 use Rattle.word.proofs.forms.past_hole.Statement.{statement}
 use Rattle.word.proofs.forms.past_hole.Tie as tie

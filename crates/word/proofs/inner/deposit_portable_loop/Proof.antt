@@ -9,8 +9,8 @@ use lib.Dec.{eqb}
 use borrow.Author.Needs.{needs}
 use borrow.Author.Tests.{eqb-true, not-false}
 use Rattle.rows.specs.Pdep.{pdep}
-use Rattle.word.specs.Lowest.{lowestSet}
-use Rattle.word.proofs.DealtLaws.{dealt, pdep-dealt, turn, dealt-no-mask, dealt-no-source}
+use Rattle.network.specs.Lowest.{lowestSet}
+use Rattle.network.proofs.DealtLaws.{dealt, pdep-dealt, turn, dealt-no-mask, dealt-no-source}
 use Rattle.word.proofs.inner.deposit_portable_loop.Statement.{statement}
 use Rattle.word.proofs.inner.deposit_portable_loop.Tie as tie
 

@@ -9,9 +9,9 @@ use native.Mathlib.Nat.{eq-zero-or-pos, lt-of-le-of-lt, zero-add}
 use lib.Bits.{bitAnd, and-mask, and-le-l, and-le-r}
 use lib.Count.{ones, ones-le, trailing-le}
 use Rattle.rows.specs.Word.{bitsOf}
-use Rattle.word.specs.Lowest.{withoutLowest}
+use Rattle.network.specs.Lowest.{withoutLowest}
 use Rattle.rows.specs.Lists.{select}
-use Rattle.word.proofs.LowestLaws.{and-pred, ones-clear, ones-zero}
+use Rattle.network.proofs.LowestLaws.{and-pred, ones-clear, ones-zero}
 use Rattle.word.proofs.SelectWord.{select-first, select-and-pred, skip-bits, in-bits}
 use Rattle.word.proofs.inner.select_bit_position.Statement.{statement}
 use Rattle.word.proofs.inner.select_bit_position.Tie as tie

@@ -13,7 +13,7 @@ use Rattle.rows.specs.Lists.{listed}
 use Rattle.rows.specs.Laid.{laid}
 use Rattle.rules.specs.declared.Route.{Route}
 use Rattle.rules.specs.Operand.{Operand, lent, lengthOf}
-use Rattle.mask.specs.Flat.{startOf}
+use Rattle.operand.specs.Flat.{startOf}
 use Rattle.intersect_by_rank.specs.Fits.{Fits}
 use Rattle.intersect_by_rank.proofs.FitsLaws.{in-words, by-full-self, full-length, by-full-rank, by-empty, words-ascends, words-listed, words-read, list-ascends, list-length, list-ranks, list-listed, list-read}
 use Rattle.intersect_by_rank.proofs.inner.lay.compose_at.Statement.{statement}

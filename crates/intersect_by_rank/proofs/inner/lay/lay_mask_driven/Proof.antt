@@ -10,7 +10,7 @@ use Rattle.rows.specs.Words.{view}
 use Rattle.rows.specs.Lists.{listed}
 use Rattle.rows.specs.Laid.{laid}
 use Rattle.rules.specs.Operand.{Operand, lent, lengthOf}
-use Rattle.mask.specs.Flat.{startOf}
+use Rattle.operand.specs.Flat.{startOf}
 use Rattle.intersect_by_rank.proofs.FitsLaws.{in-words, words-count, words-ascends, words-listed, words-words, rank-in-words, rank-as-list}
 use borrow.Author.Needs.{needs}
 use Rattle.intersect_by_rank.proofs.inner.lay.lay_mask_driven.Statement.{statement}

@@ -13,7 +13,7 @@ use Rattle.rows.specs.Word.{bitsOf}
 use Rattle.rows.specs.Laid.{laid}
 use Rattle.rows.proofs.LaidLaws.{below-all, laid-nil, laid-length, laid-append}
 use Rattle.rules.specs.Operand.{Operand, lent, rowsOf, lengthOf}
-use Rattle.mask.proofs.FlatLaws.{flat-length}
+use Rattle.operand.proofs.FlatLaws.{flat-length}
 use Rattle.rows.proofs.ChunkLaws.{chunk-bits, chunk-next}
 use Rattle.mask.proofs.inner.lay.lay_chunks.Statement.{statement}
 use Rattle.mask.proofs.inner.lay.lay_chunks.Tie as tie

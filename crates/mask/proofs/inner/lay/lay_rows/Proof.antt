@@ -8,9 +8,9 @@ use denote.Ref.{now}
 use Rattle.rows.specs.Lists.{listed}
 use Rattle.rows.specs.Laid.{laid}
 use Rattle.rules.specs.Operand.{Operand, lent}
-use Rattle.mask.specs.Flat.{hasRowNumbers}
-use Rattle.mask.proofs.NumberLaws.{accepted-list, list-rows}
-use Rattle.mask.proofs.FlatLaws.{accepted-flat, flat-rows}
+use Rattle.operand.specs.Flat.{hasRowNumbers}
+use Rattle.operand.proofs.NumberLaws.{accepted-list, list-rows}
+use Rattle.operand.proofs.FlatLaws.{accepted-flat, flat-rows}
 use borrow.Author.Needs.{needs}
 use Rattle.mask.proofs.inner.lay.lay_rows.Statement.{statement}
 use Rattle.mask.proofs.inner.lay.lay_rows.Tie as tie

@@ -1,0 +1,34 @@
+-- `laid::inner::clear_some` meets its contract: no bits laid change nothing, and the low bits of the word 0 are zeros.
+-- By the contract of `put`. Assumes nothing.
+use Prim.Native.Nat.{_^_}
+use mathlib.Core.Path.{_≡_, sym, ap, _∙_}
+use mathlib.Core.Bool.{Bool}
+use mathlib.Core.List.{List}
+use denote.Ref.{now}
+use borrow.Author.Needs.{needs}
+use Rattle.rows.specs.Laid.{laid}
+use Rattle.rows.proofs.FitLaws.{zero-word}
+use Rattle.rows.proofs.LaidLaws.{below-all, laid-nil}
+use Rattle.laid.proofs.inner.clear_some.Statement.{statement}
+use Rattle.laid.proofs.inner.clear_some.Tie as tie
+
+returns : tie.Need-returns
+returns c =
+    let a = c .before .before .args in
+    let out = now (a .out) in
+    let none : a .n ≡ 0 = c .if1 .taken in
+    rw none (sym (laid-nil 64 (a .at) out (below-all (2 ^ 64) out (λ i. c .before .slice-known .given i .fits))))
+
+put-requires : tie.Need-put-requires
+put-requires c κs = search needs
+
+same-length : tie.Need-same-length
+same-length c = search needs
+
+returns-2 : tie.Need-returns-2
+returns-2 c =
+    let a = c .before .before .before .before .before .before .args in
+    c .before .before .put .ensures ∙ ap (λ (z : List Bool). laid (a .at) z (now (a .out))) (zero-word (a .n))
+
+pub clear-some-spec : {M : Type 1} → statement M
+clear-some-spec = tie.close (tie.spec returns put-requires same-length returns-2)

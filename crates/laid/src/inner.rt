@@ -1,0 +1,102 @@
+// What our own crates call to write lent words: bits laid from any bit on, each write told in words. None changes a bit that it was not
+// asked to lay.
+ghost use mathlib.Core.Path.{_≡_};
+ghost use mathlib.Core.Bool.{true, false};
+ghost use mathlib.Core.List.{[], _∷_};
+ghost use Prim.Native.Nat.{_+_, _-_, _*_, _^_, _≤_, _<_};
+ghost use lib.ListN.{length, take, replicate};
+ghost use denote.Ref.{now};
+ghost use Rattle.rows.specs.Rows.{splice};
+ghost use Rattle.rows.specs.Word.{bitsOf};
+ghost use Rattle.rows.specs.Words.{Below};
+ghost use Rattle.rows.specs.Laid.{wordsFor, laid, lastCleared};
+ghost use Rattle.rows.specs.Asks.{Room, Chunk};
+use lent::inner::ones;
+
+// The low n bits of bits over out, from bit at on: in one word, or in two.
+pub fn put(out: &mut [u64], at: u64, n: u64, bits: u64)
+    requires { ⌜ Chunk n × (at + n ≤ length (now out) * 64) ⌝ }
+    ensures { λ _. ⌜ now (out .exit) ≡ laid at (bitsOf n bits) (now (out .entry)) ⌝ }
+{
+    let i = (at / 64) as usize;
+    let shift = at % 64;
+    let mask = ones(n);
+    let low = bits & mask;
+    out[i] = (out[i] & !(mask << shift)) | (low << shift);
+    if shift + n > 64 {
+        let past = 64 - shift;
+        out[i + 1] = (out[i + 1] & !(mask >> past)) | (low >> past);
+    }
+}
+
+// Zeros over out, none or up to 64 of them, from bit at on.
+fn clear_some(out: &mut [u64], at: u64, n: u64)
+    requires { ⌜ (n ≤ 64) × (at + n ≤ length (now out) * 64) ⌝ }
+    ensures { λ _. ⌜ now (out .exit) ≡ laid at (replicate n false) (now (out .entry)) ⌝ }
+{
+    if n == 0 {
+        return;
+    }
+    put(out, at, n, 0);
+}
+
+// The words from first to end are 0: a loop of one store, which is made a fill of memory.
+fn clear_words(out: &mut [u64], first: usize, end: usize)
+    requires { ⌜ (first ≤ end) × (end ≤ length (now out)) × Below (2 ^ 64) (now out) ⌝ }
+    ensures { λ _. ⌜ now (out .exit) ≡ laid (first * 64) (replicate ((end - first) * 64) false) (now (out .entry)) ⌝ }
+{
+    let mut i = first;
+    while i < end {
+        out[i] = 0;
+        i += 1;
+    }
+}
+
+// Zeros over out, n of them, from bit at on: in one word; or to the end of the first, then whole words, then what is left.
+pub fn clear(out: &mut [u64], at: u64, n: u64)
+    requires { ⌜ Room at n (now out) ⌝ }
+    ensures { λ _. ⌜ now (out .exit) ≡ laid at (replicate n false) (now (out .entry)) ⌝ }
+{
+    let shift = at % 64;
+    if shift + n <= 64 {
+        clear_some(out, at, n);
+        return;
+    }
+    let end = at + n;
+    let last = end % 64;
+    put(out, at, 64 - shift, 0);
+    clear_words(out, (at / 64 + 1) as usize, (end / 64) as usize);
+    clear_some(out, end - last, last);
+}
+
+// One bit set.
+pub fn set_bit(out: &mut [u64], at: u64)
+    requires { ⌜ at < length (now out) * 64 ⌝ }
+    ensures { λ _. ⌜ now (out .exit) ≡ laid at (true ∷ []) (now (out .entry)) ⌝ }
+{
+    put(out, at, 1, 1);
+}
+
+// The last word that so many bits need is 0.
+pub fn clear_last(out: &mut [u64], bits: u64)
+    requires { ⌜ wordsFor bits ≤ length (now out) ⌝ }
+    ensures { λ _. ⌜ now (out .exit) ≡ lastCleared bits (now (out .entry)) ⌝ }
+{
+    if bits == 0 {
+        return;
+    }
+    let last = ((bits - 1) / 64) as usize;
+    out[last] = 0;
+}
+
+// The first n words over out from word first on: a loop of one read and one store, which is made of vectors.
+pub fn copy_words(words: &[u64], first: usize, n: usize, out: &mut [u64])
+    requires { ⌜ (n ≤ length (now words)) × (first + n ≤ length (now out)) ⌝ }
+    ensures { λ _. ⌜ now (out .exit) ≡ splice first (now (out .entry)) (take n (now (words .entry))) ⌝ }
+{
+    let mut i: usize = 0;
+    while i < n {
+        out[first + i] = words[i];
+        i += 1;
+    }
+}

@@ -1,0 +1,11 @@
+pub mod DigitLaws
+pub mod EveryBelow
+pub mod LowestLaws
+pub mod ProductLaws
+pub mod DealtLaws
+pub mod LaneLaws
+pub mod CountLaws
+pub mod GatherLaws
+pub mod NetworkLaws
+pub mod ByteLaw
+pub mod Bytewise

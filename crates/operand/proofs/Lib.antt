@@ -1,0 +1,4 @@
+pub mod Quotient
+pub mod ClimbLaws
+pub mod FlatLaws
+pub mod NumberLaws
