@@ -5,6 +5,18 @@ use mathlib.Core.Path.{sym, ap, _∙_, refl}
 use mathlib.Core.List.{List}
 use Prim.Native.Nat.{ℕ}
 use Rattle.claims.specs.OneAnswer.{OneAnswer}
+use Rattle.books.proofs.inner.self_chunk.Kinds as books-self-chunk-kinds
+use Rattle.books.proofs.inner.self_chunk.Reads as books-self-chunk
+use Rattle.books.proofs.inner.rank_chunk.Kinds as books-rank-chunk-kinds
+use Rattle.books.proofs.inner.rank_chunk.Reads as books-rank-chunk
+use Rattle.books.proofs.inner.self_bits.Kinds as books-self-bits-kinds
+use Rattle.books.proofs.inner.self_bits.Reads as books-self-bits
+use Rattle.books.proofs.inner.rank_bits.Kinds as books-rank-bits-kinds
+use Rattle.books.proofs.inner.rank_bits.Reads as books-rank-bits
+use Rattle.books.proofs.inner.put_rows.Kinds as books-put-rows-kinds
+use Rattle.books.proofs.inner.put_rows.Reads as books-put-rows
+use Rattle.books.proofs.inner.mark_row.Kinds as books-mark-row-kinds
+use Rattle.books.proofs.inner.mark_row.Reads as books-mark-row
 use Rattle.host.proofs.boltamber_deposit.Kinds as host-boltamber-deposit-kinds
 use Rattle.host.proofs.boltamber_deposit.Reads as host-boltamber-deposit
 use Rattle.host.proofs.boltamber_select.Kinds as host-boltamber-select-kinds
@@ -21,18 +33,18 @@ use Rattle.intersect_by_rank.proofs.inner.judge.judge_both.Kinds as intersect-b
 use Rattle.intersect_by_rank.proofs.inner.judge.judge_both.Reads as intersect-by-rank-judge-both
 use Rattle.intersect_by_rank.proofs.inner.compose.compose_with.Kinds as intersect-by-rank-compose-with-kinds
 use Rattle.intersect_by_rank.proofs.inner.compose.compose_with.Reads as intersect-by-rank-compose-with
-use Rattle.kernels.proofs.inner.lay_entry_at_rank.Kinds as kernels-lay-entry-at-rank-kinds
-use Rattle.kernels.proofs.inner.lay_entry_at_rank.Reads as kernels-lay-entry-at-rank
-use Rattle.kernels.proofs.inner.lay_entry_if_set.Kinds as kernels-lay-entry-if-set-kinds
-use Rattle.kernels.proofs.inner.lay_entry_if_set.Reads as kernels-lay-entry-if-set
-use Rattle.kernels.proofs.inner.lay_driven_by_list.Kinds as kernels-lay-driven-by-list-kinds
-use Rattle.kernels.proofs.inner.lay_driven_by_list.Reads as kernels-lay-driven-by-list
-use Rattle.kernels.proofs.inner.lay_driven_by_words.Kinds as kernels-lay-driven-by-words-kinds
-use Rattle.kernels.proofs.inner.lay_driven_by_words.Reads as kernels-lay-driven-by-words
-use Rattle.kernels.proofs.inner.intersect_bit_buffer_by_rank_indices.Kinds as kernels-intersect-bit-buffer-by-rank-indices-kinds
-use Rattle.kernels.proofs.inner.intersect_bit_buffer_by_rank_indices.Reads as kernels-intersect-bit-buffer-by-rank-indices
-use Rattle.kernels.proofs.inner.intersect_bit_buffers.Kinds as kernels-intersect-bit-buffers-kinds
-use Rattle.kernels.proofs.inner.intersect_bit_buffers.Reads as kernels-intersect-bit-buffers
+use Rattle.marks.proofs.inner.lay_entry_at_rank.Kinds as marks-lay-entry-at-rank-kinds
+use Rattle.marks.proofs.inner.lay_entry_at_rank.Reads as marks-lay-entry-at-rank
+use Rattle.marks.proofs.inner.lay_entry_if_set.Kinds as marks-lay-entry-if-set-kinds
+use Rattle.marks.proofs.inner.lay_entry_if_set.Reads as marks-lay-entry-if-set
+use Rattle.marks.proofs.inner.lay_driven_by_list.Kinds as marks-lay-driven-by-list-kinds
+use Rattle.marks.proofs.inner.lay_driven_by_list.Reads as marks-lay-driven-by-list
+use Rattle.marks.proofs.inner.lay_driven_by_words.Kinds as marks-lay-driven-by-words-kinds
+use Rattle.marks.proofs.inner.lay_driven_by_words.Reads as marks-lay-driven-by-words
+use Rattle.deposits.proofs.inner.intersect_bit_buffer_by_rank_indices.Kinds as deposits-intersect-bit-buffer-by-rank-indices-kinds
+use Rattle.deposits.proofs.inner.intersect_bit_buffer_by_rank_indices.Reads as deposits-intersect-bit-buffer-by-rank-indices
+use Rattle.deposits.proofs.inner.intersect_bit_buffers.Kinds as deposits-intersect-bit-buffers-kinds
+use Rattle.deposits.proofs.inner.intersect_bit_buffers.Reads as deposits-intersect-bit-buffers
 use Rattle.lent.proofs.inner.word_at.Kinds as lent-word-at-kinds
 use Rattle.lent.proofs.inner.word_at.Reads as lent-word-at
 use Rattle.lent.proofs.inner.joined.Kinds as lent-joined-kinds
@@ -130,6 +142,24 @@ use Rattle.intersect_by_rank.proofs.inner.judge.judge.Reads as intersect-by-ran
 use Rattle.laid.proofs.inner.copy_words.Kinds as laid-copy-words-kinds
 use Rattle.laid.proofs.inner.copy_words.Reads as laid-copy-words
 
+pub books-self-chunk-one : OneAnswer 1 books-self-chunk-kinds.ps books-self-chunk-kinds.r books-self-chunk.Pre books-self-chunk.Post
+books-self-chunk-one κs a p x y v w hv hw = (hv ∙ sym hw, refl)
+
+pub books-rank-chunk-one : OneAnswer 1 books-rank-chunk-kinds.ps books-rank-chunk-kinds.r books-rank-chunk.Pre books-rank-chunk.Post
+books-rank-chunk-one κs a p x y v w hv hw = (hv ∙ sym hw, refl)
+
+pub books-self-bits-one : OneAnswer 1 books-self-bits-kinds.ps books-self-bits-kinds.r books-self-bits.Pre books-self-bits.Post
+books-self-bits-one κs a p x y v w hv hw = (hv ∙ sym hw, refl)
+
+pub books-rank-bits-one : OneAnswer 1 books-rank-bits-kinds.ps books-rank-bits-kinds.r books-rank-bits.Pre books-rank-bits.Post
+books-rank-bits-one κs a p x y v w hv hw = (hv ∙ sym hw, refl)
+
+pub books-put-rows-one : OneAnswer 1 books-put-rows-kinds.ps books-put-rows-kinds.r books-put-rows.Pre books-put-rows.Post
+books-put-rows-one κs a p x y v w hv hw = (refl, ap (λ (l : List ℕ). (l, (tt, (tt, (tt, (tt, tt)))))) (hv ∙ sym hw))
+
+pub books-mark-row-one : OneAnswer 1 books-mark-row-kinds.ps books-mark-row-kinds.r books-mark-row.Pre books-mark-row.Post
+books-mark-row-one κs a p x y v w hv hw = (refl, ap (λ (l : List ℕ). (l, (tt, (tt, tt)))) (hv ∙ sym hw))
+
 pub host-boltamber-deposit-one : OneAnswer 0 host-boltamber-deposit-kinds.ps host-boltamber-deposit-kinds.r host-boltamber-deposit.Pre host-boltamber-deposit.Post
 host-boltamber-deposit-one κs a p x y v w hv hw = (hv ∙ sym hw, refl)
 
@@ -154,23 +184,23 @@ intersect-by-rank-judge-both-one κs a p x y v w hv hw = (hv ∙ sym hw, refl)
 pub intersect-by-rank-compose-with-one : OneAnswer 5 intersect-by-rank-compose-with-kinds.ps intersect-by-rank-compose-with-kinds.r intersect-by-rank-compose-with.Pre intersect-by-rank-compose-with.Post
 intersect-by-rank-compose-with-one κs a p x y v w hv hw = (hv .0 ∙ sym (hw .0), ap (λ (l : List ℕ). (tt, (tt, (tt, (tt, (tt, (tt, (tt, (l, tt))))))))) (hv .1 ∙ sym (hw .1)))
 
-pub kernels-lay-entry-at-rank-one : OneAnswer 3 kernels-lay-entry-at-rank-kinds.ps kernels-lay-entry-at-rank-kinds.r kernels-lay-entry-at-rank.Pre kernels-lay-entry-at-rank.Post
-kernels-lay-entry-at-rank-one κs a p x y v w hv hw = (refl, ap (λ (l : List ℕ). (tt, (tt, (tt, (tt, (l, tt)))))) (hv ∙ sym hw))
+pub marks-lay-entry-at-rank-one : OneAnswer 3 marks-lay-entry-at-rank-kinds.ps marks-lay-entry-at-rank-kinds.r marks-lay-entry-at-rank.Pre marks-lay-entry-at-rank.Post
+marks-lay-entry-at-rank-one κs a p x y v w hv hw = (refl, ap (λ (l : List ℕ). (tt, (tt, (tt, (tt, (l, tt)))))) (hv ∙ sym hw))
 
-pub kernels-lay-entry-if-set-one : OneAnswer 3 kernels-lay-entry-if-set-kinds.ps kernels-lay-entry-if-set-kinds.r kernels-lay-entry-if-set.Pre kernels-lay-entry-if-set.Post
-kernels-lay-entry-if-set-one κs a p x y v w hv hw = (refl, ap (λ (l : List ℕ). (tt, (tt, (tt, (tt, (tt, (l, tt))))))) (hv ∙ sym hw))
+pub marks-lay-entry-if-set-one : OneAnswer 3 marks-lay-entry-if-set-kinds.ps marks-lay-entry-if-set-kinds.r marks-lay-entry-if-set.Pre marks-lay-entry-if-set.Post
+marks-lay-entry-if-set-one κs a p x y v w hv hw = (refl, ap (λ (l : List ℕ). (tt, (tt, (tt, (tt, (tt, (l, tt))))))) (hv ∙ sym hw))
 
-pub kernels-lay-driven-by-list-one : OneAnswer 3 kernels-lay-driven-by-list-kinds.ps kernels-lay-driven-by-list-kinds.r kernels-lay-driven-by-list.Pre kernels-lay-driven-by-list.Post
-kernels-lay-driven-by-list-one κs a p x y v w hv hw = (refl, ap (λ (l : List ℕ). (tt, (tt, (tt, (tt, (tt, (l, tt))))))) (hv ∙ sym hw))
+pub marks-lay-driven-by-list-one : OneAnswer 3 marks-lay-driven-by-list-kinds.ps marks-lay-driven-by-list-kinds.r marks-lay-driven-by-list.Pre marks-lay-driven-by-list.Post
+marks-lay-driven-by-list-one κs a p x y v w hv hw = (refl, ap (λ (l : List ℕ). (tt, (tt, (tt, (tt, (tt, (l, tt))))))) (hv ∙ sym hw))
 
-pub kernels-lay-driven-by-words-one : OneAnswer 3 kernels-lay-driven-by-words-kinds.ps kernels-lay-driven-by-words-kinds.r kernels-lay-driven-by-words.Pre kernels-lay-driven-by-words.Post
-kernels-lay-driven-by-words-one κs a p x y v w hv hw = (refl, ap (λ (l : List ℕ). (tt, (tt, (tt, (tt, (tt, (tt, (tt, (l, tt))))))))) (hv ∙ sym hw))
+pub marks-lay-driven-by-words-one : OneAnswer 3 marks-lay-driven-by-words-kinds.ps marks-lay-driven-by-words-kinds.r marks-lay-driven-by-words.Pre marks-lay-driven-by-words.Post
+marks-lay-driven-by-words-one κs a p x y v w hv hw = (refl, ap (λ (l : List ℕ). (tt, (tt, (tt, (tt, (tt, (tt, (tt, (l, tt))))))))) (hv ∙ sym hw))
 
-pub kernels-intersect-bit-buffer-by-rank-indices-one : OneAnswer 3 kernels-intersect-bit-buffer-by-rank-indices-kinds.ps kernels-intersect-bit-buffer-by-rank-indices-kinds.r kernels-intersect-bit-buffer-by-rank-indices.Pre kernels-intersect-bit-buffer-by-rank-indices.Post
-kernels-intersect-bit-buffer-by-rank-indices-one κs a p x y v w hv hw = (refl, ap (λ (l : List ℕ). (tt, (tt, (tt, (tt, (tt, (tt, (l, tt)))))))) (hv ∙ sym hw))
+pub deposits-intersect-bit-buffer-by-rank-indices-one : OneAnswer 3 deposits-intersect-bit-buffer-by-rank-indices-kinds.ps deposits-intersect-bit-buffer-by-rank-indices-kinds.r deposits-intersect-bit-buffer-by-rank-indices.Pre deposits-intersect-bit-buffer-by-rank-indices.Post
+deposits-intersect-bit-buffer-by-rank-indices-one κs a p x y v w hv hw = (refl, ap (λ (l : List ℕ). (tt, (tt, (tt, (tt, (tt, (tt, (l, tt)))))))) (hv ∙ sym hw))
 
-pub kernels-intersect-bit-buffers-one : OneAnswer 3 kernels-intersect-bit-buffers-kinds.ps kernels-intersect-bit-buffers-kinds.r kernels-intersect-bit-buffers.Pre kernels-intersect-bit-buffers.Post
-kernels-intersect-bit-buffers-one κs a p x y v w hv hw = (refl, ap (λ (l : List ℕ). (tt, (tt, (tt, (tt, (tt, (tt, (tt, (l, tt))))))))) (hv ∙ sym hw))
+pub deposits-intersect-bit-buffers-one : OneAnswer 3 deposits-intersect-bit-buffers-kinds.ps deposits-intersect-bit-buffers-kinds.r deposits-intersect-bit-buffers.Pre deposits-intersect-bit-buffers.Post
+deposits-intersect-bit-buffers-one κs a p x y v w hv hw = (refl, ap (λ (l : List ℕ). (tt, (tt, (tt, (tt, (tt, (tt, (tt, (l, tt))))))))) (hv ∙ sym hw))
 
 pub lent-word-at-one : OneAnswer 1 lent-word-at-kinds.ps lent-word-at-kinds.r lent-word-at.Pre lent-word-at.Post
 lent-word-at-one κs a p x y v w hv hw = (hv ∙ sym hw, refl)

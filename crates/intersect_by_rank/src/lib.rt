@@ -1,4 +1,4 @@
-// Composition by rank: a rank mask laid back onto the rows of self. Document 01, part 7; part 6 is `kernels`.
+// Composition by rank: a rank mask laid back onto the rows of self. Document 01, part 7; part 6 is `marks` and `deposits`.
 ghost use mathlib.Core.Path.{_≡_};
 ghost use denote.Ref.{now};
 ghost use Rattle.rules.specs.Operand.{lent};

@@ -1,0 +1,85 @@
+// Where a row or a rank becomes a bit of lent words. The struct in the signature says in which book the number is kept, and nowhere else is one
+// added to a start or to the output's first bit.
+ghost use mathlib.Core.Path.{_≡_};
+ghost use mathlib.Core.Bool.{true};
+ghost use mathlib.Core.List.{[], _∷_};
+ghost use Prim.Native.Nat.{_+_, _*_, _^_, _≤_, _<_};
+ghost use lib.ListN.{length, drop};
+ghost use denote.Ref.{now};
+ghost use Rattle.rows.specs.Word.{bitsOf, wordOf};
+ghost use Rattle.rows.specs.Words.{fit, bitsOfAll, view};
+ghost use Rattle.rows.specs.Laid.{laid};
+ghost use Rattle.rows.specs.Asks.{Room, Chunk};
+ghost use Rattle.books.specs.Chunks.{chunkAt};
+use laid::inner::put;
+use laid::inner::set_bit;
+use lent::inner::chunk;
+use lent::inner::chunk_len;
+use lent::inner::read;
+use rows::Rank;
+use rows::Row;
+
+// The chunk from bit i of a view on: a word as it lies where the view and the chunk begin on one, and no row lacks. Bit i is a place in lent
+// words, and neither a row nor a rank: the view is self's or the rank mask's.
+fn chunk_at(words: &[u64], start: u64, len: u64, i: u64) -> u64
+    requires { ⌜ (start + len ≤ length (now words) * 64) × (i < len) ⌝ }
+    ensures { λ r. ⌜ r ≡ wordOf (chunkAt (view start len (now (words .entry))) i) ⌝ }
+{
+    let n = chunk_len(len, i);
+    if start != 0 {
+        return chunk(words, start, i, n);
+    }
+    if i % 64 + 64 != n {
+        return chunk(words, start, i, n);
+    }
+    words[(i / 64) as usize]
+}
+
+// The chunk of self from a row on.
+pub fn self_chunk(words: &[u64], start: u64, len: u64, row: Row) -> u64
+    requires { ⌜ (start + len ≤ length (now words) * 64) × (row .0 < len) ⌝ }
+    ensures { λ r. ⌜ r ≡ wordOf (chunkAt (view start len (now (words .entry))) (row .0)) ⌝ }
+{
+    chunk_at(words, start, len, row.0)
+}
+
+// The chunk of a rank mask from a rank on.
+pub fn rank_chunk(ranks: &[u64], from: u64, ranklen: u64, rank: Rank) -> u64
+    requires { ⌜ (from + ranklen ≤ length (now ranks) * 64) × (rank .0 < ranklen) ⌝ }
+    ensures { λ r. ⌜ r ≡ wordOf (chunkAt (view from ranklen (now (ranks .entry))) (rank .0)) ⌝ }
+{
+    chunk_at(ranks, from, ranklen, rank.0)
+}
+
+// Rows of self from a row on, n of them: the caller knows how many its chunk has.
+pub fn self_bits(words: &[u64], start: u64, row: Row, n: u64) -> u64
+    requires { ⌜ Chunk n ⌝ }
+    ensures { λ r. ⌜ r ≡ wordOf (fit n (drop (start + row .0) (bitsOfAll 64 (now (words .entry))))) ⌝ }
+{
+    chunk(words, start, row.0, n)
+}
+
+// The rank bits from a rank on. The place is one sum, so that the read has nothing else to add.
+pub fn rank_bits(ranks: &[u64], from: u64, rank: Rank) -> u64
+    requires { ⌜ from + rank .0 < 2 ^ 64 ⌝ }
+    ensures { λ r. ⌜ r ≡ wordOf (fit 64 (drop (from + rank .0) (bitsOfAll 64 (now (ranks .entry))))) ⌝ }
+{
+    let at = from + rank.0;
+    read(ranks, at, 0)
+}
+
+// The low n bits of bits over the output from a row on; row 0 is at bit at.
+pub fn put_rows(out: &mut [u64], at: u64, row: Row, n: u64, bits: u64)
+    requires { ⌜ Chunk n × Room (at + row .0) n (now out) ⌝ }
+    ensures { λ _. ⌜ now (out .exit) ≡ laid (at + row .0) (bitsOf n bits) (now (out .entry)) ⌝ }
+{
+    put(out, at + row.0, n, bits);
+}
+
+// A row marked in the output; row 0 is at bit at.
+pub fn mark_row(out: &mut [u64], at: u64, row: Row)
+    requires { ⌜ (at + row .0 < length (now out) * 64) × (at + row .0 < 2 ^ 64) ⌝ }
+    ensures { λ _. ⌜ now (out .exit) ≡ laid (at + row .0) (true ∷ []) (now (out .entry)) ⌝ }
+{
+    set_bit(out, at + row.0);
+}

@@ -1,0 +1,3 @@
+pub mod DepositLaws
+pub mod GatherLaws
+pub mod WholeLaws

@@ -1,2 +1,0 @@
-pub mod Driven
-pub mod Gathers

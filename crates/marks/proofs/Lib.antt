@@ -1,0 +1,2 @@
+pub mod DrivenLaws
+pub mod ListLaws
