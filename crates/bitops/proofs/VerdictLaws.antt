@@ -3,27 +3,16 @@
 -- Assumes nothing.
 use mathlib.Core.Path.{_≡_, refl, sym, ap, ap₂, _∙_}
 use mathlib.Core.Bool.{Bool, not}
-use mathlib.Core.List.{List, [], _∷_, map}
+use mathlib.Core.List.{map}
 use lib.ListN.{length}
-use Rattle.rows.specs.declared.Verdict.{Verdict}
 use Rattle.rows.specs.Word.{both}
-use Rattle.rows.specs.Table.{Line, first, inOrder, ifFine}
 use Rattle.rows.proofs.BothLaws.{both-length, both-not}
-use Rattle.rows.proofs.TableLaws.{parts-first, parts-last}
 use Rattle.rules.specs.Operand.{Operand, rowsOf, lengthOf}
 use Rattle.rules.specs.SetOps.{combination}
 use Rattle.rules.proofs.SetOperations.{Taken}
 use Rattle.operand.specs.Flat.{Flat, flat, Abreast}
 use Rattle.operand.proofs.NumberLaws.{no-numbers}
 use Rattle.operand.proofs.FlatLaws.{accepted-flat, flat-rows, flat-length}
-
--- a part's verdict and that of the parts after it, joined by `then`: the verdict of the table from that part on
-pub then-told : {v w r : Verdict} (t u : List Line) (ts : List (List Line)) → r ≡ ifFine v w v → v ≡ first t → w ≡ first (inOrder (u ∷ ts))
-    → r ≡ first (inOrder (t ∷ u ∷ ts))
-then-told t u ts e p q = e ∙ (λ i. ifFine (p i) (q i) (p i)) ∙ sym (parts-first t u ts)
-
-pub last-told : {v : Verdict} (t : List Line) → v ≡ first t → v ≡ first (inOrder (t ∷ []))
-last-told t e = e ∙ sym (parts-last t)
 
 pub taken-flat : (o : Operand) → Taken o → Flat o
 taken-flat o t = accepted-flat o (no-numbers (o .form) (t .0)) (t .1)

@@ -7,7 +7,7 @@ use native.Mathlib.Decide.{decLe}
 use Rattle.rows.specs.Laid.{wordsFor}
 use Rattle.rows.specs.Table.{first, need}
 use Rattle.rules.specs.Operand.{lengthOf}
-use Rattle.bitops.proofs.VerdictLaws.{then-told, last-told}
+use Rattle.rows.proofs.TableLaws.{then-told, last-told}
 use borrow.Author.Needs.{needs}
 use Rattle.bitops.proofs.judge.judge_one.Statement.{statement}
 use Rattle.bitops.proofs.judge.judge_one.Tie as tie

@@ -18,7 +18,7 @@ use Rattle.rows.proofs.RowLaws.{count-take-le}
 use Rattle.rules.specs.declared.Form.{Form}
 use Rattle.rules.specs.SetOps.{combination, rowOf}
 use Rattle.rules.specs.Operand.{lent, lengthOf}
-use Rattle.mask.specs.Flat.{Abreast}
+use Rattle.operand.specs.Flat.{Abreast}
 use Rattle.bitops.proofs.VerdictLaws.{result-length}
 use Rattle.bitops.proofs.WriteLaws.{turn-few, turn-count, turn-laid, whole-part}
 use borrow.Author.Needs.{needs}

@@ -1,7 +1,6 @@
 -- `intersect_by_rank::inner::judge::judge_both` meets its contract: self's refusal is told, and else the rank mask's.
--- By the law of parts in order, whatever their order is. Assumes nothing.
-use mathlib.Core.Path.{_∙_}
-use Rattle.rows.proofs.TableLaws.{parts-first, parts-last}
+-- By the law of parts in order. Assumes nothing.
+use Rattle.rows.proofs.TableLaws.{then-told, last-told}
 use borrow.Author.Needs.{needs}
 use Rattle.intersect_by_rank.proofs.inner.judge.judge_both.Statement.{statement}
 use Rattle.intersect_by_rank.proofs.inner.judge.judge_both.Tie as tie
@@ -16,7 +15,7 @@ then-requires : tie.Need-then-requires
 then-requires c κs = search needs
 
 returns : tie.Need-returns
-returns c = c .then .ensures ∙ rw (c .before .check2 .ensures, c .before .before .check .ensures, parts-first, parts-last)
+returns c = then-told _ _ _ (c .then .ensures) (c .before .before .check .ensures) (last-told _ (c .before .check2 .ensures))
 
 pub judge-both-spec : {M : Type 1} → statement M
 judge-both-spec = tie.close (tie.spec check-requires check-requires-2 then-requires returns)
