@@ -1,3 +1,1 @@
-pub mod OpLaws
-pub mod WriteLaws
 pub mod VerdictLaws

@@ -4,24 +4,17 @@
 use mathlib.Core.Path.{_≡_, refl, sym, ap, ap₂, _∙_}
 use mathlib.Core.Bool.{Bool, not}
 use mathlib.Core.List.{map}
-use lib.ListN.{length}
 use Rattle.rows.specs.Word.{both}
-use Rattle.rows.proofs.BothLaws.{both-length, both-not}
-use Rattle.rules.specs.Operand.{Operand, rowsOf, lengthOf}
+use Rattle.rows.proofs.BothLaws.{both-not}
+use Rattle.rules.specs.Operand.{Operand, rowsOf}
 use Rattle.rules.specs.SetOps.{combination}
 use Rattle.rules.proofs.SetOperations.{Taken}
-use Rattle.operand.specs.Flat.{Flat, flat, Abreast}
+use Rattle.operand.specs.Flat.{Flat, flat}
 use Rattle.operand.proofs.NumberLaws.{no-numbers}
-use Rattle.operand.proofs.FlatLaws.{accepted-flat, flat-rows, flat-length}
+use Rattle.operand.proofs.FlatLaws.{accepted-flat, flat-rows}
 
 pub taken-flat : (o : Operand) → Taken o → Flat o
 taken-flat o t = accepted-flat o (no-numbers (o .form) (t .0)) (t .1)
-
--- the result of two operands of one length is as long
-pub result-length : (g : Bool → Bool → Bool) (a b : Operand) → Abreast a b → length (combination g a b) ≡ lengthOf (a .form)
-result-length g a b h =
-    let la = flat-length a (h .0) in
-    both-length g (rowsOf a) (rowsOf b) (la ∙ h .2 ∙ sym (flat-length b (h .1))) ∙ la
 
 -- their words alone are read
 pub flat-combination : (g : Bool → Bool → Bool) (a b : Operand) → Taken a → Taken b → combination g (flat a) (flat b) ≡ combination g a b

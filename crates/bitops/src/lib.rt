@@ -4,18 +4,17 @@ ghost use mathlib.Core.Bool.{_&&_, _||_};
 ghost use denote.Ref.{now};
 ghost use Rattle.rules.specs.SetOps.{andNot, combined, combinedOut, negated, negatedOut};
 ghost use Rattle.rules.specs.Operand.{lent};
+use combine::combine;
 use judge::judge_one;
 use operand::inner::answers::refused;
 use rows::Verdict;
+use rowwise::inner::answer;
 use rules::Answer;
 use rules::Form;
 use rules::Operation;
-use write::answer;
-use write::combine;
 
+mod combine;
 mod judge;
-mod op;
-mod write;
 
 // The rows in both.
 pub fn and(

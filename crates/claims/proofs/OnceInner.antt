@@ -101,6 +101,8 @@ use Rattle.operand.proofs.inner.answers.refused.Kinds as operand-refused-kinds
 use Rattle.operand.proofs.inner.answers.refused.Reads as operand-refused
 use Rattle.network.proofs.inner.deposit_bytewise.Kinds as network-deposit-bytewise-kinds
 use Rattle.network.proofs.inner.deposit_bytewise.Reads as network-deposit-bytewise
+use Rattle.rowwise.proofs.inner.answer.Kinds as rowwise-answer-kinds
+use Rattle.rowwise.proofs.inner.answer.Reads as rowwise-answer
 use Rattle.word.proofs.inner.deposit_portable.Kinds as word-deposit-portable-kinds
 use Rattle.word.proofs.inner.deposit_portable.Reads as word-deposit-portable
 use Rattle.word.proofs.inner.deposit_portable_loop.Kinds as word-deposit-portable-loop-kinds
@@ -285,6 +287,9 @@ operand-refused-one κs a p x y v w hv hw = (hv ∙ sym hw, refl)
 
 pub network-deposit-bytewise-one : OneAnswer 0 network-deposit-bytewise-kinds.ps network-deposit-bytewise-kinds.r network-deposit-bytewise.Pre network-deposit-bytewise.Post
 network-deposit-bytewise-one κs a p x y v w hv hw = (hv ∙ sym hw, refl)
+
+pub rowwise-answer-one : OneAnswer 3 rowwise-answer-kinds.ps rowwise-answer-kinds.r rowwise-answer.Pre rowwise-answer.Post
+rowwise-answer-one κs a p x y v w hv hw = (hv .0 ∙ sym (hw .0), ap (λ (l : List ℕ). (tt, (tt, (tt, (tt, (tt, (l, tt))))))) (hv .1 ∙ sym (hw .1)))
 
 pub word-deposit-portable-one : OneAnswer 0 word-deposit-portable-kinds.ps word-deposit-portable-kinds.r word-deposit-portable.Pre word-deposit-portable.Post
 word-deposit-portable-one κs a p x y v w hv hw = (hv ∙ sym hw, refl)

@@ -1,4 +1,4 @@
--- `bitops::write::write_rows` meets its contract: the whole words of two operands in words, then what is left; all else chunk by chunk.
+-- `rowwise::write::write_rows` meets its contract: the whole words of two operands in words, then what is left; all else chunk by chunk.
 -- By the contracts of the two ways; what the matches tell of the forms is put into each. Assumes nothing.
 use Prim.Native.Nat.{ℕ, _+_, _-_, _*_, _/_, _%_, _≤_, _<_}
 use mathlib.Core.Path.{_≡_, refl, subst, sym, ap, ap₂, _∙_}
@@ -19,11 +19,10 @@ use Rattle.rules.specs.declared.Form.{Form}
 use Rattle.rules.specs.SetOps.{combination, rowOf}
 use Rattle.rules.specs.Operand.{lent, lengthOf}
 use Rattle.operand.specs.Flat.{Abreast}
-use Rattle.bitops.proofs.VerdictLaws.{result-length}
-use Rattle.bitops.proofs.WriteLaws.{turn-few, turn-count, turn-laid, whole-part}
+use Rattle.rowwise.proofs.WriteLaws.{result-length, turn-few, turn-count, turn-laid, whole-part}
 use borrow.Author.Needs.{needs}
-use Rattle.bitops.proofs.write.write_rows.Statement.{statement}
-use Rattle.bitops.proofs.write.write_rows.Tie as tie
+use Rattle.rowwise.proofs.write.write_rows.Statement.{statement}
+use Rattle.rowwise.proofs.write.write_rows.Tie as tie
 
 -- ---- the places, each from the one after it: a statement more in the code changes one of these and no answer
 

@@ -20,6 +20,16 @@ use Rattle.rows.proofs.PartLaws.{view-chunk}
 use Rattle.rows.proofs.LaidLaws.{laid-append}
 use Rattle.rows.proofs.BothLaws.{both-length, both-take, both-part}
 use Rattle.rows.proofs.ChunkLaws.{chunk-bits, chunk-next}
+use Rattle.rules.specs.Operand.{Operand, rowsOf, lengthOf}
+use Rattle.rules.specs.SetOps.{combination}
+use Rattle.operand.specs.Flat.{Abreast}
+use Rattle.operand.proofs.FlatLaws.{flat-length}
+
+-- the result of two operands of one length is as long
+pub result-length : (g : Bool → Bool → Bool) (a b : Operand) → Abreast a b → length (combination g a b) ≡ lengthOf (a .form)
+result-length g a b h =
+    let la = flat-length a (h .0) in
+    both-length g (rowsOf a) (rowsOf b) (la ∙ h .2 ∙ sym (flat-length b (h .1))) ∙ la
 
 module _ (row n : ℕ) (rows : List Bool) where
   -- a chunk has no more set rows than rows

@@ -1,14 +1,14 @@
--- `bitops::op::apply` meets its contract: each case is its operation on the rows.
+-- `rowwise::op::apply` meets its contract: each case is its operation on the rows.
 -- By the law of each operation over the width, at 64. Assumes nothing.
 use Prim.Native.Nat.{ℕ}
 use mathlib.Core.Path.{_≡_, sym, ap, _∙_}
 use Rattle.rows.specs.Word.{bitsOf, wordOf, both}
 use Rattle.rules.specs.declared.Operation.{Operation}
 use Rattle.rules.specs.SetOps.{rowOf}
-use Rattle.bitops.proofs.OpLaws.{and-word, or-word, and-not-word, not-word}
+use Rattle.rowwise.proofs.OpLaws.{and-word, or-word, and-not-word, not-word}
 use borrow.Author.Needs.{needs}
-use Rattle.bitops.proofs.op.apply.Statement.{statement}
-use Rattle.bitops.proofs.op.apply.Tie as tie
+use Rattle.rowwise.proofs.op.apply.Statement.{statement}
+use Rattle.rowwise.proofs.op.apply.Tie as tie
 
 told : {o p : Operation} (x y : ℕ) → o ≡ p → wordOf (both (rowOf o) (bitsOf 64 x) (bitsOf 64 y)) ≡ wordOf (both (rowOf p) (bitsOf 64 x) (bitsOf 64 y))
 told x y e = ap (λ (q : Operation). wordOf (both (rowOf q) (bitsOf 64 x) (bitsOf 64 y))) e

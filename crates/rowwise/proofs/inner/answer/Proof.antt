@@ -1,4 +1,4 @@
--- `bitops::write::answer` meets its contract: the count that the loop gives is the count of the rows that it wrote.
+-- `rowwise::inner::answer` meets its contract: the count that the loop gives is the count of the rows that it wrote.
 -- By the loop's promise and the result's length. Assumes nothing.
 use Prim.Native.Nat.{ℕ, _≤_}
 use mathlib.Core.Path.{_≡_, sym, ap₂, _∙_}
@@ -12,9 +12,9 @@ use Rattle.rules.specs.Operand.{Operand, lent, lengthOf, limit}
 use Rattle.rules.specs.Answer.{accepted, noRoute}
 use Rattle.rules.specs.SetOps.{combination, rowOf}
 use Rattle.operand.proofs.FlatLaws.{flat-limit}
-use Rattle.bitops.proofs.VerdictLaws.{result-length}
-use Rattle.bitops.proofs.write.answer.Statement.{statement}
-use Rattle.bitops.proofs.write.answer.Tie as tie
+use Rattle.rowwise.proofs.WriteLaws.{result-length}
+use Rattle.rowwise.proofs.inner.answer.Statement.{statement}
+use Rattle.rowwise.proofs.inner.answer.Tie as tie
 use borrow.Author.Needs.{needs}
 
 -- ---- the places, each from the one after it: a statement more in the code changes one of these and no answer

@@ -1,4 +1,4 @@
--- `bitops::op::chunk` meets its contract: the operation on a chunk of each operand, cut to n bits, is a chunk of the result.
+-- `rowwise::op::chunk` meets its contract: the operation on a chunk of each operand, cut to n bits, is a chunk of the result.
 -- By the law of what is cut off, and that a part of the result is the result of the parts. Assumes nothing.
 use Prim.Native.Nat.{ℕ}
 use mathlib.Core.Path.{sym, ap, ap₂, _∙_}
@@ -12,9 +12,9 @@ use Rattle.rules.specs.Operand.{Operand, lent, rowsOf}
 use Rattle.rules.specs.SetOps.{rowOf}
 use Rattle.operand.proofs.FlatLaws.{flat-length}
 use Rattle.rows.proofs.ChunkLaws.{chunk-bits}
-use Rattle.bitops.proofs.OpLaws.{cut-word}
-use Rattle.bitops.proofs.op.chunk.Statement.{statement}
-use Rattle.bitops.proofs.op.chunk.Tie as tie
+use Rattle.rowwise.proofs.OpLaws.{cut-word}
+use Rattle.rowwise.proofs.op.chunk.Statement.{statement}
+use Rattle.rowwise.proofs.op.chunk.Tie as tie
 use borrow.Author.Needs.{needs}
 
 abbrev first-operand : tie.Start → Operand

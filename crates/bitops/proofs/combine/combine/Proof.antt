@@ -1,4 +1,4 @@
--- `bitops::write::combine` meets its contract: a refusal is answered and nothing written; else the loop's answer is given.
+-- `bitops::combine::combine` meets its contract: a refusal is answered and nothing written; else the loop's answer is given.
 -- By the verdict of its table. Assumes nothing.
 use Prim.Native.Nat.{ℕ}
 use mathlib.Core.Path.{sym, ap, _∙_}
@@ -17,8 +17,8 @@ use Rattle.rules.proofs.AnswerLaws.{by-fine, by-refusal}
 use Rattle.rules.proofs.SetOperations.{pair-fine}
 use Rattle.bitops.proofs.VerdictLaws.{taken-flat, flat-combination}
 use borrow.Author.Needs.{needs}
-use Rattle.bitops.proofs.write.combine.Statement.{statement}
-use Rattle.bitops.proofs.write.combine.Tie as tie
+use Rattle.bitops.proofs.combine.combine.Statement.{statement}
+use Rattle.bitops.proofs.combine.combine.Tie as tie
 
 -- the operands, the output, the verdict and what is written where it is fine
 

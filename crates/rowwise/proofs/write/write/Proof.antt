@@ -1,4 +1,4 @@
--- `bitops::write::write` meets its contract: the rows laid over words whose last was cleared are the rows written.
+-- `rowwise::write::write` meets its contract: the rows laid over words whose last was cleared are the rows written.
 -- By the law of rows laid from bit 0 on. Assumes nothing.
 use Prim.Native.Nat.{ℕ, _^_}
 use mathlib.Core.Path.{_≡_, ap, _∙_}
@@ -11,10 +11,10 @@ use Rattle.rows.proofs.LaidLaws.{below-all}
 use Rattle.rows.proofs.WrittenLaws.{laid-written}
 use Rattle.rules.specs.Operand.{Operand, lent, lengthOf}
 use Rattle.rules.specs.SetOps.{combination, rowOf}
-use Rattle.bitops.proofs.VerdictLaws.{result-length}
+use Rattle.rowwise.proofs.WriteLaws.{result-length}
 use borrow.Author.Needs.{needs}
-use Rattle.bitops.proofs.write.write.Statement.{statement}
-use Rattle.bitops.proofs.write.write.Tie as tie
+use Rattle.rowwise.proofs.write.write.Statement.{statement}
+use Rattle.rowwise.proofs.write.write.Tie as tie
 
 -- ---- the places, each from the one after it: a statement more in the code changes one of these and no answer
 

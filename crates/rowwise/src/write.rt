@@ -1,32 +1,24 @@
-// The work of an accepted set operation: what it writes and counts, and the answer of that.
+// The work of an accepted set operation: what it writes, and counts.
 ghost use mathlib.Core.Path.{_≡_};
 ghost use mathlib.Core.List.{[]};
 ghost use Prim.Native.Nat.{_+_, _*_, _≤_};
 ghost use lib.ListN.{length};
 ghost use denote.Ref.{now};
-ghost use Rattle.rows.specs.declared.Verdict.the-variants.{Fine};
 ghost use Rattle.rows.specs.Rows.{count};
 ghost use Rattle.rows.specs.Word.{both};
 ghost use Rattle.rows.specs.Words.{view};
 ghost use Rattle.rows.specs.Laid.{wordsFor, laid, written};
 ghost use Rattle.rows.specs.Asks.{InView};
 ghost use Rattle.rules.specs.Operand.{lent, lengthOf};
-ghost use Rattle.rules.specs.Answer.{answered};
-ghost use Rattle.rules.specs.SetOps.{combination, rowOf, combined, combinedOut};
+ghost use Rattle.rules.specs.SetOps.{combination, rowOf};
 ghost use Rattle.operand.specs.Flat.{Abreast};
-use super::judge::judge_two;
 use super::op::apply;
 use super::op::chunk;
 use laid::inner::clear_last;
 use laid::inner::put;
 use lent::inner::chunk_len;
 use lent::inner::whole_word;
-use operand::inner::answers::NO_ROUTE;
-use operand::inner::answers::accepted;
-use operand::inner::answers::refused;
 use operand::inner::forms::length_of;
-use rows::Verdict;
-use rules::Answer;
 use rules::Form;
 use rules::Operation;
 
@@ -124,7 +116,14 @@ fn write_rows(
 }
 
 // The result's rows as whole words from the start on, and how many of them are set.
-fn write(op: Operation, a: Form, awords: &[u64], b: Form, bwords: &[u64], out: &mut [u64]) -> u64
+pub fn write(
+    op: Operation,
+    a: Form,
+    awords: &[u64],
+    b: Form,
+    bwords: &[u64],
+    out: &mut [u64],
+) -> u64
     requires { ⌜ Abreast (lent a (now awords) []) (lent b (now bwords) []) × (wordsFor (lengthOf a) ≤ length (now out)) ⌝ }
     ensures { λ r. ⌜ (r ≡ count (combination (rowOf op) (lent a (now (awords .entry)) []) (lent b (now (bwords .entry)) [])))
         × (now (out .exit) ≡ written (lengthOf a) (combination (rowOf op) (lent a (now (awords .entry)) []) (lent b (now (bwords .entry)) [])) (now (out .entry))) ⌝ }
@@ -132,41 +131,4 @@ fn write(op: Operation, a: Form, awords: &[u64], b: Form, bwords: &[u64], out: &
     let len = length_of(a);
     clear_last(out, len);
     write_rows(op, a, awords, b, bwords, out)
-}
-
-// The rows written, and the answer of them.
-pub fn answer(
-    op: Operation,
-    a: Form,
-    awords: &[u64],
-    b: Form,
-    bwords: &[u64],
-    out: &mut [u64],
-) -> Answer
-    requires { ⌜ Abreast (lent a (now awords) []) (lent b (now bwords) []) × (wordsFor (lengthOf a) ≤ length (now out)) ⌝ }
-    ensures { λ r. ⌜ (r ≡ answered Fine (combination (rowOf op) (lent a (now (awords .entry)) []) (lent b (now (bwords .entry)) [])) 0)
-        × (now (out .exit) ≡ written (lengthOf a) (combination (rowOf op) (lent a (now (awords .entry)) []) (lent b (now (bwords .entry)) [])) (now (out .entry))) ⌝ }
-{
-    let count = write(op, a, awords, b, bwords, out);
-    accepted(count, NO_ROUTE, length_of(a))
-}
-
-// An operation on two operands, checked.
-pub fn combine(
-    op: Operation,
-    a: Form,
-    awords: &[u64],
-    arows: &[u32],
-    b: Form,
-    bwords: &[u64],
-    brows: &[u32],
-    out: &mut [u64],
-) -> Answer
-    ensures { λ r. ⌜ (r ≡ combined (rowOf op) (lent a (now (awords .entry)) (now (arows .entry))) (lent b (now (bwords .entry)) (now (brows .entry))) (now (out .entry)))
-        × (now (out .exit) ≡ combinedOut (rowOf op) (lent a (now (awords .entry)) (now (arows .entry))) (lent b (now (bwords .entry)) (now (brows .entry))) (now (out .entry))) ⌝ }
-{
-    match judge_two(a, awords, arows, b, bwords, brows, out.len() as u64) {
-        Verdict::Refused(refusal) => refused(refusal),
-        Verdict::Fine => answer(op, a, awords, b, bwords, out),
-    }
 }

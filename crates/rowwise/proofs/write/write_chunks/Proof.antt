@@ -1,4 +1,4 @@
--- `bitops::write::write_chunks` meets its contract.
+-- `rowwise::write::write_chunks` meets its contract.
 -- The invariant: the rows before `row` are laid, and `sum` is their count. Assumes nothing.
 use Prim.Native.Nat.{ℕ, _+_, _-_, _≤_, _^_}
 use mathlib.Core.Path.{_≡_, refl, sym, ap, ap₂, _∙_}
@@ -16,10 +16,9 @@ use Rattle.rows.proofs.LaidLaws.{below-all, laid-nil, laid-length}
 use Rattle.rules.specs.Operand.{Operand, lent, lengthOf, limit}
 use Rattle.rules.specs.SetOps.{combination, rowOf}
 use Rattle.operand.proofs.FlatLaws.{flat-limit}
-use Rattle.bitops.proofs.VerdictLaws.{result-length}
-use Rattle.bitops.proofs.WriteLaws.{turn-few, turn-count, turn-laid}
-use Rattle.bitops.proofs.write.write_chunks.Statement.{statement}
-use Rattle.bitops.proofs.write.write_chunks.Tie as tie
+use Rattle.rowwise.proofs.WriteLaws.{result-length, turn-few, turn-count, turn-laid}
+use Rattle.rowwise.proofs.write.write_chunks.Statement.{statement}
+use Rattle.rowwise.proofs.write.write_chunks.Tie as tie
 use borrow.Author.Needs.{needs}
 
 abbrev Inv-loop : tie.InvT-loop

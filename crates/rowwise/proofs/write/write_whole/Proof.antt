@@ -1,4 +1,4 @@
--- `bitops::write::write_whole` meets its contract.
+-- `rowwise::write::write_whole` meets its contract.
 -- The invariant: the words before `i` are laid, and `count` is the number of their set rows. Assumes nothing.
 use Prim.Native.Nat.{ℕ, _+_, _-_, _*_, _≤_, _<_, _^_}
 use mathlib.Core.Path.{_≡_, refl, sym, ap, ap₂, _∙_}
@@ -15,10 +15,10 @@ use Rattle.rows.specs.Words.{Below, view}
 use Rattle.rows.specs.Laid.{laid}
 use Rattle.rows.proofs.LaidLaws.{below-all, below-set, laid-nil, laid-word}
 use Rattle.rules.specs.SetOps.{rowOf}
-use Rattle.bitops.proofs.WriteLaws.{turn-few, turn-count, turn-laid, whole-length, whole-word}
+use Rattle.rowwise.proofs.WriteLaws.{turn-few, turn-count, turn-laid, whole-length, whole-word}
 use borrow.Author.Needs.{needs}
-use Rattle.bitops.proofs.write.write_whole.Statement.{statement}
-use Rattle.bitops.proofs.write.write_whole.Tie as tie
+use Rattle.rowwise.proofs.write.write_whole.Statement.{statement}
+use Rattle.rowwise.proofs.write.write_whole.Tie as tie
 
 abbrev Inv-loop : tie.InvT-loop
 Inv-loop op awords astart bwords bstart n out₀ count₀ i₀ out set i =
