@@ -64,11 +64,15 @@ bitsKey = ascii "bits="
 abbrev pub says : List Bool → List Bool → List ℕ
 says self rank = line selfKey (digits self) ++ line rankKey (digits rank)
 
+-- the longest mask of an input
+abbrev pub mostRows : ℕ
+mostRows = 8192
+
 -- well formed: two masks of at most 8,192 rows, said, and nothing after
 pub record WellFormed (input : List ℕ) (self rank : List Bool) : Type 0 where
   pub said : input ≡ says self rank
-  pub self-short : length self ≤ 8192
-  pub rank-short : length rank ≤ 8192
+  pub self-short : length self ≤ mostRows
+  pub rank-short : length rank ≤ mostRows
 
 -- ---- the masks of an input: a guess, and a check of it by saying it again
 
@@ -101,9 +105,9 @@ decSame (x ∷ xs) (y ∷ ys) = both (ℕ-discrete x y) (decSame xs ys)
 
 -- whether the input says these two masks, and both are short
 abbrev pub decWell : (input : List ℕ) (self rank : List Bool) → Dec (WellFormed input self rank)
-decWell input self rank = all (decSame input (says self rank)) (decLe (length self) 8192) (decLe (length rank) 8192)
+decWell input self rank = all (decSame input (says self rank)) (decLe (length self) mostRows) (decLe (length rank) mostRows)
   where
-    all : Dec (input ≡ says self rank) → Dec (length self ≤ 8192) → Dec (length rank ≤ 8192) → Dec (WellFormed input self rank)
+    all : Dec (input ≡ says self rank) → Dec (length self ≤ mostRows) → Dec (length rank ≤ mostRows) → Dec (WellFormed input self rank)
     all (yes a) (yes b) (yes c) = yes (record { said = a; self-short = b; rank-short = c })
     all (no h) b c = no (λ w. h (w .said))
     all (yes a) (no h) c = no (λ w. h (w .self-short))
