@@ -9,7 +9,6 @@ use lib.ListN.{length, take, getD}
 use lib.Seq.{length-take-le}
 use denote.Ref.{now}
 use borrow.Author.Needs.{needs}
-use Rattle.rows.specs.Rows.{splice}
 use Rattle.rows.specs.Word.{bitsOf}
 use Rattle.rows.specs.Words.{bitsOfAll}
 use Rattle.rows.specs.Laid.{laid}
