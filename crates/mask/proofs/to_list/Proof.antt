@@ -1,11 +1,13 @@
 -- `mask::to_list` meets its contract: a refusal is answered and nothing written; else the rows are written and answered.
 -- By the verdict of its table. Assumes nothing.
-use mathlib.Core.Path.{sym, _∙_}
+use mathlib.Core.Path.{_≡_, sym, _∙_}
 use mathlib.Core.List.{List, _++_}
 use Prim.Native.Nat.{ℕ}
 use lib.ListN.{length, drop}
 use denote.Ref.{now}
 use borrow.Author.Needs.{needs}
+use Rattle.rows.specs.declared.Verdict.{Verdict}
+use Rattle.rows.specs.declared.Verdict.the-variants.{Fine, Refused}
 use Rattle.rows.specs.Lists.{setRows}
 use Rattle.rules.specs.Operand.{Operand, lent, rowsOf, countOf}
 use Rattle.rules.specs.Answer.{noRoute}
@@ -15,11 +17,55 @@ use Rattle.rules.proofs.Conversions.{convert-fine}
 use Rattle.mask.proofs.to_list.Statement.{statement}
 use Rattle.mask.proofs.to_list.Tie as tie
 
-abbrev operand : tie.Start → Operand
-operand s = lent (s .args .form) (now (s .args .words)) (now (s .args .rows))
+-- ---- the places, each from the one after it: the verdict, and of it a refusal or none
 
-abbrev out : tie.Start → List ℕ
-out s = now (s .args .out)
+abbrev entry : tie.After-slice-known → tie.Start
+entry c = c .before .before .before
+
+abbrev start : tie.After-judge-list → tie.Start
+start c = entry (c .before)
+
+abbrev barred : tie.After-refusal → tie.After-judge-list
+barred c = c .before .before
+
+abbrev passed : tie.After-enum-told → tie.After-judge-list
+passed c = c .before .before
+
+abbrev told : tie.After-refused → tie.After-refusal
+told c = c .before .before
+
+abbrev asked : tie.After-convert-to-list → tie.After-enum-told
+asked c = c .before .before
+
+abbrev gave : tie.After-slice-known2 → tie.After-convert-to-list
+gave c = c .before .before
+
+-- ---- what is asked, and what the verdict says of it
+
+module _ (c : tie.Start) where
+  abbrev operand : Operand
+  operand = lent (c .args .form) (now (c .args .words)) (now (c .args .rows))
+
+  abbrev out : List ℕ
+  out = now (c .args .out)
+
+  -- what an accepted operand leaves there
+  abbrev to : List ℕ
+  to = setRows 0 (rowsOf operand) ++ drop (countOf operand) out
+
+  abbrev verdict : Verdict
+  verdict = toListVerdict operand out
+
+fine : (c : tie.After-enum-told) → verdict (start (passed c)) ≡ Fine
+fine c = sym (passed c .judge-list .ensures) ∙ c .enum-told .given .1
+
+refuses : (c : tie.After-refusal) → verdict (start (barred c)) ≡ Refused (c .refusal .given .0 .0)
+refuses c = sym (barred c .judge-list .ensures) ∙ c .refusal .given .1
+
+left : (c : tie.After-convert-to-list) → c .convert-to-list .last .1 .1 .1 .0 ≡ to (start (passed (asked c)))
+left c = c .convert-to-list .ensures .1
+
+-- ---- the answers
 
 judge-list-requires : tie.Need-judge-list-requires
 judge-list-requires c κs = search needs
@@ -35,16 +81,14 @@ enum-told c = search needs
 
 convert-to-list-requires : tie.Need-convert-to-list-requires
 convert-to-list-requires c κs =
-    let judged = c .before .before .before in
-    let s = judged .before .before .before .before in
-    convert-fine (operand s) (countOf (operand s)) (length (out s)) .0 (sym (judged .judge-list .ensures) ∙ c .before .enum-told .given .1)
+    let s = start (passed (c .before)) in
+    convert-fine (operand s) (countOf (operand s)) (length (out s)) .0 (fine (c .before))
 
 returns : tie.Need-returns
 unfolding toList toListOut
 returns c =
-    let judged = c .before .before .before .before in
-    let s = judged .before .before .before .before in
-    let p = by-refusal (toListVerdict (operand s) (out s)) (rowsOf (operand s)) noRoute (setRows 0 (rowsOf (operand s)) ++ drop (countOf (operand s)) (out s)) (out s) _ (sym (judged .judge-list .ensures) ∙ c .before .before .refusal .given .1) in
+    let s = start (barred (told c)) in
+    let p = by-refusal (verdict s) (rowsOf (operand s)) noRoute (to s) (out s) _ (refuses (told c)) in
     (c .refused .ensures ∙ p .0, p .1)
 
 same-length : tie.Need-same-length
@@ -53,11 +97,10 @@ same-length c = search needs
 returns-2 : tie.Need-returns-2
 unfolding toList toListOut
 returns-2 c =
-    let gave = c .before .before in
-    let judged = gave .before .before .before .before in
-    let s = judged .before .before .before .before in
-    let p = by-fine (toListVerdict (operand s) (out s)) (rowsOf (operand s)) noRoute (setRows 0 (rowsOf (operand s)) ++ drop (countOf (operand s)) (out s)) (out s) (sym (judged .judge-list .ensures) ∙ gave .before .before .enum-told .given .1) in
-    (gave .convert-to-list .ensures .0 ∙ p .0, gave .convert-to-list .ensures .1 ∙ p .1)
+    let g = gave c in
+    let s = start (passed (asked g)) in
+    let p = by-fine (verdict s) (rowsOf (operand s)) noRoute (to s) (out s) (fine (asked g)) in
+    (g .convert-to-list .ensures .0 ∙ p .0, left g ∙ p .1)
 
 pub to-list-spec : {M : Type 1} → statement M
 to-list-spec =

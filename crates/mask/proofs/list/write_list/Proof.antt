@@ -1,7 +1,8 @@
 -- `mask::list::write_list` meets its contract: a list is copied, any other form written chunk by chunk.
 -- By what acceptance gives of each; all rows stand before what stays. Assumes nothing.
+use Prim.Native.Nat.{ℕ}
 use mathlib.Core.Path.{_≡_, sym, ap, _∙_}
-use mathlib.Core.Bool.{Bool, true, false}
+use mathlib.Core.Bool.{Bool, true}
 use mathlib.Core.List.{List}
 use native.Mathlib.Nat.{zero-add}
 use native.Mathlib.Omega.{arith}
@@ -12,7 +13,7 @@ use Rattle.rows.specs.Lists.{setRows}
 use Rattle.rows.proofs.ListLaws.{rows-listed, rows-count}
 use Rattle.rules.specs.Operand.{Operand, lent, rowsOf, lengthOf, countOf}
 use Rattle.rules.proofs.OperandLaws.{accepted-count}
-use Rattle.operand.specs.Flat.{hasRowNumbers}
+use Rattle.operand.specs.Flat.{hasRowNumbers, Flat}
 use Rattle.operand.proofs.NumberLaws.{accepted-list, list-rows, list-count}
 use Rattle.operand.proofs.FlatLaws.{accepted-flat, flat-rows}
 use Rattle.mask.proofs.ListOutLaws.{list-front}
@@ -20,53 +21,100 @@ use borrow.Author.Needs.{needs}
 use Rattle.mask.proofs.list.write_list.Statement.{statement}
 use Rattle.mask.proofs.list.write_list.Tie as tie
 
-abbrev operand : tie.Start → Operand
-operand s = lent (s .args .form) (now (s .args .words)) (now (s .args .rows))
+-- ---- the places, each from the one after it: a list, or any other form
+
+abbrev entry : tie.After-slice-known → tie.Start
+entry c = c .before .before .before
+
+abbrev start : tie.After-has-row-numbers → tie.Start
+start c = entry (c .before)
+
+abbrev copying : tie.After-copy-list → tie.Then1
+copying c = c .before .before
+
+abbrev copied : tie.After-slice-known2 → tie.After-copy-list
+copied c = c .before .before
+
+abbrev listing : tie.After-list-flat → tie.Else1
+listing c = c .before .before
+
+abbrev listed : tie.After-slice-known3 → tie.After-list-flat
+listed c = c .before .before
+
+-- ---- the operand, and what is known of it, of either kind
+
+module _ (c : tie.Start) where
+  abbrev operand : Operand
+  operand = lent (c .args .form) (now (c .args .words)) (now (c .args .rows))
+
+  abbrev out : List ℕ
+  out = now (c .args .out)
+
+  -- what is to be written
+  abbrev entries : List ℕ
+  entries = setRows 0 (rowsOf operand)
+
+module _ (c : tie.Then1) where
+  abbrev copies : tie.Start
+  copies = start (c .before)
+
+  numbered : hasRowNumbers (copies .args .form) ≡ true
+  numbered = sym (c .before .has-row-numbers .ensures) ∙ c .if1 .taken
+
+  same : entries copies ≡ now (copies .args .rows)
+  same =
+      let o = operand copies in
+      let len = lengthOf (copies .args .form) in
+      ap (setRows 0) (list-rows o numbered)
+      ∙ rows-listed len 0 len (now (copies .args .rows)) (zero-add len) (accepted-list o numbered (copies .pre .0))
+
+module _ (c : tie.Else1) where
+  abbrev lists : tie.Start
+  lists = start (c .before)
+
+  accepted : Flat (operand lists)
+  accepted = accepted-flat (operand lists) (sym (c .before .has-row-numbers .ensures) ∙ c .if1 .left) (lists .pre .0)
+
+-- ---- the answers
 
 has-row-numbers-requires : tie.Need-has-row-numbers-requires
 has-row-numbers-requires c κs = search needs
 
 copy-list-requires : tie.Need-copy-list-requires
 copy-list-requires c κs =
-    let s = c .before .before .before .before .before .before in
-    let e : hasRowNumbers (s .args .form) ≡ true = sym (c .before .before .has-row-numbers .ensures) ∙ c .before .if1 .taken in
-    omega (arith, list-count (operand s) e, s .pre .1)
+    let t = c .before in
+    omega (arith, list-count (operand (copies t)) (numbered t), copies t .pre .1)
 
 same-length : tie.Need-same-length
 same-length c = search needs
 
 returns : tie.Need-returns
 returns c =
-    let s = c .before .before .before .before .before .before .before .before .before in
-    let a = s .args in
-    let es = now (a .rows) in
-    let e : hasRowNumbers (a .form) ≡ true = sym (c .before .before .before .before .before .has-row-numbers .ensures) ∙ c .before .before .before .before .if1 .taken in
-    let same : setRows 0 (rowsOf (operand s)) ≡ es =
-    ap (setRows 0) (list-rows (operand s) e) ∙ rows-listed (lengthOf (a .form)) 0 (lengthOf (a .form)) es (zero-add (lengthOf (a .form))) (accepted-list (operand s) e (s .pre .0)) in
-    c .before .before .copy-list .ensures ∙ ap (splice 0 (now (a .out))) (sym same)
-    ∙ list-front (now (a .out)) (setRows 0 (rowsOf (operand s))) (countOf (operand s)) (ap length same ∙ sym (list-count (operand s) e)) (s .pre .1)
+    let t = copying (copied c) in
+    let s = copies t in
+    let o = operand s in
+    copied c .copy-list .ensures
+    ∙ ap (splice 0 (out s)) (sym (same t))
+    ∙ list-front (out s) (entries s) (countOf o) (ap length (same t) ∙ sym (list-count o (numbered t))) (s .pre .1)
 
 list-flat-requires : tie.Need-list-flat-requires
 list-flat-requires c κs =
-    let s = c .before .before .before .before .before .before in
-    let a = s .args in
-    let e : hasRowNumbers (a .form) ≡ false = sym (c .before .before .has-row-numbers .ensures) ∙ c .before .if1 .left in
-    let f = accepted-flat (operand s) e (s .pre .0) in
-    (f, omega (arith, ap count (flat-rows (operand s) f), accepted-count (operand s) (s .pre .0), s .pre .1))
+    let e = c .before in
+    let s = lists e in
+    let o = operand s in
+    (accepted e, omega (arith, ap count (flat-rows o (accepted e)), accepted-count o (s .pre .0), s .pre .1))
 
 same-length-2 : tie.Need-same-length-2
 same-length-2 c = search needs
 
 returns-2 : tie.Need-returns-2
 returns-2 c =
-    let s = c .before .before .before .before .before .before .before .before .before in
-    let a = s .args in
-    let es = now (a .rows) in
-    let e : hasRowNumbers (a .form) ≡ false = sym (c .before .before .before .before .before .has-row-numbers .ensures) ∙ c .before .before .before .before .if1 .left in
-    let rows = rowsOf (operand s) in
-    c .before .before .list-flat .ensures
-    ∙ ap (λ (z : List Bool). splice 0 (now (a .out)) (setRows 0 z)) (sym (flat-rows (operand s) (accepted-flat (operand s) e (s .pre .0))))
-    ∙ list-front (now (a .out)) (setRows 0 rows) (countOf (operand s)) (rows-count 0 rows ∙ accepted-count (operand s) (s .pre .0)) (s .pre .1)
+    let e = listing (listed c) in
+    let s = lists e in
+    let o = operand s in
+    listed c .list-flat .ensures
+    ∙ ap (λ (z : List Bool). splice 0 (out s) (setRows 0 z)) (sym (flat-rows o (accepted e)))
+    ∙ list-front (out s) (entries s) (countOf o) (rows-count 0 (rowsOf o) ∙ accepted-count o (s .pre .0)) (s .pre .1)
 
 pub write-list-spec : {M : Type 1} → statement M
 write-list-spec =

@@ -1,14 +1,17 @@
 -- `intersect_by_rank::inner::compose::compose_with` meets its contract: a refusal is answered and nothing written; else the work is done.
 -- By the verdict of its table. Assumes nothing.
 use Prim.Native.Nat.{ℕ}
-use mathlib.Core.Path.{sym, _∙_}
+use mathlib.Core.Path.{_≡_, sym, _∙_}
+use mathlib.Core.Bool.{Bool}
 use mathlib.Core.List.{List}
 use lib.ListN.{length}
 use denote.Ref.{now}
 use Rattle.rows.specs.declared.Verdict.{Verdict}
+use Rattle.rows.specs.declared.Verdict.the-variants.{Fine, Refused}
 use Rattle.rows.specs.Laid.{written}
 use Rattle.rows.specs.Table.{first}
 use Rattle.rules.specs.Operand.{Operand, lent, lengthOf}
+use Rattle.rules.specs.Answer.{answered}
 use Rattle.rules.specs.Compose.{composeChecks, result, routed, composed, composedOut}
 use Rattle.rules.proofs.AnswerLaws.{by-fine, by-refusal}
 use Rattle.rules.proofs.Compositions.{compose-fine}
@@ -16,28 +19,74 @@ use borrow.Author.Needs.{needs}
 use Rattle.intersect_by_rank.proofs.inner.compose.compose_with.Statement.{statement}
 use Rattle.intersect_by_rank.proofs.inner.compose.compose_with.Tie as tie
 
--- the operands, the output, the verdict, the route and what is written where it is fine
-module _ (s : tie.Start) where
+-- ---- the places, each from the one after it: the verdict, and of it a refusal or none
+
+abbrev words-lent : tie.After-slice-known → tie.After-shared-slice-known2
+words-lent c = c .before .before .before
+
+abbrev entry : tie.After-slice-known → tie.Start
+entry c = words-lent c .before .before
+
+abbrev start : tie.After-judge → tie.Start
+start c = entry (c .before)
+
+abbrev barred : tie.After-refusal → tie.After-judge
+barred c = c .before .before
+
+abbrev passed : tie.After-enum-told → tie.After-judge
+passed c = c .before .before
+
+abbrev told : tie.After-refused → tie.After-refusal
+told c = c .before .before
+
+abbrev asked : tie.After-compose-accepted → tie.After-enum-told
+asked c = c .before .before
+
+abbrev gave : tie.After-slice-known2 → tie.After-compose-accepted
+gave c = c .before .before
+
+-- ---- what is asked, and what the verdict says of it
+
+module _ (c : tie.Start) where
   abbrev self : Operand
-  self = lent (s .args .s) (now (s .args .swords)) (now (s .args .srows))
+  self = lent (c .args .s) (now (c .args .swords)) (now (c .args .srows))
 
   abbrev rank : Operand
-  rank = lent (s .args .r) (now (s .args .rwords)) (now (s .args .rrows))
+  rank = lent (c .args .r) (now (c .args .rwords)) (now (c .args .rrows))
 
   abbrev out : List ℕ
-  out = now (s .args .out)
+  out = now (c .args .out)
 
   abbrev verdict : Verdict
   verdict = first (composeChecks self rank (length out))
 
+  abbrev rows : List Bool
+  rows = result self rank
+
   abbrev route : ℕ
-  route = routed (s .args .factors) self rank
+  route = routed (c .args .factors) self rank
 
-  abbrev left : List ℕ
-  left = written (lengthOf (s .args .s)) (result self rank) out
+  -- what accepted operands leave there
+  abbrev to : List ℕ
+  to = written (lengthOf (c .args .s)) rows out
 
-abbrev start : tie.After-judge → tie.Start
-start c = c .before .before .before .before .before .before
+fine : (c : tie.After-enum-told) → verdict (start (passed c)) ≡ Fine
+fine c = sym (passed c .judge .ensures) ∙ c .enum-told .given .1
+
+refuses : (c : tie.After-refusal) → verdict (start (barred c)) ≡ Refused (c .refusal .given .0 .0)
+refuses c = sym (barred c .judge .ensures) ∙ c .refusal .given .1
+
+module _ (c : tie.After-compose-accepted) where
+  abbrev here : tie.Start
+  here = start (passed (asked c))
+
+  answer : c .compose-accepted .result ≡ answered Fine (rows here) (route here)
+  answer = c .compose-accepted .ensures .0
+
+  left : c .compose-accepted .last .1 .1 .1 .1 .1 .1 .1 .0 ≡ to here
+  left = c .compose-accepted .ensures .1
+
+-- ---- the answers
 
 judge-requires : tie.Need-judge-requires
 judge-requires c κs = search needs
@@ -53,16 +102,14 @@ enum-told c = search needs
 
 compose-accepted-requires : tie.Need-compose-accepted-requires
 compose-accepted-requires c κs =
-    let judged = c .before .before .before in
-    let s = start judged in
-    compose-fine (self s) (rank s) (length (out s)) .0 (sym (judged .judge .ensures) ∙ c .before .enum-told .given .1)
+    let s = start (passed (c .before)) in
+    compose-fine (self s) (rank s) (length (out s)) .0 (fine (c .before))
 
 returns : tie.Need-returns
 unfolding composed composedOut
 returns c =
-    let judged = c .before .before .before .before in
-    let s = start judged in
-    let p = by-refusal (verdict s) (result (self s) (rank s)) (route s) (left s) (out s) _ (sym (judged .judge .ensures) ∙ c .before .before .refusal .given .1) in
+    let s = start (barred (told c)) in
+    let p = by-refusal (verdict s) (rows s) (route s) (to s) (out s) _ (refuses (told c)) in
     (c .refused .ensures ∙ p .0, p .1)
 
 same-length : tie.Need-same-length
@@ -71,11 +118,10 @@ same-length c = search needs
 returns-2 : tie.Need-returns-2
 unfolding composed composedOut
 returns-2 c =
-    let gave = c .before .before in
-    let judged = gave .before .before .before .before in
-    let s = start judged in
-    let p = by-fine (verdict s) (result (self s) (rank s)) (route s) (left s) (out s) (sym (judged .judge .ensures) ∙ gave .before .before .enum-told .given .1) in
-    (gave .compose-accepted .ensures .0 ∙ p .0, gave .compose-accepted .ensures .1 ∙ p .1)
+    let g = gave c in
+    let s = here g in
+    let p = by-fine (verdict s) (rows s) (route s) (to s) (out s) (fine (asked g)) in
+    (answer g ∙ p .0, left g ∙ p .1)
 
 pub compose-with-spec : {M : Type 1} → statement M
 compose-with-spec =

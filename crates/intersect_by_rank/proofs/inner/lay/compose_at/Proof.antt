@@ -1,7 +1,7 @@
 -- `intersect_by_rank::inner::lay::compose_at` meets its contract.
 -- What the line of the route says is what its kernel asks for, and gives the composition. Assumes nothing.
-use Prim.Native.Nat.{ℕ}
-use mathlib.Core.Path.{_≡_, ap, ap₂, _∙_, subst}
+use Prim.Native.Nat.{ℕ, _+_, _*_, _≤_}
+use mathlib.Core.Path.{_≡_, sym, ap, ap₂, _∙_, subst}
 use mathlib.Core.Bool.{Bool, false}
 use mathlib.Core.List.{List}
 use native.Mathlib.Omega.{arith}
@@ -9,36 +9,225 @@ use lib.ListN.{length, drop, replicate}
 use denote.Ref.{now}
 use Rattle.rows.specs.Rows.{count, compose}
 use Rattle.rows.specs.Words.{bitsOfAll, view}
-use Rattle.rows.specs.Lists.{listed}
+use Rattle.rows.specs.Lists.{listed, Ascending}
 use Rattle.rows.specs.Laid.{laid}
+use Rattle.rows.specs.Asks.{InView, Room}
 use Rattle.rules.specs.declared.Route.{Route}
-use Rattle.rules.specs.Operand.{Operand, lent, lengthOf}
+use Rattle.rules.specs.declared.Route.the-variants.{NoRows, EntryAtRank, EntryIfSet}
+use Rattle.rules.specs.Operand.{Operand, lent, rowsOf, lengthOf}
+use Rattle.rules.specs.Compose.{Paired, result}
 use Rattle.operand.specs.Flat.{startOf}
-use Rattle.intersect_by_rank.specs.Fits.{Fits}
-use Rattle.intersect_by_rank.proofs.FitsLaws.{in-words, by-full-self, full-length, by-full-rank, by-empty, words-ascends, words-listed, words-read, list-ascends, list-length, list-ranks, list-listed, list-read}
+use Rattle.intersect_by_rank.specs.Fits.{Fits, AsList, InWords}
+use Rattle.intersect_by_rank.proofs.FitsLaws.{in-words, by-full-self, full-length, by-full-rank, by-empty}
+use Rattle.intersect_by_rank.proofs.FitsLaws.{words-ascends, words-listed, words-read}
+use Rattle.intersect_by_rank.proofs.FitsLaws.{list-ascends, list-length, list-ranks, list-listed, list-read}
 use Rattle.intersect_by_rank.proofs.inner.lay.compose_at.Statement.{statement}
 use Rattle.intersect_by_rank.proofs.inner.lay.compose_at.Tie as tie
 use borrow.Author.Needs.{needs}
 
--- ---- where the match stands: the length and the two starts are asked
+-- ---- the places, each from the one after it: where the match stands, and each of its arms
+
+abbrev words-lent : tie.After-slice-known → tie.After-shared-slice-known2
+words-lent c = c .before .before .before
+
+abbrev entry : tie.After-slice-known → tie.Start
+entry c = words-lent c .before .before
 
 abbrev start : tie.After-start-of2 → tie.Start
-start q = q .before .before .before .before .before .before .before .before
+start c = entry (c .before .before .before)
 
-module _ (s : tie.Start) where
+abbrev full-self : tie.After-enum-told → tie.After-start-of2
+full-self c = c .before .before
+
+abbrev full-self-laid : tie.After-slice-known2 → tie.After-lay-rows
+full-self-laid c = c .before .before
+
+abbrev full-rank : tie.After-enum-told2 → tie.After-start-of2
+full-rank c = c .before .before
+
+abbrev full-rank-laid : tie.After-slice-known3 → tie.After-lay-rows2
+full-rank-laid c = c .before .before
+
+abbrev no-rows : tie.After-enum-told3 → tie.After-start-of2
+no-rows c = c .before .before
+
+abbrev no-rows-laid : tie.After-slice-known4 → tie.After-clear
+no-rows-laid c = c .before .before
+
+abbrev at-rank : tie.After-enum-told4 → tie.After-start-of2
+at-rank c = c .before .before
+
+abbrev at-rank-laid : tie.After-slice-known5 → tie.After-lay-entry-at-rank
+at-rank-laid c = c .before .before
+
+abbrev if-set : tie.After-enum-told5 → tie.After-start-of2
+if-set c = c .before .before
+
+abbrev if-set-laid : tie.After-slice-known6 → tie.After-lay-entry-if-set
+if-set-laid c = c .before .before
+
+abbrev driven : tie.After-enum-told6 → tie.After-start-of2
+driven c = c .before .before
+
+abbrev driven-laid : tie.After-slice-known7 → tie.After-lay-mask-driven
+driven-laid c = c .before .before
+
+abbrev gathered : tie.After-route → tie.After-start-of2
+gathered c = c .before .before
+
+abbrev gathering : tie.After-intersect-bit-buffer-by-rank-indices-arg → tie.After-route
+gathering c = c .before .before
+
+abbrev gathered-laid : tie.After-slice-known8 → tie.After-intersect-bit-buffer-by-rank-indices
+gathered-laid c = c .before .before
+
+abbrev read : tie.After-route2 → tie.After-start-of2
+read c = c .before .before
+
+abbrev reading : tie.After-intersect-bit-buffers-arg → tie.After-route2
+reading c = c .before .before
+
+abbrev read-laid : tie.After-slice-known9 → tie.After-intersect-bit-buffers
+read-laid c = c .before .before
+
+-- ---- the operands, and what is asked of them before the match
+
+module _ (c : tie.Start) where
   abbrev self : Operand
-  self = lent (s .args .s) (now (s .args .swords)) (now (s .args .srows))
+  self = lent (c .args .s) (now (c .args .swords)) (now (c .args .srows))
 
   abbrev rank : Operand
-  rank = lent (s .args .r) (now (s .args .rwords)) (now (s .args .rrows))
+  rank = lent (c .args .r) (now (c .args .rwords)) (now (c .args .rrows))
 
   -- the line of the route that the match tells
-  line : {route : Route} → s .args .route ≡ route → Fits route self rank
-  line e = subst (λ (q : Route). Fits q self rank) e (s .pre .1)
+  line : {route : Route} → c .args .route ≡ route → Fits route self rank
+  line e = subst (λ (q : Route). Fits q self rank) e (c .pre .1)
 
-  -- other rows laid there
-  over : {x y : List Bool} → x ≡ y → laid (s .args .at) x (now (s .args .out)) ≡ laid (s .args .at) y (now (s .args .out))
-  over e = ap (λ (z : List Bool). laid (s .args .at) z (now (s .args .out))) e
+  -- the rows laid there are these
+  laid-as : (rows : List Bool) {o : List ℕ} → o ≡ laid (c .args .at) rows (now (c .args .out)) → rows ≡ result self rank
+      → o ≡ laid (c .args .at) (result self rank) (now (c .args .out))
+  laid-as rows p e = p ∙ ap (λ (z : List Bool). laid (c .args .at) z (now (c .args .out))) e
+
+module _ (c : tie.After-start-of2) where
+  abbrev len : ℕ
+  len = c .before .before .length-of .result
+
+  abbrev first : ℕ
+  first = c .before .start-of .result
+
+  abbrev from : ℕ
+  from = c .start-of2 .result
+
+  long : len ≡ lengthOf (start c .args .s)
+  long = c .before .before .length-of .ensures
+
+  self-from : first ≡ startOf (start c .args .s)
+  self-from = c .before .start-of .ensures
+
+  rank-from : from ≡ startOf (start c .args .r)
+  rank-from = c .start-of2 .ensures
+
+  abbrev s : Operand
+  s = self (start c)
+
+  abbrev r : Operand
+  r = rank (start c)
+
+  abbrev both : Paired s r
+  both = start c .pre .0
+
+  room : Room (start c .args .at) len (now (start c .args .out))
+  room = (omega (arith, long, start c .pre .2 .0), omega (arith, long, start c .pre .2 .1))
+
+-- ---- what the kernels ask, and that what they lay is the composition
+
+cleared : (c : tie.After-start-of2) → Fits NoRows (s c) (r c) → replicate (len c) false ≡ result (s c) (r c)
+cleared c f = ap (λ (k : ℕ). replicate k false) (long c) ∙ by-empty (s c) (r c) (both c) f
+
+-- self a list
+module _ (c : tie.After-start-of2) where
+  abbrev rows : List ℕ
+  rows = s c .numbers
+
+  abbrev rows-at-rank : List Bool
+  rows-at-rank = compose (listed (len c) rows) (listed (length rows) (r c .numbers))
+
+  abbrev rows-if-set : List Bool
+  rows-if-set = compose (listed (len c) rows) (drop (from c) (bitsOfAll 64 (r c .words)))
+
+  module _ (l : AsList (s c)) where
+    ascends : Ascending 0 (len c) rows
+    ascends = subst (λ (k : ℕ). Ascending 0 k rows) (sym (long c)) (list-ascends (s c) (r c) (both c) l)
+
+    reach : InWords (r c) → (length rows ≤ 1048576) × (from c + length rows ≤ length (r c .words) * 64)
+    reach v =
+        let m = in-words (r c) v (both c .rank) .inView in
+        let n = list-length (s c) (r c) (both c) l in
+        (omega (arith, n, m .0), omega (arith, n, rank-from c, m .2))
+
+    by-rank : AsList (r c) → rows-at-rank ≡ result (s c) (r c)
+    by-rank e =
+        ap (λ (k : ℕ). compose (listed k rows) (listed (length rows) (r c .numbers))) (long c)
+        ∙ list-listed (s c) (r c) (both c) l e
+
+    by-bit : InWords (r c) → rows-if-set ≡ result (s c) (r c)
+    by-bit v =
+        ap₂ (λ (k n : ℕ). compose (listed k rows) (drop n (bitsOfAll 64 (r c .words)))) (long c) (rank-from c)
+        ∙ list-read (s c) (r c) (both c) l v
+
+-- self in words
+module _ (c : tie.After-start-of2) where
+  abbrev shown : ℕ → ℕ → List Bool
+  shown k n = view k n (s c .words)
+
+  abbrev ranks : ℕ
+  ranks = count (shown (first c) (len c))
+
+  abbrev rows-gathered : List Bool
+  rows-gathered = compose (shown (first c) (len c)) (listed ranks (r c .numbers))
+
+  abbrev rows-read : List Bool
+  rows-read = compose (shown (first c) (len c)) (drop (from c) (bitsOfAll 64 (r c .words)))
+
+  module _ (w : InWords (s c)) where
+    in-view : InView (first c) (len c) (s c .words)
+    in-view =
+        let v = in-words (s c) w (both c .self) .inView in
+        (omega (arith, long c, v .0), omega (arith, self-from c, v .1), omega (arith, long c, self-from c, v .2))
+
+    ranks-ascend : AsList (r c) → Ascending 0 ranks (r c .numbers)
+    ranks-ascend e =
+        let same = ap₂ (λ (k n : ℕ). count (shown k n)) (sym (self-from c)) (sym (long c)) in
+        subst (λ (k : ℕ). Ascending 0 k (r c .numbers)) same (words-ascends (s c) (r c) (both c) w e)
+
+    by-list : AsList (r c) → rows-gathered ≡ result (s c) (r c)
+    by-list e =
+        ap₂ (λ (k n : ℕ). compose (shown k n) (listed (count (shown k n)) (r c .numbers))) (self-from c) (long c)
+        ∙ words-listed (s c) (r c) (both c) w e
+
+    by-words : InWords (r c) → rows-read ≡ result (s c) (r c)
+    by-words v =
+        let bits = bitsOfAll 64 (r c .words) in
+        let all = shown (startOf (s c .form)) (lengthOf (s c .form)) in
+        ap₂ (λ (k n : ℕ). compose (shown k n) (drop (from c) bits)) (self-from c) (long c)
+        ∙ ap (λ (n : ℕ). compose all (drop n bits)) (rank-from c)
+        ∙ words-read (s c) (r c) (both c) w v
+
+-- ---- the line that each arm is told
+
+fits-at-rank : (c : tie.After-enum-told4) → Fits EntryAtRank (s (at-rank c)) (r (at-rank c))
+fits-at-rank c = line (start (at-rank c)) (c .enum-told4 .given .1)
+
+fits-if-set : (c : tie.After-enum-told5) → Fits EntryIfSet (s (if-set c)) (r (if-set c))
+fits-if-set c = line (start (if-set c)) (c .enum-told5 .given .1)
+
+fits-gathered : (c : tie.After-route) → InWords (s (gathered c)) × AsList (r (gathered c))
+fits-gathered c = line (start (gathered c)) (c .route .given .1)
+
+fits-read : (c : tie.After-route2) → InWords (s (read c)) × InWords (r (read c))
+fits-read c = line (start (read c)) (c .route2 .given .1)
+
+-- ---- the answers
 
 length-of-requires : tie.Need-length-of-requires
 length-of-requires c κs = search needs
@@ -54,52 +243,49 @@ enum-told c = search needs
 
 lay-rows-requires : tie.Need-lay-rows-requires
 lay-rows-requires c κs =
-    let s = start (c .before .before .before) in
-    let e = full-length (self s) (rank s) (s .pre .0) (line s (c .before .enum-told .given .1)) in
-    (s .pre .0 .rank, (omega (arith, e, s .pre .2 .0), omega (arith, e, s .pre .2 .1)))
+    let q = full-self (c .before) in
+    let e = full-length (s q) (r q) (both q) (line (start q) (c .before .enum-told .given .1)) in
+    (both q .rank, (omega (arith, e, start q .pre .2 .0), omega (arith, e, start q .pre .2 .1)))
 
 enum-told-2 : tie.Need-enum-told-2
 enum-told-2 c = search needs
 
 lay-rows-requires-2 : tie.Need-lay-rows-requires-2
-lay-rows-requires-2 c κs = let s = start (c .before .before .before) in (s .pre .0 .self, s .pre .2)
+lay-rows-requires-2 c κs =
+    let q = full-rank (c .before) in
+    (both q .self, start q .pre .2)
 
 enum-told-3 : tie.Need-enum-told-3
 enum-told-3 c = search needs
 
 clear-requires : tie.Need-clear-requires
-clear-requires c κs =
-    let q = c .before .before .before in
-    let s = start q in
-    rw (q .before .before .length-of .ensures) (s .pre .2)
+clear-requires c κs = room (no-rows (c .before))
 
 enum-told-4 : tie.Need-enum-told-4
 enum-told-4 c = search needs
 
 lay-entry-at-rank-requires : tie.Need-lay-entry-at-rank-requires
 lay-entry-at-rank-requires c κs =
-    let q = c .before .before .before in
-    let s = start q in
-    let f = line s (c .before .enum-told4 .given .1) in
-    rw (q .before .before .length-of .ensures) (list-ascends (self s) (rank s) (s .pre .0) (f .0), list-ranks (self s) (rank s) (s .pre .0) (f .0) (f .1), s .pre .2)
+    let q = at-rank (c .before) in
+    let f = fits-at-rank (c .before) in
+    (ascends q (f .0), list-ranks (s q) (r q) (both q) (f .0) (f .1), room q)
 
 enum-told-5 : tie.Need-enum-told-5
 enum-told-5 c = search needs
 
 lay-entry-if-set-requires : tie.Need-lay-entry-if-set-requires
 lay-entry-if-set-requires c κs =
-    let q = c .before .before .before in
-    let s = start q in
-    let f = line s (c .before .enum-told5 .given .1) in
-    let m = in-words (rank s) (f .1) (s .pre .0 .rank) .inView in
-    let long = list-length (self s) (rank s) (s .pre .0) (f .0) in
-    rw (q .before .before .length-of .ensures, q .start-of2 .ensures) (list-ascends (self s) (rank s) (s .pre .0) (f .0), omega (arith, long, m .0), omega (arith, long, m .2), s .pre .2)
+    let q = if-set (c .before) in
+    let f = fits-if-set (c .before) in
+    (ascends q (f .0), reach q (f .0) (f .1) .0, reach q (f .0) (f .1) .1, room q)
 
 enum-told-6 : tie.Need-enum-told-6
 enum-told-6 c = search needs
 
 lay-mask-driven-requires : tie.Need-lay-mask-driven-requires
-lay-mask-driven-requires c κs = let s = start (c .before .before .before) in (s .pre .0, line s (c .before .enum-told6 .given .1), s .pre .2)
+lay-mask-driven-requires c κs =
+    let q = driven (c .before) in
+    (both q, line (start q) (c .before .enum-told6 .given .1), start q .pre .2)
 
 enum-known-route : tie.Need-enum-known-route
 enum-known-route c = search needs
@@ -107,114 +293,97 @@ enum-known-route c = search needs
 intersect-bit-buffer-by-rank-indices-requires :
     tie.Need-intersect-bit-buffer-by-rank-indices-requires
 intersect-bit-buffer-by-rank-indices-requires c κs =
-    let q = c .before .before .before .before in
-    let s = start q in
-    let f = line s (c .before .before .route .given .1) in
-    let l = in-words (self s) (f .0) (s .pre .0 .self) .inView in
-    rw (q .before .before .length-of .ensures, q .before .start-of .ensures) (l, s .pre .2, words-ascends (self s) (rank s) (s .pre .0) (f .0) (f .1))
+    let q = gathered (gathering c) in
+    let f = fits-gathered (gathering c) in
+    (in-view q (f .0), room q, ranks-ascend q (f .0) (f .1))
 
 enum-known-route-2 : tie.Need-enum-known-route-2
 enum-known-route-2 c = search needs
 
 intersect-bit-buffers-requires : tie.Need-intersect-bit-buffers-requires
 intersect-bit-buffers-requires c κs =
-    let q = c .before .before .before .before in
-    let s = start q in
-    let f = line s (c .before .before .route2 .given .1) in
-    let l = in-words (self s) (f .0) (s .pre .0 .self) .inView in
-    let m = in-words (rank s) (f .1) (s .pre .0 .rank) .inView in
-    rw (q .before .before .length-of .ensures, q .before .start-of .ensures, q .start-of2 .ensures) (l, m .1, s .pre .2)
+    let q = read (reading c) in
+    let f = fits-read (reading c) in
+    let m = in-words (r q) (f .1) (both q .rank) .inView in
+    (in-view q (f .0), omega (arith, rank-from q, m .1), room q)
 
 same-length : tie.Need-same-length
 same-length c = search needs
 
 returns : tie.Need-returns
 returns c =
-    let gave = c .before .before in
-    let q = gave .before .before .before .before in
-    let s = start q in
-    gave .lay-rows .ensures ∙ over s (by-full-self (self s) (rank s) (s .pre .0) (line s (gave .before .before .enum-told .given .1)))
+    let gave = full-self-laid c in
+    let told = gave .before .before in
+    let q = full-self told in
+    laid-as (start q) (rowsOf (r q)) (gave .lay-rows .ensures) (by-full-self (s q) (r q) (both q) (line (start q) (told .enum-told .given .1)))
 
 same-length-2 : tie.Need-same-length-2
 same-length-2 c = search needs
 
 returns-2 : tie.Need-returns-2
 returns-2 c =
-    let gave = c .before .before in
-    let q = gave .before .before .before .before in
-    let s = start q in
-    gave .lay-rows2 .ensures ∙ over s (by-full-rank (self s) (rank s) (s .pre .0) (line s (gave .before .before .enum-told2 .given .1)))
+    let gave = full-rank-laid c in
+    let told = gave .before .before in
+    let q = full-rank told in
+    laid-as (start q) (rowsOf (s q)) (gave .lay-rows2 .ensures) (by-full-rank (s q) (r q) (both q) (line (start q) (told .enum-told2 .given .1)))
 
 same-length-3 : tie.Need-same-length-3
 same-length-3 c = search needs
 
 returns-3 : tie.Need-returns-3
 returns-3 c =
-    let gave = c .before .before in
-    let q = gave .before .before .before .before in
-    let s = start q in
-    let f = line s (gave .before .before .enum-told3 .given .1) in
-    gave .clear .ensures ∙ over s (ap (λ (k : ℕ). replicate k false) (q .before .before .length-of .ensures) ∙ by-empty (self s) (rank s) (s .pre .0) f)
+    let gave = no-rows-laid c in
+    let told = gave .before .before in
+    let q = no-rows told in
+    laid-as (start q) (replicate (len q) false) (gave .clear .ensures) (cleared q (line (start q) (told .enum-told3 .given .1)))
 
 same-length-4 : tie.Need-same-length-4
 same-length-4 c = search needs
 
 returns-4 : tie.Need-returns-4
 returns-4 c =
-    let gave = c .before .before in
-    let q = gave .before .before .before .before in
-    let s = start q in
-    let f = line s (gave .before .before .enum-told4 .given .1) in
-    let rows = now (s .args .srows) in
-    gave .lay-entry-at-rank .ensures
-    ∙ over s (ap (λ (k : ℕ). compose (listed k rows) (listed (length rows) (now (s .args .rrows)))) (q .before .before .length-of .ensures) ∙ list-listed (self s) (rank s) (s .pre .0) (f .0) (f .1))
+    let gave = at-rank-laid c in
+    let told = gave .before .before in
+    let q = at-rank told in
+    laid-as (start q) (rows-at-rank q) (gave .lay-entry-at-rank .ensures) (by-rank q (fits-at-rank told .0) (fits-at-rank told .1))
 
 same-length-5 : tie.Need-same-length-5
 same-length-5 c = search needs
 
 returns-5 : tie.Need-returns-5
 returns-5 c =
-    let gave = c .before .before in
-    let q = gave .before .before .before .before in
-    let s = start q in
-    let f = line s (gave .before .before .enum-told5 .given .1) in
-    let bits = bitsOfAll 64 (now (s .args .rwords)) in
-    let asked = ap₂ (λ (k n : ℕ). compose (listed k (now (s .args .srows))) (drop n bits)) (q .before .before .length-of .ensures) (q .start-of2 .ensures) in
-    gave .lay-entry-if-set .ensures ∙ over s (asked ∙ list-read (self s) (rank s) (s .pre .0) (f .0) (f .1))
+    let gave = if-set-laid c in
+    let told = gave .before .before in
+    let q = if-set told in
+    laid-as (start q) (rows-if-set q) (gave .lay-entry-if-set .ensures) (by-bit q (fits-if-set told .0) (fits-if-set told .1))
 
 same-length-6 : tie.Need-same-length-6
 same-length-6 c = search needs
 
 returns-6 : tie.Need-returns-6
-returns-6 c =
-    c .before .before .lay-mask-driven .ensures
+returns-6 c = driven-laid c .lay-mask-driven .ensures
 
 same-length-7 : tie.Need-same-length-7
 same-length-7 c = search needs
 
 returns-7 : tie.Need-returns-7
 returns-7 c =
-    let gave = c .before .before in
-    let q = gave .before .before .before .before .before in
-    let s = start q in
-    let f = line s (gave .before .before .before .route .given .1) in
-    let rows : ℕ → ℕ → List Bool = λ k n. view k n (now (s .args .swords)) in
-    let asked = ap₂ (λ (k n : ℕ). compose (rows k n) (listed (count (rows k n)) (now (s .args .rrows)))) (q .before .start-of .ensures) (q .before .before .length-of .ensures) in
-    gave .intersect-bit-buffer-by-rank-indices .ensures ∙ over s (asked ∙ words-listed (self s) (rank s) (s .pre .0) (f .0) (f .1))
+    let gave = gathered-laid c in
+    let told = gathering (gave .before) in
+    let q = gathered told in
+    let f = fits-gathered told in
+    laid-as (start q) (rows-gathered q) (gave .intersect-bit-buffer-by-rank-indices .ensures) (by-list q (f .0) (f .1))
 
 same-length-8 : tie.Need-same-length-8
 same-length-8 c = search needs
 
 returns-8 : tie.Need-returns-8
 returns-8 c =
-    let gave = c .before .before in
-    let q = gave .before .before .before .before .before in
-    let s = start q in
-    let f = line s (gave .before .before .before .route2 .given .1) in
-    let bits = bitsOfAll 64 (now (s .args .rwords)) in
-    let asked = ap₂ (λ (k n : ℕ). compose (view k n (now (s .args .swords))) (drop (q .start-of2 .result) bits)) (q .before .start-of .ensures) (q .before .before .length-of .ensures) in
-    let from = ap (λ (n : ℕ). compose (view (startOf (s .args .s)) (lengthOf (s .args .s)) (now (s .args .swords))) (drop n bits)) (q .start-of2 .ensures) in
-    gave .intersect-bit-buffers .ensures ∙ over s (asked ∙ from ∙ words-read (self s) (rank s) (s .pre .0) (f .0) (f .1))
+    let gave = read-laid c in
+    let told = reading (gave .before) in
+    let q = read told in
+    let f = fits-read told in
+    laid-as (start q) (rows-read q) (gave .intersect-bit-buffers .ensures) (by-words q (f .0) (f .1))
 
 pub compose-at-spec : {M : Type 1} → statement M
 compose-at-spec =

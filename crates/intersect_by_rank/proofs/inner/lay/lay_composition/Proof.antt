@@ -1,10 +1,14 @@
 -- `intersect_by_rank::inner::lay::lay_composition` meets its contract.
 -- The chosen route fits the operands, and as many rows are set as the rank mask sets. Assumes nothing.
-use mathlib.Core.Path.{_≡_, refl, sym, ap, subst, _∙_}
+use mathlib.Core.Path.{_≡_, sym, ap, subst, _∙_}
 use native.Mathlib.Omega.{arith}
+use lib.ListN.{length}
 use denote.Ref.{now}
+use Rattle.rows.specs.Rows.{count}
 use Rattle.rules.specs.declared.Route.{Route}
 use Rattle.rules.specs.Operand.{Operand, lent}
+use Rattle.rules.specs.Answer.{accepted}
+use Rattle.rules.specs.Compose.{Paired, result, routed}
 use Rattle.rules.specs.Route.{routeOf, numberOf}
 use Rattle.rules.proofs.OperandLaws.{accepted-limit, accepted-few}
 use Rattle.rules.proofs.RouteLaws.{route-by-numbers}
@@ -15,31 +19,78 @@ use Rattle.intersect_by_rank.proofs.inner.lay.lay_composition.Statement
 use Rattle.intersect_by_rank.proofs.inner.lay.lay_composition.Tie as tie
 use borrow.Author.Needs.{needs}
 
--- ---- the operands, and the route that was chosen
+-- ---- the places, each from the one after it
 
-module _ (s : tie.Start) where
-  abbrev self : Operand
-  self = lent (s .args .s) (now (s .args .swords)) (now (s .args .srows))
+abbrev words-lent : tie.After-slice-known → tie.After-shared-slice-known2
+words-lent c = c .before .before .before
 
-  abbrev rank : Operand
-  rank = lent (s .args .r) (now (s .args .rwords)) (now (s .args .rrows))
+abbrev entry : tie.After-slice-known → tie.Start
+entry c = words-lent c .before .before
 
 abbrev start : tie.After-choose-route → tie.Start
-start q = q .before .before .before .before .before .before
+start c = entry (c .before)
 
-chosen : (q : tie.After-choose-route) → q .choose-route .result ≡ routeOf (start q .args .factors) (self (start q)) (rank (start q))
-chosen q = q .choose-route .ensures ∙ route-by-numbers (start q .args .factors) (self (start q)) (rank (start q))
+abbrev route : tie.After-compose-at → tie.After-choose-route
+route c = c .before .before
+
+abbrev laid : tie.After-count-of → tie.After-compose-at
+laid c = c .before .before .before
+
+abbrev counted : tie.After-number → tie.After-count-of
+counted c = c .before
+
+abbrev numbered : tie.After-length-of → tie.After-number
+numbered c = c .before
+
+-- ---- the operands, the route that was chosen, and what is told of the composition
+
+module _ (c : tie.Start) where
+  abbrev self : Operand
+  self = lent (c .args .s) (now (c .args .swords)) (now (c .args .srows))
+
+  abbrev rank : Operand
+  rank = lent (c .args .r) (now (c .args .rwords)) (now (c .args .rrows))
+
+module _ (c : tie.After-choose-route) where
+  abbrev s : Operand
+  s = self (start c)
+
+  abbrev r : Operand
+  r = rank (start c)
+
+  abbrev both : Paired s r
+  both = start c .pre .0
+
+  chosen : c .choose-route .result ≡ routeOf (start c .args .factors) s r
+  chosen = c .choose-route .ensures ∙ route-by-numbers (start c .args .factors) s r
+
+  fits : Fits (c .choose-route .result) s r
+  fits = subst (λ (x : Route). Fits x s r) (sym chosen) (route-fits s r (start c .args .factors))
+
+module _ (c : tie.After-length-of) where
+  abbrev here : tie.After-choose-route
+  here = route (laid (counted (numbered c)))
+
+  count-told : counted (numbered c) .count-of .result ≡ count (result (s here) (r here))
+  count-told = counted (numbered c) .count-of .ensures ∙ sym (result-count (s here) (r here) (both here))
+
+  route-told : numbered c .number .result ≡ routed (start here .args .factors) (s here) (r here)
+  route-told = numbered c .number .ensures ∙ ap numberOf (chosen here)
+
+  length-told : c .length-of .result ≡ length (result (s here) (r here))
+  length-told = c .length-of .ensures ∙ sym (result-length (s here) (r here) (both here))
+
+-- ---- the answers
 
 choose-route-requires : tie.Need-choose-route-requires
 choose-route-requires c κs =
-    let s = c .before .before .before .before .before in
-    (accepted-few (self s) (s .pre .0 .self), accepted-few (rank s) (s .pre .0 .rank))
+    let e = entry c in
+    (accepted-few (self e) (e .pre .0 .self), accepted-few (rank e) (e .pre .0 .rank))
 
 compose-at-requires : tie.Need-compose-at-requires
 compose-at-requires c κs =
     let q = c .before in
-    let s = start q in
-    (s .pre .0, subst (λ (r : Route). Fits r (self s) (rank s)) (sym (chosen q)) (route-fits (self s) (rank s) (s .args .factors)), s .pre .1)
+    (both q, fits q, start q .pre .1)
 
 count-of-requires : tie.Need-count-of-requires
 count-of-requires c κs = search needs
@@ -52,23 +103,19 @@ length-of-requires c κs = search needs
 
 accepted-requires : tie.Need-accepted-requires
 accepted-requires c κs =
-    let s = start (c .before .before .before .before .before .before .before) in
-    let p = s .pre .0 in
-    (omega (arith, c .before .before .count-of .ensures, accepted-few (rank s) (p .rank), accepted-few (self s) (p .self)), omega (arith, c .length-of .ensures, accepted-limit (self s) (p .self)))
+    let q = here c in
+    let few = accepted-few (r q) (both q .rank) in
+    (omega (arith, counted (numbered c) .count-of .ensures, few), omega (arith, c .length-of .ensures, accepted-limit (s q) (both q .self)))
 
 same-length : tie.Need-same-length
 same-length c = search needs
 
 returns : tie.Need-returns
 returns c =
-    let laid = c .before .before .before .before .before .before in
-    let q = laid .before .before in
-    let s = start q in
-    let p = s .pre .0 in
-    let count = c .before .before .before .count-of .ensures ∙ sym (result-count (self s) (rank s) p) in
-    let route = c .before .before .number .ensures ∙ ap numberOf (chosen q) in
-    let length = c .before .length-of .ensures ∙ sym (result-length (self s) (rank s) p) in
-    (c .accepted .ensures ∙ rw (count, route, length) refl, laid .compose-at .ensures)
+    let n = c .before in (
+      c .accepted .ensures ∙ (λ i. accepted (count-told n i) (route-told n i) (length-told n i)),
+      laid (counted (numbered n)) .compose-at .ensures,
+    )
 
 pub lay-composition-spec : {M : Type 1} → statement M
 lay-composition-spec =

@@ -22,6 +22,43 @@ Inv-loop rows len at out₀ i₀ out i = (i ≤ length rows) × (length out ≡ 
 abbrev μ-loop : tie.MeasureT-loop
 μ-loop rows len at out₀ i₀ out i = length rows - i
 
+-- ---- the places, each from the one after it
+
+abbrev entry : tie.At-loop Inv-loop μ-loop → tie.Start Inv-loop μ-loop
+entry c = c .before .before .before
+
+abbrev Turn : Type 0
+Turn = tie.In-loop Inv-loop μ-loop
+
+abbrev head : Turn → tie.At-loop Inv-loop μ-loop
+head c = c .before
+
+abbrev start : Turn → tie.Start Inv-loop μ-loop
+start c = entry (head c)
+
+abbrev asked : tie.After-set-bit-arg Inv-loop μ-loop → Turn
+asked c = c .before .before
+
+abbrev turn : tie.After-set-bit Inv-loop μ-loop → Turn
+turn c = asked (c .before)
+
+abbrev stored : tie.After-slice-known2 Inv-loop μ-loop → tie.After-set-bit Inv-loop μ-loop
+stored c = c .before .before
+
+-- ---- a turn: the entry there is below the length
+
+module _ (c : Turn) where
+  abbrev rows : List ℕ
+  rows = now (start c .args .rows)
+
+  abbrev row : ℕ
+  row = getD rows (head c .loop .i) 0
+
+  below : row < start c .args .len
+  below = below-at (start c .args .len) rows (head c .loop .i) (start c .pre .0) (omega arith)
+
+-- ---- the answers
+
 loop-holds : tie.Need-loop-holds Inv-loop μ-loop
 loop-holds c = (omega arith, refl, refl)
 
@@ -31,24 +68,20 @@ mul-row c = omega arith
 shared-slice-read-row : tie.Need-shared-slice-read-row Inv-loop μ-loop
 shared-slice-read-row c = omega arith
 
--- inside a turn: the entry there is below the length
-abbrev Turn : Type 0
-Turn = tie.In-loop Inv-loop μ-loop
-
-abbrev start : Turn → tie.Start Inv-loop μ-loop
-start c = c .before .before .before .before
-
-below : (c : Turn) → getD (now (start c .args .rows)) (c .before .loop .i) 0 < start c .args .len
-below c = let s = start c in below-at (s .args .len) (now (s .args .rows)) (c .before .loop .i) (s .pre .0) (omega arith)
-
 cast-row : tie.Need-cast-row Inv-loop μ-loop
-cast-row c = let t = c .before in omega (arith, below t, start t .pre .1 .1)
+cast-row c =
+    let t = c .before in
+    omega (arith, below t, start t .pre .1 .1)
 
 add-set-bit : tie.Need-add-set-bit Inv-loop μ-loop
-add-set-bit c = let t = c .before .before in omega (arith, below t, start t .pre .1 .1)
+add-set-bit c =
+    let t = asked c in
+    omega (arith, below t, start t .pre .1 .1)
 
 set-bit-requires : tie.Need-set-bit-requires Inv-loop μ-loop
-set-bit-requires c κs = let t = c .before .before in omega (arith, below t, start t .pre .1 .0, t .before .loop .inv .1)
+set-bit-requires c κs =
+    let t = asked c in
+    omega (arith, below t, start t .pre .1 .0, head t .loop .inv .1)
 
 add-i : tie.Need-add-i Inv-loop μ-loop
 add-i c = omega arith
@@ -58,13 +91,14 @@ loop-less c = omega arith
 
 loop-again : tie.Need-loop-again Inv-loop μ-loop
 loop-again c =
-    let a = c .before .before .before .before .before .before .before .before .before .args in
-    let l = c .before .before .before .before .before .before .loop in
-    let r = getD (now (a .rows)) (l .i) 0 in
-    let e = c .before .before .set-bit .ensures in (
+    let set = stored c .set-bit .ensures in
+    let t = turn (stored c) in
+    let a = start t .args in
+    let l = head t .loop in
+    let next = marked-next (a .at) (l .i) (rows t) (now (a .out)) (omega arith) in (
       omega arith,
-      ap length e ∙ laid-length 64 (a .at + r) (true ∷ []) (l .out) ∙ l .inv .1,
-      rw (add-one (l .i)) (e ∙ ap (laid (a .at + r) (true ∷ [])) (l .inv .2) ∙ marked-next (a .at) (l .i) (now (a .rows)) (now (a .out)) (omega arith)),
+      ap length set ∙ laid-length 64 (a .at + row t) (true ∷ []) (l .out) ∙ l .inv .1,
+      rw (add-one (l .i)) (set ∙ ap (laid (a .at + row t) (true ∷ [])) (l .inv .2) ∙ next),
     )
 
 same-length : tie.Need-same-length Inv-loop μ-loop
@@ -72,9 +106,10 @@ same-length c = search needs
 
 returns : tie.Need-returns Inv-loop μ-loop
 returns c =
-    let a = c .before .before .before .before .args in
-    let l = c .before .loop in
-    l .inv .2 ∙ ap (λ (z : List ℕ). marked (a .at) z (now (a .out))) (take-all (l .i) (now (a .rows)) (omega arith))
+    let h = c .before in
+    let a = entry h .args in
+    let all = take-all (h .loop .i) (now (a .rows)) (omega arith) in
+    h .loop .inv .2 ∙ ap (λ (z : List ℕ). marked (a .at) z (now (a .out))) all
 
 pub mark-spec : {M : Type 1} → statement M
 mark-spec =
