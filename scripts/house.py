@@ -36,6 +36,7 @@ NOTES = {
     "marks": "routes 4 to 6",
     "deposits": "routes 7 to 10",
     "routes": "the route table",
+    "rowwise": "row by row",
     "bitops": "set operations",
     "intersect_by_rank": "composition by rank",
     "composer": "streams",
