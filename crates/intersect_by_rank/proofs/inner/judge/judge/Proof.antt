@@ -1,18 +1,87 @@
 -- `intersect_by_rank::inner::judge::judge` meets its contract: the first part of the table that refuses is told.
 -- By the law of parts in order. Assumes nothing.
-use mathlib.Core.Path.{sym, ap, _∙_}
+use Prim.Native.Nat.{ℕ}
+use mathlib.Core.Path.{_≡_, sym, ap, ap₂, _∙_}
 use mathlib.Core.List.{List, [], _∷_}
 use native.Mathlib.Decide.{ℕ-discrete, decLe}
 use denote.Ref.{now}
 use Rattle.rows.specs.declared.Verdict.{Verdict}
 use Rattle.rows.specs.Laid.{wordsFor}
-use Rattle.rows.specs.Table.{Line, first, need, ifFine}
+use Rattle.rows.specs.Table.{Line, first, need, inOrder, ifFine}
 use Rattle.rows.proofs.TableLaws.{parts-first, parts-last}
-use Rattle.rules.specs.Operand.{lent, lengthOf, countOf}
+use Rattle.rules.specs.Operand.{Operand, lent, lengthOf, countOf}
 use Rattle.rules.specs.Compose.{bothChecks}
 use borrow.Author.Needs.{needs}
 use Rattle.intersect_by_rank.proofs.inner.judge.judge.Statement.{statement}
 use Rattle.intersect_by_rank.proofs.inner.judge.judge.Tie as tie
+
+-- ---- the places, each from the one after it: where each part has its verdict
+
+abbrev words-lent : tie.After-judge-both → tie.After-shared-slice-known2
+words-lent c = c .before .before .before
+
+abbrev start : tie.After-judge-both → tie.Start
+start c = words-lent c .before .before
+
+abbrev judged : tie.After-equal → tie.After-judge-both
+judged c = c .before .before .before
+
+abbrev matched : tie.After-has-room → tie.After-equal
+matched c = c .before .before .before
+
+abbrev roomed : tie.After-then → tie.After-has-room
+roomed c = c .before
+
+-- ---- the parts
+
+module _ (c : tie.Start) where
+  abbrev self : Operand
+  self = lent (c .args .s) (now (c .args .swords)) (now (c .args .srows))
+
+  abbrev rank : Operand
+  rank = lent (c .args .r) (now (c .args .rwords)) (now (c .args .rrows))
+
+  abbrev both : List Line
+  both = bothChecks self rank
+
+  abbrev ranks : List Line
+  ranks = need (ℕ-discrete (lengthOf (c .args .r)) (countOf self)) 7 0 ∷ []
+
+  abbrev space : List Line
+  space = need (decLe (wordsFor (lengthOf (c .args .s))) (c .args .room)) 8 0 ∷ []
+
+-- ---- the verdict of each, and of the last two
+
+both-told : (c : tie.After-judge-both) → c .judge-both .result ≡ first (both (start c))
+both-told c = c .judge-both .ensures
+
+module _ (c : tie.After-equal) where
+  abbrev asked : tie.Start
+  asked = start (judged c)
+
+  ranks-told : c .equal .result ≡ first (ranks asked)
+  ranks-told =
+      c .equal .ensures
+      ∙ ap₂ (λ (x y : ℕ). first (need (ℕ-discrete x y) 7 0 ∷ [])) (c .before .before .length-of .ensures) (c .before .count-of .ensures)
+
+module _ (c : tie.After-has-room) where
+  abbrev here : tie.Start
+  here = asked (matched c)
+
+  space-told : c .has-room .result ≡ first (space here)
+  space-told =
+      c .has-room .ensures
+      ∙ ap (λ (n : ℕ). first (need (decLe n (here .args .room)) 8 0 ∷ []))
+      (c .before .words-for .ensures ∙ ap wordsFor (c .before .before .length-of2 .ensures))
+
+joined : (c : tie.After-then) → c .then .result ≡ first (inOrder (ranks (here (roomed c)) ∷ space (here (roomed c)) ∷ []))
+joined c =
+    let s = here (roomed c) in
+    c .then .ensures
+    ∙ ap₂ (λ (v w : Verdict). ifFine v w v) (ranks-told (matched (roomed c))) (space-told (roomed c) ∙ sym (parts-last (space s)))
+    ∙ sym (parts-first (ranks s) (space s) [])
+
+-- ---- the answers
 
 judge-both-requires : tie.Need-judge-both-requires
 judge-both-requires c κs = search needs
@@ -43,24 +112,11 @@ then-requires-2 c κs = search needs
 
 returns : tie.Need-returns
 returns c =
-    let first-part = c .before .before .before .before .before .before .before .before in
-    let a = first-part .before .before .before .before .before .args in
-    let both : List Line = bothChecks (lent (a .s) (now (a .swords)) (now (a .srows))) (lent (a .r) (now (a .rwords)) (now (a .rrows))) in
-    let ranks : List Line = need (ℕ-discrete (lengthOf (a .r)) (countOf (lent (a .s) [] (now (a .srows))))) 7 0 ∷ [] in
-    let space : List Line = need (decLe (wordsFor (lengthOf (a .s))) (a .room)) 8 0 ∷ [] in
+    let j = c .before in
+    let s = here (roomed j) in
     c .then2 .ensures
-    ∙ rw (
-      c .before .then .ensures,
-      c .before .before .has-room .ensures,
-      c .before .before .before .words-for .ensures,
-      c .before .before .before .before .length-of2 .ensures,
-      c .before .before .before .before .before .equal .ensures,
-      c .before .before .before .before .before .before .count-of .ensures,
-      c .before .before .before .before .before .before .before .length-of .ensures,
-      first-part .judge-both .ensures,
-    )
-    (sym (parts-first both ranks (space ∷ [])
-    ∙ ap (λ (v : Verdict). ifFine (first both) v (first both)) (parts-first ranks space [] ∙ ap (λ (v : Verdict). ifFine (first ranks) v (first ranks)) (parts-last space))))
+    ∙ ap₂ (λ (v w : Verdict). ifFine v w v) (both-told (judged (matched (roomed j)))) (joined j)
+    ∙ sym (parts-first (both s) (ranks s) (space s ∷ []))
 
 pub judge-spec : {M : Type 1} → statement M
 judge-spec =
