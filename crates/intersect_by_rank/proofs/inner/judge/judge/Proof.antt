@@ -1,14 +1,13 @@
 -- `intersect_by_rank::inner::judge::judge` meets its contract: the first part of the table that refuses is told.
 -- By the law of parts in order. Assumes nothing.
 use Prim.Native.Nat.{ℕ}
-use mathlib.Core.Path.{_≡_, sym, ap, ap₂, _∙_}
+use mathlib.Core.Path.{_≡_, ap, ap₂, _∙_}
 use mathlib.Core.List.{List, [], _∷_}
 use native.Mathlib.Decide.{ℕ-discrete, decLe}
 use denote.Ref.{now}
-use Rattle.rows.specs.declared.Verdict.{Verdict}
 use Rattle.rows.specs.Laid.{wordsFor}
-use Rattle.rows.specs.Table.{Line, first, need, inOrder, ifFine}
-use Rattle.rows.proofs.TableLaws.{parts-first, parts-last}
+use Rattle.rows.specs.Table.{Line, first, need, inOrder}
+use Rattle.rows.proofs.TableLaws.{then-told, last-told}
 use Rattle.rules.specs.Operand.{Operand, lent, lengthOf, countOf}
 use Rattle.rules.specs.Compose.{bothChecks}
 use borrow.Author.Needs.{needs}
@@ -77,9 +76,7 @@ module _ (c : tie.After-has-room) where
 joined : (c : tie.After-then) → c .then .result ≡ first (inOrder (ranks (here (roomed c)) ∷ space (here (roomed c)) ∷ []))
 joined c =
     let s = here (roomed c) in
-    c .then .ensures
-    ∙ ap₂ (λ (v w : Verdict). ifFine v w v) (ranks-told (matched (roomed c))) (space-told (roomed c) ∙ sym (parts-last (space s)))
-    ∙ sym (parts-first (ranks s) (space s) [])
+    then-told (ranks s) (space s) [] (c .then .ensures) (ranks-told (matched (roomed c))) (last-told (space s) (space-told (roomed c)))
 
 -- ---- the answers
 
@@ -114,9 +111,7 @@ returns : tie.Need-returns
 returns c =
     let j = c .before in
     let s = here (roomed j) in
-    c .then2 .ensures
-    ∙ ap₂ (λ (v w : Verdict). ifFine v w v) (both-told (judged (matched (roomed j)))) (joined j)
-    ∙ sym (parts-first (both s) (ranks s) (space s ∷ []))
+    then-told (both s) (ranks s) (space s ∷ []) (c .then2 .ensures) (both-told (judged (matched (roomed j)))) (joined j)
 
 pub judge-spec : {M : Type 1} → statement M
 judge-spec =
