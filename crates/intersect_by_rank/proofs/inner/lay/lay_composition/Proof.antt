@@ -104,8 +104,12 @@ length-of-requires c κs = search needs
 accepted-requires : tie.Need-accepted-requires
 accepted-requires c κs =
     let q = here c in
-    let few = accepted-few (r q) (both q .rank) in
-    (omega (arith, counted (numbered c) .count-of .ensures, few), omega (arith, c .length-of .ensures, accepted-limit (s q) (both q .self)))
+    let n = counted (numbered c) .count-of .ensures in
+    -- both counts, so that the wrong one is refused at what it tells
+    (
+      omega (arith, n, accepted-few (r q) (both q .rank), accepted-few (s q) (both q .self)),
+      omega (arith, c .length-of .ensures, accepted-limit (s q) (both q .self)),
+    )
 
 same-length : tie.Need-same-length
 same-length c = search needs
