@@ -30,7 +30,9 @@ def words_for(bits):
 
 
 def in_view(words, start, length):
-    return [(words[(start + i) // 64] >> ((start + i) % 64)) & 1 == 1 for i in range(length)]
+    """Row i is bit start+i of the words, bit 0 of each the lowest: each word is written as its digits, the lowest first."""
+    digits = "".join(f"{word:064b}"[::-1] for word in words[: words_for(start + length)])
+    return [digit == "1" for digit in digits[start : start + length]]
 
 
 def refusal_of_words(operand):
@@ -75,11 +77,9 @@ def mask_of(operand):
 
 
 def as_words(mask):
-    words = [0] * words_for(len(mask))
-    for row, is_set in enumerate(mask):
-        if is_set:
-            words[row // 64] += 2 ** (row % 64)
-    return words
+    """64 rows to a word, the last row its highest digit."""
+    digits = ["1" if is_set else "0" for is_set in mask]
+    return [int("".join(reversed(digits[at : at + 64])), 2) for at in range(0, len(mask), 64)]
 
 
 def as_list(mask):

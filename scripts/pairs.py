@@ -78,13 +78,9 @@ def fit(operation, masks):
 
 
 def composition(self_mask, rank_mask):
-    """A row is set if self has it and the rank mask has its rank, the number of self's set rows before it."""
-    result = []
-    rank = 0
-    for is_set in self_mask:
-        result.append(is_set and rank_mask[rank])
-        rank += is_set
-    return result
+    """A row is set if self has it and the rank mask has its rank, the number of self's set rows before it: each set row takes the next."""
+    ranks = iter(rank_mask)
+    return [is_set and next(ranks) for is_set in self_mask]
 
 
 def result_of(operation, masks):
