@@ -39,30 +39,19 @@ fn answer_list(
     outcome_of(finding_of(answer, expected), after.same, after.next)
 }
 
-fn run_to_words(
-    text: &[u8],
-    cursor: Cursor,
-    form: Form,
-    words: &[u64],
-    rows: &[u32],
-    out: &mut [u64],
-) -> Outcome {
-    let before = super::reader::words::fill(text, cursor, out);
+// Over the words that the output is to hold before.
+fn run_to_words(text: &[u8], cursor: Cursor, form: Form, words: &[u64], rows: &[u32]) -> Outcome {
+    let mut out = [0u64; 16388];
+    let before = super::reader::words::fill(text, cursor, &mut out);
     let size = before.length;
     answer_words(text, before.next, form, words, rows, &mut out[..size])
 }
 
-// No words are written here, so those of the output are free to take a list's elements.
-fn run_to_list(
-    text: &[u8],
-    cursor: Cursor,
-    form: Form,
-    words: &[u64],
-    rows: &[u32],
-    elements: &mut [u64],
-    out: &mut [u32],
-) -> Outcome {
-    let before = super::reader::lists::fill(text, cursor, elements, out);
+// Over the entries that it is to hold before.
+fn run_to_list(text: &[u8], cursor: Cursor, form: Form, words: &[u64], rows: &[u32]) -> Outcome {
+    let mut elements = [0u64; 4100];
+    let mut out = [0u32; 4100];
+    let before = super::reader::lists::fill(text, cursor, &mut elements, &mut out);
     let size = before.length;
     answer_list(
         text,
@@ -70,37 +59,24 @@ fn run_to_list(
         form,
         words,
         rows,
-        elements,
+        &mut elements,
         &mut out[..size],
     )
 }
 
-pub fn run_case(
-    text: &[u8],
-    cursor: Cursor,
-    words: &mut [u64],
-    rows: &mut [u32],
-    outwords: &mut [u64],
-    outrows: &mut [u32],
-) -> Outcome {
+pub fn run_case(text: &[u8], cursor: Cursor) -> Outcome {
+    let mut words = [0u64; 16386];
+    let mut rows = [0u32; 4100];
     let operation = read_number(text, cursor);
-    let told = read_operand(text, operation.next, words, rows);
+    let told = read_operand(text, operation.next, &mut words, &mut rows);
     let chosen = operation.value;
     let form = told.form;
     let next = told.next;
     let size = told.size;
     let entries = told.entries;
     match chosen {
-        1 => run_to_words(text, next, form, &words[..size], &rows[..entries], outwords),
-        2 => run_to_list(
-            text,
-            next,
-            form,
-            &words[..size],
-            &rows[..entries],
-            outwords,
-            outrows,
-        ),
+        1 => run_to_words(text, next, form, &words[..size], &rows[..entries]),
+        2 => run_to_list(text, next, form, &words[..size], &rows[..entries]),
         _ => Outcome {
             finding: Finding::Malformed,
             next,

@@ -115,11 +115,11 @@ fn run_second(
     s: Form,
     swords: &[u64],
     srows: &[u32],
-    rwords: &mut [u64],
-    rrows: &mut [u32],
     out: &mut [u64],
 ) -> Step {
-    let told = read_operand(text, cursor, rwords, rrows);
+    let mut words = [0u64; 16386];
+    let mut rows = [0u32; 4100];
+    let told = read_operand(text, cursor, &mut words, &mut rows);
     let r = told.form;
     let size = told.size;
     let entries = told.entries;
@@ -131,25 +131,18 @@ fn run_second(
         swords,
         srows,
         r,
-        &rwords[..size],
-        &rrows[..entries],
+        &words[..size],
+        &rows[..entries],
         out,
     )
 }
 
-fn run_feed(
-    text: &[u8],
-    cursor: Cursor,
-    back: State,
-    swords: &mut [u64],
-    srows: &mut [u32],
-    rwords: &mut [u64],
-    rrows: &mut [u32],
-    out: &mut [u64],
-) -> Step {
+fn run_feed(text: &[u8], cursor: Cursor, back: State, out: &mut [u64]) -> Step {
+    let mut words = [0u64; 16386];
+    let mut rows = [0u32; 4100];
     let handed = read_handed(text, cursor, back);
     let state = handed.state;
-    let told = read_operand(text, handed.next, swords, srows);
+    let told = read_operand(text, handed.next, &mut words, &mut rows);
     let s = told.form;
     let size = told.size;
     let entries = told.entries;
@@ -158,30 +151,19 @@ fn run_feed(
         told.next,
         state,
         s,
-        &swords[..size],
-        &srows[..entries],
-        rwords,
-        rrows,
+        &words[..size],
+        &rows[..entries],
         out,
     )
 }
 
 // Every feed in turn, up to the first that differs, over an output slice that holds what it is to hold before.
-fn run_feeds(
-    text: &[u8],
-    cursor: Cursor,
-    total: u64,
-    swords: &mut [u64],
-    srows: &mut [u32],
-    rwords: &mut [u64],
-    rrows: &mut [u32],
-    out: &mut [u64],
-) -> Outcome {
+fn run_feeds(text: &[u8], cursor: Cursor, total: u64, out: &mut [u64]) -> Outcome {
     let mut state = Composer::fresh();
     let mut next = cursor;
     let mut left = total;
     while left > 0 {
-        let step = run_feed(text, next, state, swords, srows, rwords, rrows, out);
+        let step = run_feed(text, next, state, out);
         let finding = step.finding;
         next = step.next;
         if differs(finding) {
@@ -196,26 +178,10 @@ fn run_feeds(
     }
 }
 
-pub fn run_case(
-    text: &[u8],
-    cursor: Cursor,
-    swords: &mut [u64],
-    srows: &mut [u32],
-    rwords: &mut [u64],
-    rrows: &mut [u32],
-    out: &mut [u64],
-) -> Outcome {
+pub fn run_case(text: &[u8], cursor: Cursor) -> Outcome {
+    let mut out = [0u64; 16388];
     let feeds = read_number(text, cursor);
-    let before = super::reader::words::fill(text, feeds.next, out);
+    let before = super::reader::words::fill(text, feeds.next, &mut out);
     let size = before.length;
-    run_feeds(
-        text,
-        before.next,
-        feeds.value,
-        swords,
-        srows,
-        rwords,
-        rrows,
-        &mut out[..size],
-    )
+    run_feeds(text, before.next, feeds.value, &mut out[..size])
 }

@@ -27,41 +27,24 @@ struct Tally {
     finding: Finding,
 }
 
-// A conversion has one operand, so the second one's rows are free to take a list that it writes.
-fn run_case(
-    subject: Subject,
-    text: &[u8],
-    cursor: Cursor,
-    awords: &mut [u64],
-    arows: &mut [u32],
-    bwords: &mut [u64],
-    brows: &mut [u32],
-    out: &mut [u64],
-) -> Outcome {
+// Each case has room of its own for what it reads and writes.
+fn run_case(subject: Subject, text: &[u8], cursor: Cursor) -> Outcome {
     match subject {
-        Subject::Conversions => conversions::run_case(text, cursor, awords, arows, out, brows),
-        Subject::Pairs => pairs::run_case(text, cursor, awords, arows, bwords, brows, out),
-        Subject::Feeds => feeds::run_case(text, cursor, awords, arows, bwords, brows, out),
-        Subject::Words => words::run_case(text, cursor, awords),
+        Subject::Conversions => conversions::run_case(text, cursor),
+        Subject::Pairs => pairs::run_case(text, cursor),
+        Subject::Feeds => feeds::run_case(text, cursor),
+        Subject::Words => words::run_case(text, cursor),
     }
 }
 
 // Every case in turn, up to the first that differs. The text starts with their number.
-fn run_all(
-    subject: Subject,
-    text: &[u8],
-    awords: &mut [u64],
-    arows: &mut [u32],
-    bwords: &mut [u64],
-    brows: &mut [u32],
-    out: &mut [u64],
-) -> Tally {
+fn run_all(subject: Subject, text: &[u8]) -> Tally {
     let cases = reader::digits::read_number(text, reader::start());
     let total = cases.value;
     let mut next = cases.next;
     let mut agreed: u64 = 0;
     while agreed < total {
-        let outcome = run_case(subject, text, next, awords, arows, bwords, brows, out);
+        let outcome = run_case(subject, text, next);
         let finding = outcome.finding;
         if differs(finding) {
             return Tally { agreed, finding };
@@ -116,23 +99,6 @@ fn print_tally(tally: Tally) {
     io::write_all(STDOUT_FILENO, b" cases, 0 differ\n");
 }
 
-fn run_text(subject: Subject, text: &[u8]) {
-    let mut awords = [0u64; 16386];
-    let mut arows = [0u32; 4100];
-    let mut bwords = [0u64; 16386];
-    let mut brows = [0u32; 4100];
-    let mut out = [0u64; 16388];
-    print_tally(run_all(
-        subject,
-        text,
-        &mut awords,
-        &mut arows,
-        &mut bwords,
-        &mut brows,
-        &mut out,
-    ));
-}
-
 fn run_file(subject: Subject, name: &[u8]) {
     let fd = os::open_read(name);
     if fd < 0 {
@@ -144,7 +110,7 @@ fn run_file(subject: Subject, name: &[u8]) {
     libc::close(fd);
     io::write_all(STDOUT_FILENO, name);
     io::write_all(STDOUT_FILENO, b": ");
-    run_text(subject, &file[..size]);
+    print_tally(run_all(subject, &file[..size]));
 }
 
 fn main() {

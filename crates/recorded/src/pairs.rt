@@ -70,9 +70,9 @@ fn run_operation(
     b: Form,
     bwords: &[u64],
     brows: &[u32],
-    out: &mut [u64],
 ) -> Outcome {
-    let before = super::reader::words::fill(text, cursor, out);
+    let mut out = [0u64; 16388];
+    let before = super::reader::words::fill(text, cursor, &mut out);
     let size = before.length;
     answer(
         text,
@@ -96,11 +96,10 @@ fn run_second(
     a: Form,
     awords: &[u64],
     arows: &[u32],
-    bwords: &mut [u64],
-    brows: &mut [u32],
-    out: &mut [u64],
 ) -> Outcome {
-    let told = read_operand(text, cursor, bwords, brows);
+    let mut words = [0u64; 16386];
+    let mut rows = [0u32; 4100];
+    let told = read_operand(text, cursor, &mut words, &mut rows);
     let b = told.form;
     let size = told.size;
     let entries = told.entries;
@@ -112,23 +111,16 @@ fn run_second(
         awords,
         arows,
         b,
-        &bwords[..size],
-        &brows[..entries],
-        out,
+        &words[..size],
+        &rows[..entries],
     )
 }
 
-pub fn run_case(
-    text: &[u8],
-    cursor: Cursor,
-    awords: &mut [u64],
-    arows: &mut [u32],
-    bwords: &mut [u64],
-    brows: &mut [u32],
-    out: &mut [u64],
-) -> Outcome {
+pub fn run_case(text: &[u8], cursor: Cursor) -> Outcome {
+    let mut words = [0u64; 16386];
+    let mut rows = [0u32; 4100];
     let operation = read_operation(text, cursor);
-    let told = read_operand(text, operation.next, awords, arows);
+    let told = read_operand(text, operation.next, &mut words, &mut rows);
     let a = told.form;
     let size = told.size;
     let entries = told.entries;
@@ -137,10 +129,7 @@ pub fn run_case(
         told.next,
         operation.value,
         a,
-        &awords[..size],
-        &arows[..entries],
-        bwords,
-        brows,
-        out,
+        &words[..size],
+        &rows[..entries],
     )
 }

@@ -116,9 +116,10 @@ fn answer(text: &[u8], cursor: Cursor, call: Call, words: &[u64]) -> Outcome {
     outcome_of(finding, true, word.next)
 }
 
-pub fn run_case(text: &[u8], cursor: Cursor, words: &mut [u64]) -> Outcome {
+pub fn run_case(text: &[u8], cursor: Cursor) -> Outcome {
+    let mut words = [0u64; 16386];
     let call = read_call(text, cursor);
-    let lent = super::reader::words::fill(text, call.next, words);
+    let lent = super::reader::words::fill(text, call.next, &mut words);
     let size = lent.length;
     answer(text, lent.next, call, &words[..size])
 }

@@ -35,11 +35,14 @@ write-all-requires-2 c κs = search needs
 array-share-prefix-file : tie.Need-array-share-prefix-file
 array-share-prefix-file c = omega arith
 
-slice-aggregate-run-text : tie.Need-slice-aggregate-run-text
-slice-aggregate-run-text c = omega arith
+slice-aggregate-run-all : tie.Need-slice-aggregate-run-all
+slice-aggregate-run-all c = search needs
 
-run-text-requires : tie.Need-run-text-requires
-run-text-requires c κs = search needs
+run-all-requires : tie.Need-run-all-requires
+run-all-requires c κs = search needs
+
+print-tally-requires : tie.Need-print-tally-requires
+print-tally-requires c κs = search needs
 
 returns-2 : tie.Need-returns-2
 returns-2 c = search needs
@@ -58,6 +61,7 @@ run-file-spec =
     slice-aggregate-write-all
     write-all-requires-2
     array-share-prefix-file
-    slice-aggregate-run-text
-    run-text-requires
+    slice-aggregate-run-all
+    run-all-requires
+    print-tally-requires
     returns-2)

@@ -1,5 +1,5 @@
 -- `recorded::feeds::run_feeds` is safe and ends.
--- The invariant: the slices keep their lengths. The measure is the number of feeds left. Assumes nothing.
+-- The invariant: the output keeps its length. The measure is the number of feeds left. Assumes nothing.
 use mathlib.Core.Path.{_≡_}
 use lib.ListN.{length}
 use borrow.Author.Needs.{needs}
@@ -7,10 +7,10 @@ use Rattle.recorded.proofs.feeds.run_feeds.Statement.{statement}
 use Rattle.recorded.proofs.feeds.run_feeds.Tie as tie
 
 abbrev Inv-loop : tie.InvT-loop
-Inv-loop text total swords₀ srows₀ rwords₀ rrows₀ out₀ state₀ next₀ left₀ swords srows rwords rrows out state next left = (length swords ≡ length swords₀) × (length srows ≡ length srows₀) × (length rwords ≡ length rwords₀) × (length rrows ≡ length rrows₀) × (length out ≡ length out₀)
+Inv-loop text total out₀ state₀ next₀ left₀ out state next left = length out ≡ length out₀
 
 abbrev μ-loop : tie.MeasureT-loop
-μ-loop text total swords₀ srows₀ rwords₀ rrows₀ out₀ state₀ next₀ left₀ swords srows rwords rrows out state next left = left
+μ-loop text total out₀ state₀ next₀ left₀ out state next left = left
 
 fresh-requires : tie.Need-fresh-requires Inv-loop μ-loop
 fresh-requires c κs = search needs
@@ -30,15 +30,6 @@ same-length c = search needs
 same-length-2 : tie.Need-same-length-2 Inv-loop μ-loop
 same-length-2 c = search needs
 
-same-length-3 : tie.Need-same-length-3 Inv-loop μ-loop
-same-length-3 c = search needs
-
-same-length-4 : tie.Need-same-length-4 Inv-loop μ-loop
-same-length-4 c = search needs
-
-same-length-5 : tie.Need-same-length-5 Inv-loop μ-loop
-same-length-5 c = search needs
-
 returns : tie.Need-returns Inv-loop μ-loop
 returns c = search needs
 
@@ -50,21 +41,6 @@ loop-less c = search needs
 
 loop-again : tie.Need-loop-again Inv-loop μ-loop
 loop-again c = search needs
-
-same-length-6 : tie.Need-same-length-6 Inv-loop μ-loop
-same-length-6 c = search needs
-
-same-length-7 : tie.Need-same-length-7 Inv-loop μ-loop
-same-length-7 c = search needs
-
-same-length-8 : tie.Need-same-length-8 Inv-loop μ-loop
-same-length-8 c = search needs
-
-same-length-9 : tie.Need-same-length-9 Inv-loop μ-loop
-same-length-9 c = search needs
-
-same-length-10 : tie.Need-same-length-10 Inv-loop μ-loop
-same-length-10 c = search needs
 
 returns-2 : tie.Need-returns-2 Inv-loop μ-loop
 returns-2 c = search needs
@@ -80,17 +56,9 @@ run-feeds-spec =
     run-feed-requires
     differs-requires
     same-length
-    same-length-2
-    same-length-3
-    same-length-4
-    same-length-5
     returns
     sub-left
     loop-less
     loop-again
-    same-length-6
-    same-length-7
-    same-length-8
-    same-length-9
-    same-length-10
+    same-length-2
     returns-2)
