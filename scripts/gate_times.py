@@ -3,8 +3,9 @@
 
     scripts/gate_times.py LOG      LOG is what .ci/run wrote; or what rt ci wrote
 
-A row for each crate, the dearest first: seconds of its proof, its must-fail edits and their seconds, seconds of its run. These are seconds of one
-core each, two or more of which run at once; below the table stand the seconds on the clock of each part of the gate, where the log tells them.
+A row for each crate, the dearest first: seconds of its proof, its must-fail edits and their seconds, seconds of its run. As many proofs and edits
+run side by side as the machine has processors, so the seconds are about those of one core, and together more than the clock's; below the
+table stand the seconds on the clock of each part of the gate, where the log tells them.
 """
 import re
 import sys
