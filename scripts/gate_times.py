@@ -3,9 +3,9 @@
 
     scripts/gate_times.py LOG      LOG is what .ci/run wrote; or what rt ci wrote
 
-A row for each crate, the dearest first: seconds of its proof, its must-fail edits and their seconds, seconds of its run. As many proofs and edits
-run side by side as the machine has processors, so the seconds are about those of one core, and together more than the clock's; below the
-table stand the seconds on the clock of each part of the gate, where the log tells them.
+A row for each crate, the dearest first: seconds of its proof, its must-fail edits and their seconds, seconds of its run. They are the clock's, with
+RT_JOBS proofs or edits side by side: with twice as many as processors a second here is about half a second of one core. Below the table
+stand the seconds on the clock of each part of the gate, where the log tells them.
 """
 import re
 import sys
@@ -42,7 +42,7 @@ def main():
     for name, cells in sorted(rows.items(), key=lambda x: (-x[1][0] - x[1][2] - x[1][3], x[0])):
         print(f"| {name} | {cells[0]} | {cells[1]} | {cells[2]} | {cells[3]} | {cells[0] + cells[2] + cells[3]} |")
         total = [a + b for a, b in zip(total, cells)]
-    print(f"| all, of one core | {total[0]} | {total[1]} | {total[2]} | {total[3]} | {total[0] + total[2] + total[3]} |")
+    print(f"| all | {total[0]} | {total[1]} | {total[2]} | {total[3]} | {total[0] + total[2] + total[3]} |")
     if parts:
         print("\nOn the clock: " + ", ".join(f"{name} {seconds} s" for name, seconds in parts) + f"; together {sum(s for _, s in parts)} s.")
 
