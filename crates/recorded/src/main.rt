@@ -69,20 +69,20 @@ fn end_finding(fine: bool, ended: bool) -> Finding {
     Finding::Agrees
 }
 
-fn print_finding(finding: Finding) {
+// What differs first, as README.md numbers it.
+fn number_of(finding: Finding) -> u64 {
     match finding {
-        Finding::Agrees => io::write_all(STDOUT_FILENO, b"agrees\n"),
-        Finding::Malformed => io::write_all(STDOUT_FILENO, b"the file is malformed\n"),
-        Finding::RefusalDiffers => io::write_all(STDOUT_FILENO, b"the refusal differs\n"),
-        Finding::OperandDiffers => io::write_all(STDOUT_FILENO, b"the operand differs\n"),
-        Finding::CountDiffers => io::write_all(STDOUT_FILENO, b"the count differs\n"),
-        Finding::RouteDiffers => io::write_all(STDOUT_FILENO, b"the route differs\n"),
-        Finding::DensityDiffers => io::write_all(STDOUT_FILENO, b"the density differs\n"),
-        Finding::StateDiffers => io::write_all(STDOUT_FILENO, b"the state differs\n"),
-        Finding::WordDiffers => io::write_all(STDOUT_FILENO, b"the word differs\n"),
-        Finding::OutputDiffers => io::write_all(STDOUT_FILENO, b"the output differs\n"),
+        Finding::Agrees => 0,
+        Finding::Malformed => 1,
+        Finding::RefusalDiffers => 2,
+        Finding::OperandDiffers => 3,
+        Finding::CountDiffers => 4,
+        Finding::RouteDiffers => 5,
+        Finding::DensityDiffers => 6,
+        Finding::StateDiffers => 7,
+        Finding::WordDiffers => 8,
+        Finding::OutputDiffers => 9,
     }
-    ;
 }
 
 // Cases are counted from 1.
@@ -91,8 +91,9 @@ fn print_tally(tally: Tally) {
     if differs(finding) {
         io::write_all(STDOUT_FILENO, b"case ");
         io::print_decimal(STDOUT_FILENO, std::num::wrapping_add_u64(tally.agreed, 1));
-        io::write_all(STDOUT_FILENO, b": ");
-        print_finding(finding);
+        io::write_all(STDOUT_FILENO, b": finding ");
+        io::print_decimal(STDOUT_FILENO, number_of(finding));
+        io::write_all(STDOUT_FILENO, b"\n");
         return;
     }
     io::print_decimal(STDOUT_FILENO, tally.agreed);
