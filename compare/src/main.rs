@@ -59,12 +59,21 @@ const LONG: Plan = Plan {
     programs: 60_000,
 };
 
+/// Which parts are run: all, or those of one half. The halves share nothing and take about as long, so that two processes can run them side
+/// by side.
+#[derive(Clone, Copy, PartialEq)]
+enum Share {
+    All,
+    First,
+    Second,
+}
+
 fn main() -> ExitCode {
-    let (plan, seed) = arguments();
+    let (plan, share, seed) = arguments();
     println!("seed {seed}; ours: {OURS}");
     let begun = Instant::now();
     let mut tally = Tally::default();
-    let outcome = run(&plan, seed, &mut tally);
+    let outcome = run(&plan, share, seed, &mut tally);
     tally.print();
     let seconds = begun.elapsed().as_secs();
     match outcome {
@@ -79,7 +88,17 @@ fn main() -> ExitCode {
     }
 }
 
-fn run(plan: &Plan, seed: u64, tally: &mut Tally) -> Outcome {
+fn run(plan: &Plan, share: Share, seed: u64, tally: &mut Tally) -> Outcome {
+    if share != Share::Second {
+        first_half(plan, seed, tally)?;
+    }
+    if share != Share::First {
+        second_half(plan, seed, tally)?;
+    }
+    Ok(())
+}
+
+fn first_half(plan: &Plan, seed: u64, tally: &mut Tally) -> Outcome {
     examples::run(tally)?;
     words::deposits(plan.words, seed, tally)?;
     words::selects(plan.words, seed, tally)?;
@@ -90,7 +109,10 @@ fn run(plan: &Plan, seed: u64, tally: &mut Tally) -> Outcome {
     small::programs(plan.small, seed, tally)?;
     compositions::run(plan.compositions, seed, tally)?;
     sets::set_operations(plan.sets, seed, tally)?;
-    sets::conversions(plan.conversions, seed, tally)?;
+    sets::conversions(plan.conversions, seed, tally)
+}
+
+fn second_half(plan: &Plan, seed: u64, tally: &mut Tally) -> Outcome {
     refusals::run(plan.refusals, seed, tally)?;
     without_room::run(plan.refusals / 10, seed, tally)?;
     feeds::run(plan.streams, seed, tally)?;
@@ -99,22 +121,25 @@ fn run(plan: &Plan, seed: u64, tally: &mut Tally) -> Outcome {
     feeds::blocks(plan.blocks / 3, seed, tally)
 }
 
-fn arguments() -> (Plan, u64) {
+fn arguments() -> (Plan, Share, u64) {
     let mut plan = SHORT;
+    let mut share = Share::All;
     let mut seed = SystemTime::now().duration_since(UNIX_EPOCH).map_or(0, |since| since.as_secs());
     let mut words = env::args().skip(1);
     while let Some(word) = words.next() {
         match word.as_str() {
             "--long" => plan = LONG,
             "--brief" => plan = BRIEF,
+            "--first" => share = Share::First,
+            "--second" => share = Share::Second,
             "--seed" => seed = words.next().and_then(|number| number.parse().ok()).unwrap_or_else(|| usage()),
             _ => usage(),
         }
     }
-    (plan, seed)
+    (plan, share, seed)
 }
 
 fn usage() -> ! {
-    eprintln!("compare [--long | --brief] [--seed NUMBER]");
+    eprintln!("compare [--long | --brief] [--first | --second] [--seed NUMBER]");
     process::exit(2)
 }
