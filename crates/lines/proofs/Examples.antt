@@ -7,7 +7,7 @@ use mathlib.Core.Path.{_≡_, refl}
 use mathlib.Core.List.{List, [], _∷_}
 use Rattle.rows.specs.Word.{bitsOf, wordOf}
 use Rattle.rows.specs.Table.{first, inOrder}
-use Rattle.rules.specs.Route.{routeOf}
+use Rattle.rules.specs.Route.{routeBy}
 use Rattle.rules.specs.Compose.{composed}
 use Rattle.lines.specs.Text.{ascii, rowsIn, decSame, parsed, decimalIn, decimal, lines, linesOf, answerFor, textOf}
 
@@ -31,5 +31,5 @@ cases =
     ∷ []
 
 pub examples : Every cases
-unfolding textOf answerFor parsed rowsIn decSame ℕ-discrete decLe lines linesOf decimal decimalIn composed routeOf first inOrder bitsOf wordOf
+unfolding textOf answerFor parsed rowsIn decSame ℕ-discrete decLe lines linesOf decimal decimalIn composed routeBy first inOrder bitsOf wordOf
 examples = (refl, (refl, (refl, (refl, (refl, (refl, (refl, tt)))))))

@@ -23,7 +23,7 @@ use Rattle.rows.proofs.TableLaws.{chosen, passed-over}
 use Rattle.rules.specs.declared.Answer.{Answer}
 use Rattle.rules.specs.declared.Form.the-variants.{Words}
 use Rattle.rules.specs.Operand.{Operand, lent, inWords}
-use Rattle.rules.specs.Route.{published, routeOf}
+use Rattle.rules.specs.Route.{published, routeBy}
 use Rattle.rules.specs.Compose.{composeChecks, result, composed, composedOut}
 use Rattle.rules.proofs.OperandLaws.{in-words-rows}
 use Rattle.rules.proofs.AnswerLaws.{by-fine}
@@ -38,7 +38,7 @@ use Rattle.lines.specs.Parts.{firstBits, foundIn, answerWords, toldWords
 -- words ignore the row numbers that are lent
 module _ (s c r d : ℕ) (sws rws es fs out : List ℕ) where
   pub rows-ignored : composed published (lent (Words 0 s c) sws es) (lent (Words 0 r d) rws fs) out ≡ composed published (lent (Words 0 s c) sws []) (lent (Words 0 r d) rws []) out
-  unfolding composed routeOf
+  unfolding composed routeBy
   rows-ignored = refl
 
   pub rows-ignored-out : composedOut (lent (Words 0 s c) sws es) (lent (Words 0 r d) rws fs) out ≡ composedOut (lent (Words 0 s c) sws []) (lent (Words 0 r d) rws []) out

@@ -1,4 +1,4 @@
--- An operand without row numbers: what acceptance gives for reading it, and its rows of its words alone. Form by form.
+-- An operand without row numbers and runs: what acceptance gives for reading it, and its rows of its words alone. Form by form.
 -- Assumes nothing.
 use Prim.Native.Nat.{_≤_}
 use mathlib.Core.Path.{_≡_, refl, sym}
@@ -8,19 +8,20 @@ use lib.ListN.{length, length-replicate}
 use Rattle.rows.specs.Table.{Met}
 use Rattle.rows.proofs.WordsLaws.{view-length}
 use Rattle.rules.specs.declared.Form.{Form}
-use Rattle.rules.specs.declared.Form.the-variants.{All, None, Words, List as Listed}
+use Rattle.rules.specs.declared.Form.the-variants.{All, None, Words, List as Listed, Runs}
 use Rattle.rules.specs.Operand.{Operand, rowsBy, rowsOf, lengthOf, limit, checksBy, Accepted}
 use Rattle.rules.proofs.OperandLaws.{words-reach}
-use Rattle.operand.specs.Flat.{hasRowNumbers, FlatBy, Flat, flat}
+use Rattle.operand.specs.Flat.{hasRowNumbers, hasRuns, FlatBy, Flat, flat}
 
-pub accepted-flat : (o : Operand) → hasRowNumbers (o .form) ≡ false → Accepted o → Flat o
+pub accepted-flat : (o : Operand) → hasRowNumbers (o .form) ≡ false → hasRuns (o .form) ≡ false → Accepted o → Flat o
 accepted-flat o = by (o .form)
   where
-    by : (f : Form) → hasRowNumbers f ≡ false → Met (checksBy f 0 o) → FlatBy f (o .words)
-    by (All n) e m = m .0
-    by (None n) e m = m .0
-    by (Words start len claimed) e m = (m .0, m .1 .0, omega (arith, words-reach start len claimed o m))
-    by (Listed len) e m = absurd (false≢true (sym e))
+    by : (f : Form) → hasRowNumbers f ≡ false → hasRuns f ≡ false → Met (checksBy f 0 o) → FlatBy f (o .words)
+    by (All n) e d m = m .0
+    by (None n) e d m = m .0
+    by (Words start len claimed) e d m = (m .0, m .1 .0, omega (arith, words-reach start len claimed o m))
+    by (Listed len) e d m = absurd (false≢true (sym e))
+    by (Runs len) e d m = absurd (false≢true (sym d))
 
 pub flat-rows : (o : Operand) → Flat o → rowsOf o ≡ rowsOf (flat o)
 flat-rows o = by (o .form)
@@ -30,6 +31,7 @@ flat-rows o = by (o .form)
     by (None n) m = refl
     by (Words start len claimed) m = refl
     by (Listed len) m = absurd m
+    by (Runs len) m = absurd m
 
 pub flat-length : (o : Operand) → Flat o → length (rowsOf o) ≡ lengthOf (o .form)
 flat-length o = by (o .form)
@@ -39,6 +41,7 @@ flat-length o = by (o .form)
     by (None n) m = length-replicate n false
     by (Words start len claimed) m = view-length start len (o .words) (m .2)
     by (Listed len) m = absurd m
+    by (Runs len) m = absurd m
 
 pub flat-limit : (o : Operand) → Flat o → lengthOf (o .form) ≤ limit
 flat-limit o = by (o .form)
@@ -48,3 +51,4 @@ flat-limit o = by (o .form)
     by (None n) m = m
     by (Words start len claimed) m = m .0
     by (Listed len) m = absurd m
+    by (Runs len) m = absurd m

@@ -6,7 +6,7 @@ use mathlib.Core.Bool.{Bool, true, false}
 use mathlib.Core.List.{List, []}
 use Rattle.rows.specs.Asks.{InView}
 use Rattle.rules.specs.declared.Form.{Form}
-use Rattle.rules.specs.declared.Form.the-variants.{All, None, Words, List as Listed}
+use Rattle.rules.specs.declared.Form.the-variants.{All, None, Words, List as Listed, Runs}
 use Rattle.rules.specs.Operand.{Operand, lent, lengthOf, limit}
 
 -- the bit of the lent words that has row 0
@@ -15,6 +15,7 @@ startOf (All n) = 0
 startOf (None n) = 0
 startOf (Words start len claimed) = start
 startOf (Listed len) = 0
+startOf (Runs len) = 0
 
 -- the numbers lent are its set rows: they can be marked, and copied
 abbrev pub hasRowNumbers : Form → Bool
@@ -22,13 +23,23 @@ hasRowNumbers (All n) = false
 hasRowNumbers (None n) = false
 hasRowNumbers (Words start len claimed) = false
 hasRowNumbers (Listed len) = true
+hasRowNumbers (Runs len) = false
 
--- what reading its rows chunk by chunk needs: no row numbers, and its words reach
+-- they are its runs, in pairs
+abbrev pub hasRuns : Form → Bool
+hasRuns (All n) = false
+hasRuns (None n) = false
+hasRuns (Words start len claimed) = false
+hasRuns (Listed len) = false
+hasRuns (Runs len) = true
+
+-- what reading its rows chunk by chunk needs: no row numbers, no runs, and its words reach
 abbrev pub FlatBy : Form → List ℕ → Type 0
 FlatBy (All n) ws = n ≤ limit
 FlatBy (None n) ws = n ≤ limit
 FlatBy (Words start len claimed) ws = InView start len ws
 FlatBy (Listed len) ws = ⊥
+FlatBy (Runs len) ws = ⊥
 
 abbrev pub Flat : Operand → Type 0
 Flat o = FlatBy (o .form) (o .words)

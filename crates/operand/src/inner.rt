@@ -2,4 +2,5 @@
 pub mod answers;
 pub mod checks;
 pub mod chunks;
+pub mod counts;
 pub mod forms;

@@ -14,7 +14,7 @@ use Rattle.rules.specs.declared.Answer.{Answer}
 use Rattle.rules.specs.declared.Form.the-variants.{Words, List as Listed}
 use Rattle.rules.specs.Operand.{Operand, lent}
 use Rattle.rules.specs.Answer.{densityOf, answer}
-use Rattle.rules.specs.Route.{routeOf, published}
+use Rattle.rules.specs.Route.{published, routeBy}
 use Rattle.rules.specs.Compose.{composed, composedOut}
 use Rattle.rules.specs.Stream.{Pair, pairOf, stateOf, fresh, judged, run}
 use Rattle.rules.proofs.WordExamples as word-examples
@@ -88,11 +88,11 @@ all-append [] ys a b = b
 all-append (x ∷ xs) ys a b = (a .0, all-append xs ys (a .1) b)
 
 masks-true : AllTrue (map composition masks)
-unfolding densityOf round composed composedOut routeOf first inOrder bitsOf wordOf ℕ-discrete decLe
+unfolding densityOf round composed composedOut routeBy first inOrder bitsOf wordOf ℕ-discrete decLe
 masks-true = ((refl, refl), ((refl, refl), ((refl, refl), ((refl, refl), tt))))
 
 pieces-true : AllTrue (map stream pieces)
-unfolding densityOf round judged composed composedOut routeOf first inOrder bitsOf wordOf ℕ-discrete decLe
+unfolding densityOf round judged composed composedOut routeBy first inOrder bitsOf wordOf ℕ-discrete decLe
 pieces-true = (refl, (refl, (refl, tt)))
 
 pub examples : AllTrue document

@@ -11,7 +11,7 @@ use lib.Ieee.{fin, round}
 use Rattle.rows.specs.declared.Refusal.{Refusal}
 use Rattle.rows.specs.Word.{bitsOf}
 use Rattle.rows.specs.Table.{first, refusal, noRefusal, told}
-use Rattle.rules.specs.declared.Form.the-variants.{All, None, Words, List as Listed}
+use Rattle.rules.specs.declared.Form.the-variants.{All, None, Words, List as Listed, Runs}
 use Rattle.rules.specs.Operand.{Operand, lent, operandChecks}
 use Rattle.rules.specs.Answer.{densityOf}
 
@@ -51,6 +51,16 @@ cases =
     ∷ refuses (lent (Words 64 1 9) [] []) (refusal 2 1)
     ∷ accepts (lent (Words 60 6 2) ((2 ^ 63) ∷ 1 ∷ []) [])
     ∷ refuses (lent (Words 60 6 3) ((2 ^ 63) ∷ 1 ∷ []) []) (refusal 4 1)
+    ∷ accepts (lent (Runs 10) [] [])
+    ∷ accepts (lent (Runs 10) [] (0 ∷ 3 ∷ 4 ∷ 10 ∷ []))
+    ∷ refuses (lent (Runs 10) [] (0 ∷ 3 ∷ 3 ∷ 5 ∷ [])) (refusal 14 1)
+    ∷ refuses (lent (Runs 10) [] (4 ∷ 4 ∷ [])) (refusal 14 1)
+    ∷ refuses (lent (Runs 10) [] (4 ∷ 11 ∷ [])) (refusal 14 1)
+    ∷ refuses (lent (Runs 10) [] (4 ∷ 6 ∷ 8 ∷ [])) (refusal 14 1)
+    ∷ refuses (lent (Runs 0) [] (0 ∷ 0 ∷ [])) (refusal 14 1)
+    ∷ refuses (lent (Runs 10) [] (6 ∷ 8 ∷ 2 ∷ 4 ∷ [])) (refusal 14 1)
+    ∷ refuses (lent (Runs 10) [] (4294967295 ∷ 0 ∷ [])) (refusal 14 1)
+    ∷ refuses (lent (Runs 1048577) [] (4 ∷ 4 ∷ [])) (refusal 1 1)
     ∷ quotient 0 0 0 (pos 0)
     ∷ quotient 0 1 0 (pos 0)
     ∷ quotient 1 1 1 (pos 0)
@@ -72,4 +82,4 @@ cases =
 
 pub examples : Every cases
 unfolding densityOf round first bitsOf ℕ-discrete decLe
-examples = (refl, (refl, (refl, (refl, (refl, (refl, (refl, (refl, (refl, (refl, (refl, (refl, (refl, (refl, (refl, (refl, (refl, (refl, (refl, (refl, (refl, (refl, (refl, (refl, (refl, (refl, (refl, (refl, (refl, (refl, (refl, (refl, tt))))))))))))))))))))))))))))))))
+examples = (refl, (refl, (refl, (refl, (refl, (refl, (refl, (refl, (refl, (refl, (refl, (refl, (refl, (refl, (refl, (refl, (refl, (refl, (refl, (refl, (refl, (refl, (refl, (refl, (refl, (refl, (refl, (refl, (refl, (refl, (refl, (refl, (refl, (refl, (refl, (refl, (refl, (refl, (refl, (refl, (refl, (refl, tt))))))))))))))))))))))))))))))))))))))))))

@@ -8,10 +8,11 @@ use mathlib.Core.Logic.{_↔_}
 use mathlib.Core.Bool.{Bool, true, false, _&&_}
 use mathlib.Core.List.{List, [], _∷_}
 use native.Mathlib.Omega.{arith}
-use lib.Dec.{T, ltb, ltb→lt}
+use lib.Dec.{T, leb, leb→le, ltb, ltb→lt}
 use lib.ListN.{length, replicate, length-replicate}
 use Rattle.rows.specs.Rows.{count}
 use Rattle.rows.specs.Lists.{Ascending}
+use Rattle.rows.specs.Runs.{Apart}
 use Rattle.rows.specs.Laid.{wordsFor}
 use Rattle.rows.specs.Table.{Met}
 use Rattle.rows.proofs.RowLaws.{count-le-length}
@@ -19,9 +20,10 @@ use Rattle.rows.proofs.WordsLaws.{view-length, wordsOf-bits}
 use Rattle.rows.proofs.FitLaws.{all-fit}
 use Rattle.rows.proofs.LaidLaws.{wordsOf-length}
 use Rattle.rows.proofs.ListLaws.{tab-length, listed-count}
+use Rattle.rows.proofs.RunLaws.{runs-count}
 use Rattle.rules.specs.declared.Form.{Form}
-use Rattle.rules.specs.declared.Form.the-variants.{All, None, Words, List as Listed}
-use Rattle.rules.specs.Operand.{Operand, inWords, rowsBy, rowsOf, lengthOf, countBy, countOf, limit, climbs, lastBelow, checksBy, operandChecks, Accepted}
+use Rattle.rules.specs.declared.Form.the-variants.{All, None, Words, List as Listed, Runs}
+use Rattle.rules.specs.Operand.{Operand, inWords, rowsBy, rowsOf, lengthOf, countBy, countOf, limit, climbs, lastBelow, runsFit, checksBy, operandChecks, Accepted}
 
 -- ---- a list that climbs below the length
 
@@ -40,6 +42,17 @@ pub ascending : (len : ℕ) (es : List ℕ) → T (climbs es) → T (lastBelow l
 ascending len [] c l = tt
 ascending len (e ∷ es) c l = ascends 0 len e es (omega arith) c l
 
+-- ---- runs that fit
+
+pub apart : (b len : ℕ) (ns : List ℕ) → T (runsFit b len ns) → Apart b len ns
+apart b len [] t = tt
+apart b len (first ∷ []) t = t
+apart b len (first ∷ past ∷ ns) t =
+    let p = both-T (leb b first) _ t in
+    let q = both-T (ltb first past) _ (p .1) in
+    let r = both-T (leb past len) (runsFit (suc past) len ns) (q .1) in
+    (leb→le b first (p .0), ltb→lt first past (q .0), leb→le past len (r .0), apart (suc past) len ns (r .1))
+
 -- ---- the needs do not depend on which operand it is
 
 pub accepted-as : (k : ℕ) (o : Operand) → Met (operandChecks k o) ↔ Accepted o
@@ -50,6 +63,7 @@ accepted-as k o = by (o .form)
     by (None n) = (λ m. m, λ m. m)
     by (Words start len claimed) = (λ m. m, λ m. m)
     by (Listed len) = (λ m. m, λ m. m)
+    by (Runs len) = (λ m. m, λ m. m)
 
 -- ---- what acceptance gives
 
@@ -69,6 +83,7 @@ accepted-limit o = by (o .form)
     by (None n) m = m .0
     by (Words start len claimed) m = m .0
     by (Listed len) m = m .0
+    by (Runs len) m = m .0
 
 -- `search` finds the need where it stands, so that the order is the theorem's alone to say
 pub words-reach : (start len claimed : ℕ) (o : Operand) → Met (checksBy (Words start len claimed) 0 o) → wordsFor (start + len) ≤ length (o .words)
@@ -82,6 +97,7 @@ accepted-length o = by (o .form)
     by (None n) m = length-replicate n false
     by (Words start len claimed) m = view-length start len (o .words) (omega (arith, words-reach start len claimed o m))
     by (Listed len) m = tab-length 0 len _
+    by (Runs len) m = tab-length 0 len _
 
 pub accepted-count : (o : Operand) → Accepted o → count (rowsOf o) ≡ countOf o
 accepted-count o = by (o .form)
@@ -91,6 +107,7 @@ accepted-count o = by (o .form)
     by (None n) m = count-false n
     by (Words start len claimed) m = sym (search)
     by (Listed len) m = listed-count len (o .numbers) (ascending len (o .numbers) (m .1 .0) (m .1 .1 .0))
+    by (Runs len) m = runs-count len (o .numbers) (apart 0 len (o .numbers) (m .1 .0))
 
 -- its count is no more than its length, and so within the limit
 pub accepted-few : (o : Operand) → Accepted o → countOf o ≤ limit

@@ -15,8 +15,8 @@ use Rattle.rows.specs.Laid.{wordsFor}
 use Rattle.rows.specs.Table.{First, Numbered, refusal}
 use Rattle.rows.proofs.TableLaws.{never, same-refusal, line-refuses}
 use Rattle.rules.specs.declared.Form.{Form}
-use Rattle.rules.specs.declared.Form.the-variants.{All, None, Words, List as Listed}
-use Rattle.rules.specs.Operand.{Operand, limit, climbs, lastBelow, checksBy, operandChecks}
+use Rattle.rules.specs.declared.Form.the-variants.{All, None, Words, List as Listed, Runs}
+use Rattle.rules.specs.Operand.{Operand, limit, climbs, lastBelow, runsFit, checksBy, operandChecks}
 
 -- what is wrong with operand k where x is told of it
 abbrev pub WrongBy : Form → ℕ → Operand → Refusal → Type 0
@@ -31,6 +31,9 @@ WrongBy (Listed len) k o x =
     ((x ≡ refusal 1 k) × (limit < len))
     ⊎ ((x ≡ refusal 5 k) × (len ≤ limit) × (¬ T (climbs (o .numbers))))
     ⊎ ((x ≡ refusal 6 k) × (len ≤ limit) × T (climbs (o .numbers)) × (¬ T (lastBelow len (o .numbers))))
+WrongBy (Runs len) k o x =
+    ((x ≡ refusal 1 k) × (limit < len))
+    ⊎ ((x ≡ refusal 14 k) × (len ≤ limit) × (¬ T (runsFit 0 len (o .numbers))))
 
 abbrev pub Wrong : ℕ → Operand → Refusal → Type 0
 Wrong k o x = WrongBy (o .form) k o x
@@ -71,6 +74,18 @@ module _ (k : ℕ) (o : Operand) (x : Refusal) where
       from (inr (inl (e, a, b))) = inl (a, inr (b, ap Refused e))
       from (inr (inr (e, a, b, c))) = inl (a, inl (b, inr (c, ap Refused e)))
 
+  as-runs : (len : ℕ) → First (checksBy (Runs len) k o) (Refused x) ↔ WrongBy (Runs len) k o x
+  as-runs len = (to, from)
+    where
+      to : First (checksBy (Runs len) k o) (Refused x) → WrongBy (Runs len) k o x
+      to (inr (a, e)) = inl (same-refusal e, omega arith)
+      to (inl (a, inr (b, e))) = inr (same-refusal e, a, b)
+      to (inl (a, inl (b, e))) = never e
+
+      from : WrongBy (Runs len) k o x → First (checksBy (Runs len) k o) (Refused x)
+      from (inl (e, a)) = inr (λ h. omega arith, ap Refused e)
+      from (inr (e, a, b)) = inl (a, inr (b, ap Refused e))
+
   -- each refusal of an operand exactly when
   pub operand-refuses : First (operandChecks k o) (Refused x) ↔ Wrong k o x
   operand-refuses = by (o .form)
@@ -80,6 +95,7 @@ module _ (k : ℕ) (o : Operand) (x : Refusal) where
       by (None len) = too-long len
       by (Words start len claimed) = in-words start len claimed
       by (Listed len) = as-list len
+      by (Runs len) = as-runs len
 
 -- and none tells the number 0
 pub operand-numbered : (k : ℕ) (o : Operand) → Numbered (operandChecks k o)
@@ -90,3 +106,4 @@ operand-numbered k o = by (o .form)
     by (None n) = (omega arith, tt)
     by (Words start len claimed) = (omega arith, (omega arith, (omega arith, (omega arith, tt))))
     by (Listed len) = (omega arith, (omega arith, (omega arith, tt)))
+    by (Runs len) = (omega arith, (omega arith, tt))

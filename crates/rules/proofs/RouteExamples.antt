@@ -4,11 +4,11 @@
 use Prim.Native.Nat.{ℕ}
 use mathlib.Core.Path.{_≡_, refl}
 use mathlib.Core.List.{List, [], _∷_}
-use Rattle.rules.specs.declared.Form.the-variants.{All, None, Words, List as Listed}
+use Rattle.rules.specs.declared.Form.the-variants.{All, None, Words, List as Listed, Runs}
 use Rattle.rules.specs.Operand.{Operand, lent}
-use Rattle.rules.specs.Route.{routeOf, numberOf, published}
+use Rattle.rules.specs.Route.{routeOf, numberOf, published, routeBy}
 
--- self, the rank mask, and the route. No words are lent: they decide no route (`route-by-numbers`)
+-- self, the rank mask, and the route. No words are lent: they decide no route
 pub data Line : Type 0 where
   takes : (s r : Operand) (number : ℕ) → Line
 
@@ -28,6 +28,15 @@ table =
     ∷ takes (lent (Listed 9) [] (1 ∷ 4 ∷ [])) (lent (Words 0 2 0) [] []) 3
     ∷ takes (lent (Listed 9) [] (1 ∷ 4 ∷ [])) (lent (Listed 2) [] (1 ∷ [])) 4
     ∷ takes (lent (Listed 9) [] (1 ∷ 4 ∷ [])) (lent (Words 0 2 1) [] []) 5
+    ∷ takes (lent (Runs 9) [] (1 ∷ 3 ∷ [])) (lent (Listed 2) [] (1 ∷ [])) 4
+    ∷ takes (lent (Listed 9) [] (1 ∷ 4 ∷ [])) (lent (Runs 2) [] (1 ∷ 2 ∷ [])) 4
+    ∷ takes (lent (Runs 9) [] (1 ∷ 3 ∷ [])) (lent (Words 0 2 1) [] []) 5
+    ∷ takes (lent (Runs 9) [] (0 ∷ 9 ∷ [])) (lent (Words 0 9 1) [] []) 1
+    ∷ takes (lent (Words 0 9 4) [] []) (lent (Runs 4) [] (0 ∷ 4 ∷ [])) 2
+    ∷ takes (lent (Runs 9) [] []) (lent (All 0) [] []) 3
+    ∷ takes (lent (Words 0 200 97) [] []) (lent (Runs 97) [] (5 ∷ 8 ∷ [])) 6
+    ∷ takes (lent (Words 0 32 2) [] []) (lent (Runs 2) [] (1 ∷ 2 ∷ [])) 7
+    ∷ takes (lent (Words 0 33 2) [] []) (lent (Runs 2) [] (1 ∷ 2 ∷ [])) 8
     ∷ takes (lent (Words 0 200 97) [] []) (lent (Words 0 97 3) [] []) 6
     ∷ takes (lent (Words 0 200 97) [] []) (lent (Listed 97) [] (0 ∷ 1 ∷ 2 ∷ [])) 6
     ∷ takes (lent (Words 0 200 96) [] []) (lent (Words 0 96 3) [] []) 9
@@ -38,5 +47,5 @@ table =
     ∷ []
 
 pub routes : Lines table
-unfolding routeOf
-routes = (refl, (refl, (refl, (refl, (refl, (refl, (refl, (refl, (refl, (refl, (refl, (refl, (refl, (refl, (refl, (refl, (refl, tt)))))))))))))))))
+unfolding routeBy
+routes = (refl, (refl, (refl, (refl, (refl, (refl, (refl, (refl, (refl, (refl, (refl, (refl, (refl, (refl, (refl, (refl, (refl, (refl, (refl, (refl, (refl, (refl, (refl, (refl, (refl, (refl, tt))))))))))))))))))))))))))

@@ -1,20 +1,23 @@
--- An operand: a form with what is lent beside it; its rows, and document 01's checks of it in document 01's order.
+-- An operand: a form with what is lent beside it; its rows, and its checks in document 01's order.
 -- Hold it against document 01: "An operand comes in one of four forms", to "Limits"; the lines 1 to 6 and 12 of its refusals; and "each
--- through 12, 1, 2, 3, 4 (words) or 12, 1, 5, 6 (list), as they apply".
+-- through 12, 1, 2, 3, 4 (words) or 12, 1, 5, 6 (list), as they apply". The fifth form is document 02's, P1: "14, naming its operand, for an
+-- empty run (its row past the last isn't above its first row), one whose first row isn't above its predecessor's row past the last, or one
+-- past the length, told after 1; set operations give 12."
 -- Assumes nothing.
-use Prim.Native.Nat.{ℕ, _+_}
+use Prim.Native.Nat.{ℕ, suc, _+_}
 use native.Mathlib.Decide.{ℕ-discrete, decLe}
 use mathlib.Core.Bool.{Bool, true, false, not, _&&_}
 use mathlib.Core.List.{List, [], _∷_}
 use lib.ListN.{length, replicate}
-use lib.Dec.{ltb, eqb}
+use lib.Dec.{leb, ltb, eqb}
 use Rattle.rows.specs.Rows.{count}
 use Rattle.rows.specs.Words.{view, wordsOf}
 use Rattle.rows.specs.Lists.{listed}
+use Rattle.rows.specs.Runs.{inRuns, runLengths}
 use Rattle.rows.specs.Laid.{wordsFor}
 use Rattle.rows.specs.Table.{Line, need, Met, decT}
 use Rattle.rules.specs.declared.Form.{Form}
-use Rattle.rules.specs.declared.Form.the-variants.{All, None, Words, List as Listed}
+use Rattle.rules.specs.declared.Form.the-variants.{All, None, Words, List as Listed, Runs}
 
 -- ---- what it is. What depends on the form alone is a function of the form
 
@@ -36,6 +39,7 @@ lengthOf (All n) = n
 lengthOf (None n) = n
 lengthOf (Words start len claimed) = len
 lengthOf (Listed len) = len
+lengthOf (Runs len) = len
 
 -- it counts as a list: for the route, and a set operation takes none
 abbrev pub countsAsList : Form → Bool
@@ -43,6 +47,7 @@ countsAsList (All n) = false
 countsAsList (None n) = false
 countsAsList (Words start len claimed) = false
 countsAsList (Listed len) = true
+countsAsList (Runs len) = true
 
 -- its rows
 abbrev pub rowsBy : Form → Operand → List Bool
@@ -50,6 +55,7 @@ rowsBy (All n) o = replicate n true
 rowsBy (None n) o = replicate n false
 rowsBy (Words start len claimed) o = view start len (o .words)
 rowsBy (Listed len) o = listed len (o .numbers)
+rowsBy (Runs len) o = inRuns len (o .numbers)
 
 abbrev pub rowsOf : Operand → List Bool
 rowsOf o = rowsBy (o .form) o
@@ -60,16 +66,23 @@ countBy (All n) es = n
 countBy (None n) es = 0
 countBy (Words start len claimed) es = claimed
 countBy (Listed len) es = length es
+countBy (Runs len) es = runLengths es
 
 abbrev pub countOf : Operand → ℕ
 countOf o = countBy (o .form) (o .numbers)
 
 -- empty if its count is 0; full if its length is above 0 and its count equals it
+abbrev pub emptyBy : ℕ → Bool
+emptyBy n = eqb n 0
+
+abbrev pub fullBy : Form → ℕ → Bool
+fullBy f n = ltb 0 (lengthOf f) && eqb n (lengthOf f)
+
 abbrev pub empty : Operand → Bool
-empty o = eqb (countOf o) 0
+empty o = emptyBy (countOf o)
 
 abbrev pub full : Operand → Bool
-full o = ltb 0 (lengthOf (o .form)) && eqb (countOf o) (lengthOf (o .form))
+full o = fullBy (o .form) (countOf o)
 
 -- ---- its checks, as operand k
 
@@ -87,6 +100,13 @@ abbrev pub lastBelow : ℕ → List ℕ → Bool
 lastBelow len [] = true
 lastBelow len (e ∷ []) = ltb e len
 lastBelow len (e ∷ f ∷ es) = lastBelow len (f ∷ es)
+
+-- each run is not empty, begins at `least` or above, above the row past the last of the one before it, and is not past the length; and the
+-- last number has its pair
+abbrev pub runsFit : ℕ → ℕ → List ℕ → Bool
+runsFit least len [] = true
+runsFit least len (first ∷ []) = false
+runsFit least len (first ∷ past ∷ ns) = leb least first && (ltb first past && (leb past len && runsFit (suc past) len ns))
 
 abbrev pub lengthChecks : ℕ → ℕ → List Line
 lengthChecks k len = need (decLe len limit) 1 k ∷ []
@@ -106,16 +126,23 @@ listChecks k len es =
     ∷ need (decT (lastBelow len es)) 6 k
     ∷ []
 
+abbrev pub runsChecks : ℕ → ℕ → List ℕ → List Line
+runsChecks k len ns =
+    need (decLe len limit) 1 k
+    ∷ need (decT (runsFit 0 len ns)) 14 k
+    ∷ []
+
 abbrev pub checksBy : Form → ℕ → Operand → List Line
 checksBy (All n) k o = lengthChecks k n
 checksBy (None n) k o = lengthChecks k n
 checksBy (Words start len claimed) k o = wordsChecks k start len claimed (o .words)
 checksBy (Listed len) k o = listChecks k len (o .numbers)
+checksBy (Runs len) k o = runsChecks k len (o .numbers)
 
 abbrev pub operandChecks : ℕ → Operand → List Line
 operandChecks k o = checksBy (o .form) k o
 
--- a set operation takes no list: 12, before all others
+-- a set operation takes no list and no runs: 12, before all others
 abbrev pub setChecks : ℕ → Operand → List Line
 setChecks k o = need (decT (not (countsAsList (o .form)))) 12 k ∷ operandChecks k o
 

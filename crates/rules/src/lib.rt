@@ -21,6 +21,10 @@ pub enum Form {
     List {
         length: u64,
     },
+    // Runs of rows, lent as numbers in pairs where a list's rows are: first row, row past the last, first row, and so on.
+    Runs {
+        length: u64,
+    },
 }
 
 // What every operation returns of its result: the count of its set rows, the route, 0 outside composition, and the density.
@@ -34,6 +38,12 @@ pub struct Summary {
 pub struct Answer {
     pub refusal: Refusal,
     pub summary: Summary,
+}
+
+// What the writer of runs gives: its answer, and how many runs it wrote.
+pub struct Written {
+    pub answer: Answer,
+    pub runs: u64,
 }
 
 // What the counts are multiplied by before they are held against the lengths: 16 for the loop form, 32 for mask-driven.

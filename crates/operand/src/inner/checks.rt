@@ -1,8 +1,15 @@
 // The checks of one operand, form by form: early returns in document 01's order.
 ghost use mathlib.Core.Path.{_≡_};
+ghost use mathlib.Core.Bool.{_&&_};
+ghost use lib.Dec.{leb, ltb};
+ghost use Prim.Native.Nat.{_≤_};
 ghost use denote.Ref.{now};
+ghost use Rattle.rows.specs.Runs.{runLengths};
+ghost use Rattle.operand.specs.Counts.{checkedBy, checkedOf, weighed};
 ghost use Rattle.rows.specs.Table.{first};
-ghost use Rattle.rules.specs.Operand.{lent, climbs, lastBelow, lengthChecks, wordsChecks, listChecks, operandChecks, setChecks};
+ghost use Rattle.rules.specs.Operand.{lent, climbs, lastBelow, runsFit, lengthChecks, wordsChecks, listChecks, runsChecks, setChecks};
+use super::counts::Checked;
+use super::counts::tell;
 use super::forms::counts_as_list;
 use lent::inner::has_count;
 use lent::inner::words_for;
@@ -78,28 +85,88 @@ fn check_list(operand: u8, length: u64, rows: &[u32]) -> Verdict
     Verdict::Fine
 }
 
-// All checks of one operand, in document 01's order.
-pub fn check(operand: u8, form: Form, words: &[u64], rows: &[u32]) -> Verdict
-    ensures { λ r. ⌜ r ≡ first (operandChecks operand (lent form (now (words .entry)) (now (rows .entry)))) ⌝ }
+// A run that begins at least there, is not empty and is not past the length.
+fn run_fits(least: u64, first: u64, past: u64, length: u64) -> bool
+    ensures { λ b. ⌜ b ≡ (leb least first && (ltb first past && leb past length)) ⌝ }
+{
+    if first < least {
+        return false;
+    }
+    if past <= first {
+        return false;
+    }
+    past <= length
+}
+
+// Whether all runs fit and, where they do, their lengths summed.
+pub struct Weighed {
+    pub fit: bool,
+    pub sum: u64,
+}
+
+// Lengths are summed only as far as the runs fit: so the sum is at most the length, and wraps nowhere.
+fn weigh_runs(length: u64, runs: &[u32]) -> Weighed
+    requires { ⌜ length ≤ 1048576 ⌝ }
+    ensures { λ w. ⌜ w ≡ weighed (runsFit 0 length (now (runs .entry))) (runLengths (now (runs .entry))) ⌝ }
+{
+    let n = runs.len();
+    let mut sum: u64 = 0;
+    let mut least: u64 = 0;
+    let mut i: usize = 0;
+    while i + 1 < n {
+        let first = runs[i] as u64;
+        let past = runs[i + 1] as u64;
+        if !run_fits(least, first, past, length) {
+            return Weighed { fit: false, sum: 0 };
+        }
+        sum += past - first;
+        least = past + 1;
+        i += 2;
+    }
+    if i < n {
+        return Weighed { fit: false, sum: 0 };
+    }
+    Weighed { fit: true, sum }
+}
+
+// The one check that tells the count too: it has summed it.
+fn check_runs(operand: u8, length: u64, runs: &[u32]) -> Checked
+    ensures { λ r. ⌜ r ≡ checkedBy (first (runsChecks operand length (now (runs .entry)))) (runLengths (now (runs .entry))) ⌝ }
+{
+    if length > 1048576 {
+        return tell(refuse(1, operand), 0);
+    }
+    let weighed = weigh_runs(length, runs);
+    if !weighed.fit {
+        return tell(refuse(14, operand), 0);
+    }
+    tell(Verdict::Fine, weighed.sum)
+}
+
+// All checks of one operand, in document 01's order, and its count.
+pub fn check(operand: u8, form: Form, words: &[u64], rows: &[u32]) -> Checked
+    ensures { λ r. ⌜ r ≡ checkedOf operand (lent form (now (words .entry)) (now (rows .entry))) ⌝ }
 {
     match form {
-        Form::All { length } => check_length(operand, length),
-        Form::None { length } => check_length(operand, length),
+        Form::All { length } => tell(check_length(operand, length), length),
+        Form::None { length } => tell(check_length(operand, length), 0),
         Form::Words {
             start,
             length,
             claimed,
-        } => check_words(operand, start, length, claimed, words),
-        Form::List { length } => check_list(operand, length, rows),
+        } => tell(check_words(operand, start, length, claimed, words), claimed),
+        Form::List { length } => tell(check_list(operand, length, rows), rows.len() as u64),
+        Form::Runs { length } => check_runs(operand, length, rows),
     }
 }
 
-// The same for a set operation's operand, which may be no list.
+// The same for a set operation's operand, which may be no list and no runs. Nobody asks for its count.
 pub fn check_set(operand: u8, form: Form, words: &[u64], rows: &[u32]) -> Verdict
     ensures { λ r. ⌜ r ≡ first (setChecks operand (lent form (now (words .entry)) (now (rows .entry)))) ⌝ }
 {
     if counts_as_list(form) {
         return refuse(12, operand);
     }
-    check(operand, form, words, rows)
+    let checked = check(operand, form, words, rows);
+    checked.verdict
 }

@@ -10,7 +10,7 @@ ghost use Rattle.rules.specs.Operand.{lent, rowsOf, lengthOf};
 ghost use Rattle.operand.specs.Flat.{Flat};
 use rules::Form;
 
-// n rows from row on of an operand that is no list.
+// n rows from row on of an operand that is no list and no runs.
 pub fn chunk_of(form: Form, words: &[u64], row: u64, n: u64) -> u64
     requires { ⌜ Flat (lent form (now words) []) × Chunk n × (row + n ≤ lengthOf form) ⌝ }
     ensures { λ r. ⌜ r ≡ wordOf (take n (drop row (rowsOf (lent form (now (words .entry)) [])))) ⌝ }
@@ -24,5 +24,6 @@ pub fn chunk_of(form: Form, words: &[u64], row: u64, n: u64) -> u64
             claimed: _,
         } => lent::inner::chunk(words, start, row, n),
         Form::List { length: _ } => 0,
+        Form::Runs { length: _ } => 0,
     }
 }

@@ -1,9 +1,7 @@
-// What is asked of an operand's form: its length, where its words start, its count, and what kind of mask it is.
+// What is asked of an operand's form: its length, where its words start, and what kind of mask it is.
 ghost use mathlib.Core.Path.{_≡_};
-ghost use mathlib.Core.List.{[]};
-ghost use denote.Ref.{now};
-ghost use Rattle.rules.specs.Operand.{lent, lengthOf, countOf, empty, full, countsAsList};
-ghost use Rattle.operand.specs.Flat.{hasRowNumbers, startOf};
+ghost use Rattle.rules.specs.Operand.{lengthOf, countsAsList};
+ghost use Rattle.operand.specs.Flat.{hasRowNumbers, hasRuns, startOf};
 use rules::Form;
 
 pub fn length_of(form: Form) -> u64
@@ -18,6 +16,7 @@ pub fn length_of(form: Form) -> u64
             claimed: _,
         } => length,
         Form::List { length } => length,
+        Form::Runs { length } => length,
     }
 }
 
@@ -34,41 +33,8 @@ pub fn start_of(form: Form) -> u64
             claimed: _,
         } => start,
         Form::List { length: _ } => 0,
+        Form::Runs { length: _ } => 0,
     }
-}
-
-// The count that the form has: of an accepted operand, the number of its set rows.
-pub fn count_of(form: Form, rows: &[u32]) -> u64
-    ensures { λ r. ⌜ r ≡ countOf (lent form [] (now (rows .entry))) ⌝ }
-{
-    match form {
-        Form::All { length } => length,
-        Form::None { length: _ } => 0,
-        Form::Words {
-            start: _,
-            length: _,
-            claimed,
-        } => claimed,
-        Form::List { length: _ } => rows.len() as u64,
-    }
-}
-
-// Its count is 0.
-pub fn is_empty(form: Form, rows: &[u32]) -> bool
-    ensures { λ r. ⌜ r ≡ empty (lent form [] (now (rows .entry))) ⌝ }
-{
-    count_of(form, rows) == 0
-}
-
-// Its length is above 0, and its count equals it.
-pub fn is_full(form: Form, rows: &[u32]) -> bool
-    ensures { λ r. ⌜ r ≡ full (lent form [] (now (rows .entry))) ⌝ }
-{
-    let length = length_of(form);
-    if length == 0 {
-        return false;
-    }
-    count_of(form, rows) == length
 }
 
 // It counts as a list: for the route, and a set operation takes none.
@@ -84,6 +50,7 @@ pub fn counts_as_list(form: Form) -> bool
             claimed: _,
         } => false,
         Form::List { length: _ } => true,
+        Form::Runs { length: _ } => true,
     }
 }
 
@@ -100,5 +67,23 @@ pub fn has_row_numbers(form: Form) -> bool
             claimed: _,
         } => false,
         Form::List { length: _ } => true,
+        Form::Runs { length: _ } => false,
+    }
+}
+
+// They are its runs, in pairs.
+pub fn has_runs(form: Form) -> bool
+    ensures { λ r. ⌜ r ≡ hasRuns form ⌝ }
+{
+    match form {
+        Form::All { length: _ } => false,
+        Form::None { length: _ } => false,
+        Form::Words {
+            start: _,
+            length: _,
+            claimed: _,
+        } => false,
+        Form::List { length: _ } => false,
+        Form::Runs { length: _ } => true,
     }
 }
