@@ -10,8 +10,10 @@ use native.Mathlib.Omega.{arith}
 use borrow.Author.Tests.{lt-ltb, le-ltb, le-leb, lt-leb}
 use lib.Dec.{leb}
 use lib.ListN.{replicate}
+use Rattle.rows.specs.Rows.{count}
 use Rattle.rows.specs.Lists.{tab}
-use Rattle.rows.specs.Runs.{held, inRuns, Apart}
+use Rattle.rows.specs.Runs.{held, inRuns, runLengths, Apart}
+use Rattle.rows.proofs.RowLaws.{count-append}
 use Rattle.rows.proofs.ListLaws.{tab-ext}
 
 -- the rows from b to e, run by run: those before the run, the run's own, and what follows
@@ -79,3 +81,34 @@ in-runs e ns a = ap (λ (n : ℕ). tab 0 n (λ i. held i ns)) whole ∙ apart-ro
   where
     whole : e ≡ e - 0
     whole = omega arith
+
+-- ---- how many rows runs hold
+
+count-unset : (n : ℕ) → count (replicate n false) ≡ 0
+count-unset zero = refl
+count-unset (suc n) = count-unset n
+
+count-set : (n : ℕ) → count (replicate n true) ≡ n
+count-set zero = refl
+count-set (suc n) = ap suc (count-set n)
+
+pub rows-sum : (b e : ℕ) (ns : List ℕ) → count (runRows b e ns) ≡ runLengths ns
+rows-sum b e [] = count-unset (e - b)
+rows-sum b e (f ∷ []) = count-unset (e - b)
+rows-sum b e (f ∷ p ∷ ns) =
+    let before : List Bool = replicate (f - b) false in
+    let run : List Bool = replicate (p - f) true in
+    omega
+    (arith, count-append (before ++ run) (runRows p e ns), count-append before run, count-unset (f - b), count-set (p - f), rows-sum p e ns)
+
+pub runs-count : (e : ℕ) (ns : List ℕ) → Apart 0 e ns → count (inRuns e ns) ≡ runLengths ns
+runs-count e ns a = ap count (in-runs e ns a) ∙ rows-sum 0 e ns
+
+-- they are no more than the rows from b to e, where the runs begin at b or later
+few-from : (b c e : ℕ) (ns : List ℕ) → b ≤ c → b ≤ e → Apart c e ns → b + runLengths ns ≤ e
+few-from b c e [] h k a = omega arith
+few-from b c e (f ∷ []) h k a = absurd a
+few-from b c e (f ∷ p ∷ ns) h k a = omega (arith, few-from p (suc p) e ns (omega arith) (omega arith) (a .3))
+
+pub runs-few : (b e : ℕ) (ns : List ℕ) → Apart b e ns → b ≤ e → b + runLengths ns ≤ e
+runs-few b e ns a h = few-from b b e ns (omega arith) h a
