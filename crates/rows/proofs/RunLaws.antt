@@ -1,14 +1,114 @@
 -- Runs of rows against masks: the rows from one run to the next, their count, the runs of what runs say and back, and the set rows.
 -- By recursion over the runs, and over the rows.
 -- Assumes nothing.
-use Prim.Native.Nat.{ℕ, suc, _-_, _≤_}
-use mathlib.Core.Bool.{Bool, true, false}
-use mathlib.Core.List.{List, [], _∷_, _++_}
+use Prim.Native.Nat.{ℕ, zero, suc, _+_, _-_, _≤_, _<_}
+use native.Mathlib.Nat.{add-zero, zero-add, suc-add, add-suc}
+use mathlib.Core.Path.{_≡_, refl, sym, ap, ap₂, _∙_}
+use mathlib.Core.Bool.{Bool, true, false, and-false}
+use mathlib.Core.List.{List, [], _∷_, _++_, append-assoc}
+use native.Mathlib.Omega.{arith}
+use borrow.Author.Tests.{lt-ltb, le-ltb, le-leb, lt-leb}
+use lib.Dec.{leb}
 use lib.ListN.{replicate}
-use Rattle.rows.specs.Runs.{held, Apart}
+use Rattle.rows.specs.Rows.{count}
+use Rattle.rows.specs.Lists.{tab}
+use Rattle.rows.specs.Runs.{held, inRuns, runLengths, Apart}
+use Rattle.rows.proofs.RowLaws.{count-append}
+use Rattle.rows.proofs.ListLaws.{tab-ext}
 
 -- the rows from b to e, run by run: those before the run, the run's own, and what follows
 abbrev pub runRows : ℕ → ℕ → List ℕ → List Bool
 runRows b e [] = replicate (e - b) false
 runRows b e (first ∷ []) = replicate (e - b) false
 runRows b e (first ∷ past ∷ ns) = replicate (first - b) false ++ replicate (past - first) true ++ runRows past e ns
+
+-- ---- which rows runs hold
+
+-- none below the runs
+pub held-below : (i c e : ℕ) (ns : List ℕ) → i < c → Apart c e ns → held i ns ≡ false
+held-below i c e [] h a = refl
+held-below i c e (f ∷ []) h a = refl
+held-below i c e (f ∷ p ∷ ns) h a = rw (lt-leb f i (omega arith), held-below i (suc p) e ns (omega arith) (a .3))
+
+-- those of the first run
+pub held-first : (i f p : ℕ) (ns : List ℕ) → f ≤ i → i < p → held i (f ∷ p ∷ ns) ≡ true
+held-first i f p ns h k = rw (le-leb f i h, lt-ltb i p k)
+
+-- past the first run those of the others
+pub held-past : (i f p : ℕ) (ns : List ℕ) → p ≤ i → held i (f ∷ p ∷ ns) ≡ held i ns
+held-past i f p ns h = rw (le-ltb i p h, and-false (leb f i))
+
+-- ---- tab: in two parts, and all the same
+
+pub tab-add : (b m n : ℕ) (f : ℕ → Bool) → tab b (m + n) f ≡ tab b m f ++ tab (b + m) n f
+tab-add b zero n f = ap₂ (λ (x y : ℕ). tab x y f) (sym (add-zero b)) (zero-add n)
+tab-add b (suc m) n f =
+    ap (λ (k : ℕ). tab b k f) (suc-add m n)
+    ∙ ap (λ (l : List Bool). f b ∷ l) (tab-add (suc b) m n f ∙ ap (λ (k : ℕ). tab (suc b) m f ++ tab k n f) (suc-add b m ∙ sym (add-suc b m)))
+
+pub tab-all : (b n : ℕ) (f : ℕ → Bool) (x : Bool) → ((i : ℕ) → b ≤ i → i < b + n → f i ≡ x) → tab b n f ≡ replicate n x
+tab-all b zero f x h = refl
+tab-all b (suc n) f x h =
+    ap₂ (λ (y : Bool) (l : List Bool). y ∷ l) (h b (omega arith) (omega arith)) (tab-all (suc b) n f x (λ i k l. h i (omega arith) (omega arith)))
+
+-- ---- the rows that runs say, run by run
+
+pub apart-rows : (b c e : ℕ) (ns : List ℕ) → b ≤ c → b ≤ e → Apart c e ns → tab b (e - b) (λ i. held i ns) ≡ runRows b e ns
+apart-rows b c e [] h k a = tab-all b (e - b) (λ i. false) false (λ i m n. refl)
+apart-rows b c e (f ∷ []) h k a = absurd a
+apart-rows b c e (f ∷ p ∷ ns) h k a =
+    let whole : e - b ≡ (f - b) + ((p - f) + (e - p)) = omega arith in
+    let first : b + (f - b) ≡ f = omega arith in
+    let past : f + (p - f) ≡ p = omega arith in
+    ap (λ (n : ℕ). tab b n has) whole
+    ∙ tab-add b (f - b) ((p - f) + (e - p)) has
+    ∙ ap₂ (λ (l m : List Bool). l ++ m)
+        (tab-all b (f - b) has false (λ i m n. held-below i f e (f ∷ p ∷ ns) (omega arith) (omega arith, a .1, a .2, a .3)))
+        (ap (λ (n : ℕ). tab n ((p - f) + (e - p)) has) first
+        ∙ tab-add f (p - f) (e - p) has
+        ∙ ap₂ (λ (l m : List Bool). l ++ m)
+            (tab-all f (p - f) has true (λ i m n. held-first i f p ns m (omega arith)))
+            (ap (λ (n : ℕ). tab n (e - p) has) past
+            ∙ tab-ext p (e - p) has (λ i. held i ns) (λ i m. held-past i f p ns m)
+            ∙ apart-rows p (suc p) e ns (omega arith) (omega arith) (a .3)))
+    ∙ sym (append-assoc (replicate (f - b) false) (replicate (p - f) true) (runRows p e ns))
+  where
+    has : ℕ → Bool
+    has i = held i (f ∷ p ∷ ns)
+
+pub in-runs : (e : ℕ) (ns : List ℕ) → Apart 0 e ns → inRuns e ns ≡ runRows 0 e ns
+in-runs e ns a = ap (λ (n : ℕ). tab 0 n (λ i. held i ns)) whole ∙ apart-rows 0 0 e ns (omega arith) (omega arith) a
+  where
+    whole : e ≡ e - 0
+    whole = omega arith
+
+-- ---- how many rows runs hold
+
+count-unset : (n : ℕ) → count (replicate n false) ≡ 0
+count-unset zero = refl
+count-unset (suc n) = count-unset n
+
+count-set : (n : ℕ) → count (replicate n true) ≡ n
+count-set zero = refl
+count-set (suc n) = ap suc (count-set n)
+
+pub rows-sum : (b e : ℕ) (ns : List ℕ) → count (runRows b e ns) ≡ runLengths ns
+rows-sum b e [] = count-unset (e - b)
+rows-sum b e (f ∷ []) = count-unset (e - b)
+rows-sum b e (f ∷ p ∷ ns) =
+    let before : List Bool = replicate (f - b) false in
+    let run : List Bool = replicate (p - f) true in
+    omega
+    (arith, count-append (before ++ run) (runRows p e ns), count-append before run, count-unset (f - b), count-set (p - f), rows-sum p e ns)
+
+pub runs-count : (e : ℕ) (ns : List ℕ) → Apart 0 e ns → count (inRuns e ns) ≡ runLengths ns
+runs-count e ns a = ap count (in-runs e ns a) ∙ rows-sum 0 e ns
+
+-- they are no more than the rows from b to e, where the runs begin at b or later
+few-from : (b c e : ℕ) (ns : List ℕ) → b ≤ c → b ≤ e → Apart c e ns → b + runLengths ns ≤ e
+few-from b c e [] h k a = omega arith
+few-from b c e (f ∷ []) h k a = absurd a
+few-from b c e (f ∷ p ∷ ns) h k a = omega (arith, few-from p (suc p) e ns (omega arith) (omega arith) (a .3))
+
+pub runs-few : (b e : ℕ) (ns : List ℕ) → Apart b e ns → b ≤ e → b + runLengths ns ≤ e
+runs-few b e ns a h = few-from b b e ns (omega arith) h a
