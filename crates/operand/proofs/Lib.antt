@@ -1,4 +1,5 @@
 pub mod Quotient
 pub mod ClimbLaws
+pub mod WeighLaws
 pub mod FlatLaws
 pub mod NumberLaws

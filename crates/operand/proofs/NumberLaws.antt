@@ -1,7 +1,7 @@
 -- An operand whose numbers are its set rows: they ascend where it is accepted, they are its rows, and as many as it counts; what counts as
 -- a list is one, or has runs; and the same of runs. Form by form.
 -- Assumes nothing.
-use mathlib.Core.Path.{_≡_, refl}
+use mathlib.Core.Path.{_≡_, refl, sym}
 use mathlib.Core.Bool.{true, false, false≢true}
 use lib.ListN.{length}
 use Rattle.rows.specs.Lists.{listed, Ascending}
@@ -19,7 +19,7 @@ list-numbers (All n) e d = e
 list-numbers (None n) e d = e
 list-numbers (Words start len claimed) e d = e
 list-numbers (Listed len) e d = e
-list-numbers (Runs len) e d = d
+list-numbers (Runs len) e d = absurd (false≢true (sym d))
 
 pub no-numbers : (f : Form) → countsAsList f ≡ false → hasRowNumbers f ≡ false
 no-numbers (All n) e = e

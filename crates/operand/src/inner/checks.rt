@@ -113,7 +113,7 @@ fn weigh_runs(length: u64, runs: &[u32]) -> Weighed
     let mut sum: u64 = 0;
     let mut least: u64 = 0;
     let mut i: usize = 0;
-    while i + 1 < n {
+    while n - i > 1 {
         let first = runs[i] as u64;
         let past = runs[i + 1] as u64;
         if !run_fits(least, first, past, length) {

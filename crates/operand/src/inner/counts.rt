@@ -44,7 +44,8 @@ pub fn is_empty(operand: Counted) -> bool
 pub fn is_full(operand: Counted) -> bool
     ensures { λ r. ⌜ r ≡ fullBy (operand .form) (operand .count) ⌝ }
 {
-    let length = length_of(operand.form);
+    let form = operand.form;
+    let length = length_of(form);
     if length == 0 {
         return false;
     }

@@ -1,5 +1,5 @@
 -- `operand::inner::chunks::chunk_of` meets its contract: each form's chunk is a part of its rows.
--- By the chunk law of the form that the match tells; a list is ruled out. Assumes nothing.
+-- By the chunk law of the form that the match tells; a list and runs are ruled out. Assumes nothing.
 use mathlib.Core.Path.{_∙_}
 use denote.Ref.{now}
 use Rattle.rows.proofs.PartLaws.{view-chunk}
@@ -26,6 +26,9 @@ chunk-requires c κs = search needs
 enum-told-3 : tie.Need-enum-told-3
 enum-told-3 c = search needs
 
+enum-told-4 : tie.Need-enum-told-4
+enum-told-4 c = search needs
+
 returns : tie.Need-returns
 returns c =
     let s = c .before .before .before .before in
@@ -50,6 +53,11 @@ returns-4 c =
     let s = c .before .before .before in
     absurd (rw (c .enum-told3 .given .1) at (s .pre .0))
 
+returns-5 : tie.Need-returns-5
+returns-5 c =
+    let s = c .before .before .before in
+    absurd (rw (c .enum-told4 .given .1) at (s .pre .0))
+
 pub chunk-of-spec : {M : Type 1} → statement M
 chunk-of-spec =
     tie.close
@@ -60,7 +68,9 @@ chunk-of-spec =
     enum-known-form
     chunk-requires
     enum-told-3
+    enum-told-4
     returns
     returns-2
     returns-3
-    returns-4)
+    returns-4
+    returns-5)
