@@ -1,16 +1,14 @@
 // The choice: document 01's route table in one place, its factors, and the number of a route.
 ghost use mathlib.Core.Path.{_≡_};
 ghost use mathlib.Core.Bool.{cond};
-ghost use mathlib.Core.List.{[]};
 ghost use Prim.Native.Nat.{_*_, _≤_};
 ghost use lib.Dec.{ltb};
-ghost use denote.Ref.{now};
-ghost use Rattle.rules.specs.Operand.{lent, lengthOf, countOf, countsAsList};
-ghost use Rattle.rules.specs.Route.{wayOf, routeOf, numberOf, published};
-use operand::inner::forms::count_of;
+ghost use Rattle.rules.specs.Operand.{lengthOf, countsAsList};
+ghost use Rattle.rules.specs.Route.{wayBy, routeBy, numberOf, published};
+use operand::inner::counts::Counted;
+use operand::inner::counts::is_empty;
+use operand::inner::counts::is_full;
 use operand::inner::forms::counts_as_list;
-use operand::inner::forms::is_empty;
-use operand::inner::forms::is_full;
 use operand::inner::forms::length_of;
 use rows::Way;
 use rules::Factors;
@@ -57,17 +55,18 @@ pub fn number(route: Route) -> u8
 }
 
 // The loop form for a sparse self.
-fn way(factors: Factors, s: Form, srows: &[u32]) -> Way
-    requires { ⌜ countOf (lent s [] (now srows)) ≤ 1048576 ⌝ }
-    ensures { λ w. ⌜ w ≡ wayOf factors (lent s [] (now (srows .entry))) ⌝ }
+fn way(factors: Factors, s: Counted) -> Way
+    requires { ⌜ s .count ≤ 1048576 ⌝ }
+    ensures { λ w. ⌜ w ≡ wayBy factors (s .form) (s .count) ⌝ }
 {
-    if few(factors.sparse, count_of(s, srows), length_of(s)) {
+    let form = s.form;
+    if few(factors.sparse, s.count, length_of(form)) {
         return Way::Loop;
     }
     Way::Network
 }
 
-// Lines 4 and 5: self is a list.
+// Lines 4 and 5: self is a list, or runs.
 fn list_route(r: Form) -> Route
     ensures { λ q. ⌜ q ≡ cond (countsAsList r) Route.EntryAtRank Route.EntryIfSet ⌝ }
 {
@@ -78,40 +77,43 @@ fn list_route(r: Form) -> Route
 }
 
 // Lines 6 to 10: self is words.
-fn words_route(factors: Factors, s: Form, srows: &[u32], r: Form, rrows: &[u32]) -> Route
-    requires { ⌜ (countOf (lent s [] (now srows)) ≤ 1048576) × (countOf (lent r [] (now rrows)) ≤ 1048576) ⌝ }
-    ensures { λ q. ⌜ q ≡ cond (ltb (factors .driven * countOf (lent r [] (now (rrows .entry)))) (lengthOf r)) Route.MaskDriven
-        (cond (countsAsList r) (Route.Gathered (wayOf factors (lent s [] (now (srows .entry))))) (Route.Read (wayOf factors (lent s [] (now (srows .entry)))))) ⌝ }
+fn words_route(factors: Factors, s: Counted, r: Counted) -> Route
+    requires { ⌜ (s .count ≤ 1048576) × (r .count ≤ 1048576) ⌝ }
+    ensures { λ q. ⌜ q ≡ cond (ltb (factors .driven * r .count) (lengthOf (r .form))) Route.MaskDriven
+        (cond (countsAsList (r .form)) (Route.Gathered (wayBy factors (s .form) (s .count))) (Route.Read (wayBy factors (s .form) (s .count)))) ⌝ }
 {
-    if few(factors.driven, count_of(r, rrows), length_of(r)) {
+    let ranks = r.form;
+    if few(factors.driven, r.count, length_of(ranks)) {
         return Route::MaskDriven;
     }
-    let form = way(factors, s, srows);
-    if counts_as_list(r) {
-        return Route::Gathered(form);
+    let deposit = way(factors, s);
+    if counts_as_list(ranks) {
+        return Route::Gathered(deposit);
     }
-    Route::Read(form)
+    Route::Read(deposit)
 }
 
 // The first line of the table that fits.
-pub fn choose_route(factors: Factors, s: Form, srows: &[u32], r: Form, rrows: &[u32]) -> Route
-    requires { ⌜ (countOf (lent s [] (now srows)) ≤ 1048576) × (countOf (lent r [] (now rrows)) ≤ 1048576) ⌝ }
-    ensures { λ q. ⌜ q ≡ routeOf factors (lent s [] (now (srows .entry))) (lent r [] (now (rrows .entry))) ⌝ }
+pub fn choose_route(factors: Factors, s: Counted, r: Counted) -> Route
+    requires { ⌜ (s .count ≤ 1048576) × (r .count ≤ 1048576) ⌝ }
+    ensures { λ q. ⌜ q ≡ routeBy factors (s .form) (s .count) (r .form) (r .count) ⌝ }
 {
-    if is_full(s, srows) {
+    if is_full(s) {
         return Route::RankMask;
     }
-    if is_full(r, rrows) {
+    if is_full(r) {
         return Route::SelfMask;
     }
-    if is_empty(s, srows) {
+    if is_empty(s) {
         return Route::NoRows;
     }
-    if is_empty(r, rrows) {
+    if is_empty(r) {
         return Route::NoRows;
     }
-    if counts_as_list(s) {
-        return list_route(r);
+    let form = s.form;
+    if counts_as_list(form) {
+        let ranks = r.form;
+        return list_route(ranks);
     }
-    words_route(factors, s, srows, r, rrows)
+    words_route(factors, s, r)
 }

@@ -1,7 +1,7 @@
 -- `routes::inner::choose_route` meets its contract: each return is the first line of the table that fits.
 -- By what each test ensures, the lines before it passed. Assumes nothing.
 use mathlib.Core.Path.{sym, _∙_}
-use Rattle.rules.specs.Route.{routeOf}
+use Rattle.rules.specs.Route.{routeBy}
 use Rattle.routes.proofs.RouteLaws.{picked, passed}
 use borrow.Author.Needs.{needs}
 use Rattle.routes.proofs.inner.choose_route.Statement.{statement}
@@ -11,7 +11,7 @@ is-full-requires : tie.Need-is-full-requires
 is-full-requires c κs = search needs
 
 returns : tie.Need-returns
-unfolding routeOf
+unfolding routeBy
 returns c =
     let one = c in
     sym (picked _ _ (sym (one .before .is-full .ensures) ∙ one .if1 .taken))
@@ -20,7 +20,7 @@ is-full-requires-2 : tie.Need-is-full-requires-2
 is-full-requires-2 c κs = search needs
 
 returns-2 : tie.Need-returns-2
-unfolding routeOf
+unfolding routeBy
 returns-2 c =
     let two = c in
     let one = two .before .before in
@@ -32,7 +32,7 @@ is-empty-requires : tie.Need-is-empty-requires
 is-empty-requires c κs = search needs
 
 returns-3 : tie.Need-returns-3
-unfolding routeOf
+unfolding routeBy
 returns-3 c =
     let three = c in
     let two = three .before .before in
@@ -46,7 +46,7 @@ is-empty-requires-2 : tie.Need-is-empty-requires-2
 is-empty-requires-2 c κs = search needs
 
 returns-4 : tie.Need-returns-4
-unfolding routeOf
+unfolding routeBy
 returns-4 c =
     let four = c in
     let three = four .before .before in
@@ -65,7 +65,7 @@ list-route-requires : tie.Need-list-route-requires
 list-route-requires c κs = search needs
 
 returns-5 : tie.Need-returns-5
-unfolding routeOf
+unfolding routeBy
 returns-5 c =
     let five = c .before in
     let four = five .before .before in
@@ -84,7 +84,7 @@ words-route-requires : tie.Need-words-route-requires
 words-route-requires c κs = search needs
 
 returns-6 : tie.Need-returns-6
-unfolding routeOf
+unfolding routeBy
 returns-6 c =
     let five = c .before in
     let four = five .before .before in
