@@ -8,6 +8,7 @@ use convert::convert_to_words;
 use judge::judge_list;
 use judge::judge_words;
 use operand::inner::answers::refused;
+use operand::inner::counts::Counted;
 use rows::Verdict;
 use rules::Answer;
 use rules::Form;
@@ -22,9 +23,14 @@ pub fn to_words(form: Form, words: &[u64], rows: &[u32], out: &mut [u64]) -> Ans
     ensures { λ r. ⌜ (r ≡ toWords (lent form (now (words .entry)) (now (rows .entry))) (now (out .entry)))
         × (now (out .exit) ≡ toWordsOut (lent form (now (words .entry)) (now (rows .entry))) (now (out .entry))) ⌝ }
 {
-    match judge_words(form, words, rows, out.len() as u64) {
+    let judged = judge_words(form, words, rows, out.len() as u64);
+    let verdict = judged.verdict;
+    match verdict {
         Verdict::Refused(refusal) => refused(refusal),
-        Verdict::Fine => convert_to_words(form, words, rows, out),
+        Verdict::Fine => {
+            let count = judged.count;
+            convert_to_words(Counted { form, count }, words, rows, out)
+        }
     }
 }
 
@@ -33,8 +39,13 @@ pub fn to_list(form: Form, words: &[u64], rows: &[u32], out: &mut [u32]) -> Answ
     ensures { λ r. ⌜ (r ≡ toList (lent form (now (words .entry)) (now (rows .entry))) (now (out .entry)))
         × (now (out .exit) ≡ toListOut (lent form (now (words .entry)) (now (rows .entry))) (now (out .entry))) ⌝ }
 {
-    match judge_list(form, words, rows, out.len() as u64) {
+    let judged = judge_list(form, words, rows, out.len() as u64);
+    let verdict = judged.verdict;
+    match verdict {
         Verdict::Refused(refusal) => refused(refusal),
-        Verdict::Fine => convert_to_list(form, words, rows, out),
+        Verdict::Fine => {
+            let count = judged.count;
+            convert_to_list(Counted { form, count }, words, rows, out)
+        }
     }
 }

@@ -1,6 +1,6 @@
 -- `mask::to_list` meets its contract: a refusal is answered and nothing written; else the rows are written and answered.
 -- By the verdict of its table. Assumes nothing.
-use mathlib.Core.Path.{_≡_, sym, _∙_}
+use mathlib.Core.Path.{_≡_, sym, ap, _∙_}
 use mathlib.Core.List.{List, _++_}
 use Prim.Native.Nat.{ℕ}
 use lib.ListN.{length, drop}
@@ -14,6 +14,8 @@ use Rattle.rules.specs.Answer.{noRoute}
 use Rattle.rules.specs.Convert.{toListVerdict, toList, toListOut}
 use Rattle.rules.proofs.AnswerLaws.{by-fine, by-refusal}
 use Rattle.rules.proofs.Conversions.{convert-fine}
+use Rattle.operand.specs.declared.inner.counts.Checked.{Checked}
+use Rattle.mask.proofs.JudgeLaws.{judged-count}
 use Rattle.mask.proofs.to_list.Statement.{statement}
 use Rattle.mask.proofs.to_list.Tie as tie
 
@@ -25,13 +27,13 @@ entry c = c .before .before .before
 abbrev start : tie.After-judge-list → tie.Start
 start c = entry (c .before)
 
-abbrev barred : tie.After-refusal → tie.After-judge-list
+abbrev barred : tie.After-verdict → tie.After-judge-list
 barred c = c .before .before
 
 abbrev passed : tie.After-enum-told → tie.After-judge-list
 passed c = c .before .before
 
-abbrev told : tie.After-refused → tie.After-refusal
+abbrev told : tie.After-refused → tie.After-verdict
 told c = c .before .before
 
 abbrev asked : tie.After-convert-to-list → tie.After-enum-told
@@ -57,10 +59,10 @@ module _ (c : tie.Start) where
   verdict = toListVerdict operand out
 
 fine : (c : tie.After-enum-told) → verdict (start (passed c)) ≡ Fine
-fine c = sym (passed c .judge-list .ensures) ∙ c .enum-told .given .1
+fine c = sym (ap (λ (d : Checked). d .verdict) (passed c .judge-list .ensures)) ∙ c .enum-told .given .1
 
-refuses : (c : tie.After-refusal) → verdict (start (barred c)) ≡ Refused (c .refusal .given .0 .0)
-refuses c = sym (barred c .judge-list .ensures) ∙ c .refusal .given .1
+refuses : (c : tie.After-verdict) → verdict (start (barred c)) ≡ Refused (c .verdict .given .0 .0)
+refuses c = sym (ap (λ (d : Checked). d .verdict) (barred c .judge-list .ensures)) ∙ c .verdict .given .1
 
 left : (c : tie.After-convert-to-list) → c .convert-to-list .last .1 .1 .1 .0 ≡ to (start (passed (asked c)))
 left c = c .convert-to-list .ensures .1
@@ -70,8 +72,8 @@ left c = c .convert-to-list .ensures .1
 judge-list-requires : tie.Need-judge-list-requires
 judge-list-requires c κs = search needs
 
-enum-known-refusal : tie.Need-enum-known-refusal
-enum-known-refusal c = search needs
+enum-known-verdict : tie.Need-enum-known-verdict
+enum-known-verdict c = search needs
 
 refused-requires : tie.Need-refused-requires
 refused-requires c κs = search needs
@@ -82,7 +84,11 @@ enum-told c = search needs
 convert-to-list-requires : tie.Need-convert-to-list-requires
 convert-to-list-requires c κs =
     let s = start (passed (c .before)) in
-    convert-fine (operand s) (countOf (operand s)) (length (out s)) .0 (fine (c .before))
+    let room = length (out s) in
+    let needed = countOf (operand s) in
+    let well = convert-fine (operand s) needed room .0 (fine (c .before)) in
+    let own = ap (λ (d : Checked). d .count) (passed (c .before) .judge-list .ensures) ∙ judged-count (operand s) room needed (fine (c .before)) in
+    (well .0, own, well .1)
 
 returns : tie.Need-returns
 unfolding toList toListOut
@@ -107,7 +113,7 @@ to-list-spec =
     tie.close
     (tie.spec
     judge-list-requires
-    enum-known-refusal
+    enum-known-verdict
     refused-requires
     enum-told
     convert-to-list-requires

@@ -1,6 +1,6 @@
 -- `mask::to_words` meets its contract: a refusal is answered and nothing written; else the rows are written and answered.
 -- By the verdict of its table. Assumes nothing.
-use mathlib.Core.Path.{_≡_, sym, _∙_}
+use mathlib.Core.Path.{_≡_, sym, ap, _∙_}
 use mathlib.Core.List.{List}
 use Prim.Native.Nat.{ℕ}
 use lib.ListN.{length}
@@ -14,6 +14,8 @@ use Rattle.rules.specs.Answer.{noRoute}
 use Rattle.rules.specs.Convert.{toWordsVerdict, toWords, toWordsOut}
 use Rattle.rules.proofs.AnswerLaws.{by-fine, by-refusal}
 use Rattle.rules.proofs.Conversions.{convert-fine}
+use Rattle.operand.specs.declared.inner.counts.Checked.{Checked}
+use Rattle.mask.proofs.JudgeLaws.{judged-count}
 use Rattle.mask.proofs.to_words.Statement.{statement}
 use Rattle.mask.proofs.to_words.Tie as tie
 
@@ -25,13 +27,13 @@ entry c = c .before .before .before
 abbrev start : tie.After-judge-words → tie.Start
 start c = entry (c .before)
 
-abbrev barred : tie.After-refusal → tie.After-judge-words
+abbrev barred : tie.After-verdict → tie.After-judge-words
 barred c = c .before .before
 
 abbrev passed : tie.After-enum-told → tie.After-judge-words
 passed c = c .before .before
 
-abbrev told : tie.After-refused → tie.After-refusal
+abbrev told : tie.After-refused → tie.After-verdict
 told c = c .before .before
 
 abbrev asked : tie.After-convert-to-words → tie.After-enum-told
@@ -57,10 +59,10 @@ module _ (c : tie.Start) where
   verdict = toWordsVerdict operand out
 
 fine : (c : tie.After-enum-told) → verdict (start (passed c)) ≡ Fine
-fine c = sym (passed c .judge-words .ensures) ∙ c .enum-told .given .1
+fine c = sym (ap (λ (d : Checked). d .verdict) (passed c .judge-words .ensures)) ∙ c .enum-told .given .1
 
-refuses : (c : tie.After-refusal) → verdict (start (barred c)) ≡ Refused (c .refusal .given .0 .0)
-refuses c = sym (barred c .judge-words .ensures) ∙ c .refusal .given .1
+refuses : (c : tie.After-verdict) → verdict (start (barred c)) ≡ Refused (c .verdict .given .0 .0)
+refuses c = sym (ap (λ (d : Checked). d .verdict) (barred c .judge-words .ensures)) ∙ c .verdict .given .1
 
 left : (c : tie.After-convert-to-words) → c .convert-to-words .last .1 .1 .1 .0 ≡ to (start (passed (asked c)))
 left c = c .convert-to-words .ensures .1
@@ -70,8 +72,8 @@ left c = c .convert-to-words .ensures .1
 judge-words-requires : tie.Need-judge-words-requires
 judge-words-requires c κs = search needs
 
-enum-known-refusal : tie.Need-enum-known-refusal
-enum-known-refusal c = search needs
+enum-known-verdict : tie.Need-enum-known-verdict
+enum-known-verdict c = search needs
 
 refused-requires : tie.Need-refused-requires
 refused-requires c κs = search needs
@@ -82,7 +84,11 @@ enum-told c = search needs
 convert-to-words-requires : tie.Need-convert-to-words-requires
 convert-to-words-requires c κs =
     let s = start (passed (c .before)) in
-    convert-fine (operand s) (wordsFor (lengthOf (operand s .form))) (length (out s)) .0 (fine (c .before))
+    let room = length (out s) in
+    let needed = wordsFor (lengthOf (operand s .form)) in
+    let well = convert-fine (operand s) needed room .0 (fine (c .before)) in
+    let own = ap (λ (d : Checked). d .count) (passed (c .before) .judge-words .ensures) ∙ judged-count (operand s) room needed (fine (c .before)) in
+    (well .0, own, well .1)
 
 returns : tie.Need-returns
 unfolding toWords toWordsOut
@@ -107,7 +113,7 @@ to-words-spec =
     tie.close
     (tie.spec
     judge-words-requires
-    enum-known-refusal
+    enum-known-verdict
     refused-requires
     enum-told
     convert-to-words-requires
