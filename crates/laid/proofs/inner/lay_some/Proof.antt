@@ -1,4 +1,4 @@
--- `laid::inner::clear_some` meets its contract: no bits laid change nothing, and the low bits of the word 0 are zeros.
+-- `laid::inner::lay_some` meets its contract: no bits laid change nothing, and the low bits of a word of one bit are that bit.
 -- By the contract of `put`. Assumes nothing.
 use Prim.Native.Nat.{_^_}
 use mathlib.Core.Path.{_≡_, sym, ap, _∙_}
@@ -7,10 +7,9 @@ use mathlib.Core.List.{List}
 use denote.Ref.{now}
 use borrow.Author.Needs.{needs}
 use Rattle.rows.specs.Laid.{laid}
-use Rattle.rows.proofs.FitLaws.{zero-word}
 use Rattle.rows.proofs.LaidLaws.{below-all, laid-nil}
-use Rattle.laid.proofs.inner.clear_some.Statement.{statement}
-use Rattle.laid.proofs.inner.clear_some.Tie as tie
+use Rattle.laid.proofs.inner.lay_some.Statement.{statement}
+use Rattle.laid.proofs.inner.lay_some.Tie as tie
 
 returns : tie.Need-returns
 returns c =
@@ -18,6 +17,9 @@ returns c =
     let out = now (a .out) in
     let none : a .n ≡ 0 = c .if1 .taken in
     rw none (sym (laid-nil 64 (a .at) out (below-all (2 ^ 64) out (λ i. c .before .slice-known .given i .fits))))
+
+same-word-requires : tie.Need-same-word-requires
+same-word-requires c κs = search needs
 
 put-requires : tie.Need-put-requires
 put-requires c κs = search needs
@@ -27,8 +29,11 @@ same-length c = search needs
 
 returns-2 : tie.Need-returns-2
 returns-2 c =
-    let a = c .before .before .before .before .before .before .args in
-    c .before .before .put .ensures ∙ ap (λ (z : List Bool). laid (a .at) z (now (a .out))) (zero-word (a .n))
+    let put = c .before .before in
+    let word = put .before in
+    let start = word .before .before .before .before in
+    let a = start .args in
+    put .put .ensures ∙ ap (λ (z : List Bool). laid (a .at) z (now (a .out))) (word .same-word .ensures (a .n) (start .pre .0))
 
-pub clear-some-spec : {M : Type 1} → statement M
-clear-some-spec = tie.close (tie.spec returns put-requires same-length returns-2)
+pub lay-some-spec : {M : Type 1} → statement M
+lay-some-spec = tie.close (tie.spec returns same-word-requires put-requires same-length returns-2)
