@@ -5,14 +5,14 @@ use Prim.Native.Nat.{ℕ, zero, suc, _+_, _-_, _≤_, _<_}
 use native.Mathlib.Nat.{add-zero, zero-add, suc-add, add-suc}
 use mathlib.Core.Path.{_≡_, refl, sym, ap, ap₂, _∙_}
 use mathlib.Core.Bool.{Bool, true, false, and-false}
-use mathlib.Core.List.{List, [], _∷_, _++_, append-assoc}
+use mathlib.Core.List.{List, [], _∷_, _++_, append-nil, append-assoc}
 use native.Mathlib.Omega.{arith}
 use borrow.Author.Tests.{lt-ltb, le-ltb, le-leb, lt-leb}
 use lib.Dec.{leb}
 use lib.ListN.{replicate}
 use Rattle.rows.specs.Rows.{count}
 use Rattle.rows.specs.Lists.{tab}
-use Rattle.rows.specs.Runs.{held, inRuns, runLengths, Apart}
+use Rattle.rows.specs.Runs.{held, inRuns, runLengths, Apart, turns, runsOf}
 use Rattle.rows.proofs.RowLaws.{count-append}
 use Rattle.rows.proofs.ListLaws.{tab-ext}
 
@@ -112,3 +112,60 @@ few-from b c e (f ∷ p ∷ ns) h k a = omega (arith, few-from p (suc p) e ns (o
 
 pub runs-few : (b e : ℕ) (ns : List ℕ) → Apart b e ns → b ≤ e → b + runLengths ns ≤ e
 runs-few b e ns a h = few-from b b e ns (omega arith) h a
+
+-- ---- the runs of what runs say
+
+-- unset rows turn nothing outside a run, and set rows nothing in one
+turns-unset : (b n : ℕ) (s : List Bool) → turns false b (replicate n false ++ s) ≡ turns false (b + n) s
+turns-unset b zero s = ap (λ (k : ℕ). turns false k s) (sym (add-zero b))
+turns-unset b (suc n) s = turns-unset (suc b) n s ∙ ap (λ (k : ℕ). turns false k s) (suc-add b n ∙ sym (add-suc b n))
+
+turns-set : (b n : ℕ) (s : List Bool) → turns true b (replicate n true ++ s) ≡ turns true (b + n) s
+turns-set b zero s = ap (λ (k : ℕ). turns true k s) (sym (add-zero b))
+turns-set b (suc n) s = turns-set (suc b) n s ∙ ap (λ (k : ℕ). turns true k s) (suc-add b n ∙ sym (add-suc b n))
+
+-- a run that is not empty is its first row, and what turns after it
+turns-run : (b n : ℕ) (s : List Bool) → 0 < n → turns false b (replicate n true ++ s) ≡ b ∷ turns true (b + n) s
+turns-run b zero s h = absurd (omega arith)
+turns-run b (suc n) s h = ap (λ (l : List ℕ). b ∷ l) (turns-set (suc b) n s ∙ ap (λ (k : ℕ). turns true k s) (suc-add b n ∙ sym (add-suc b n)))
+
+-- a run ends at the row past its last, where no other begins at once
+ends-none : (p n : ℕ) → turns true p (replicate n false) ≡ p ∷ turns false (suc p) (replicate (n - 1) false)
+ends-none p zero = refl
+ends-none p (suc n) = let one : n ≡ suc n - 1 = omega arith in ap (λ (k : ℕ). p ∷ turns false (suc p) (replicate k false)) one
+
+ends-first : (p n : ℕ) (s : List Bool) → 0 < n → turns true p (replicate n false ++ s) ≡ p ∷ turns false (suc p) (replicate (n - 1) false ++ s)
+ends-first p zero s h = absurd (omega arith)
+ends-first p (suc n) s h = let one : n ≡ suc n - 1 = omega arith in ap (λ (k : ℕ). p ∷ turns false (suc p) (replicate k false ++ s)) one
+
+run-ends : (p e : ℕ) (ns : List ℕ) → Apart (suc p) e ns → turns true p (runRows p e ns) ≡ p ∷ turns false (suc p) (runRows (suc p) e ns)
+run-ends p e [] a =
+    let one : e - p - 1 ≡ e - suc p = omega arith in
+    ends-none p (e - p) ∙ ap (λ (k : ℕ). p ∷ turns false (suc p) (replicate k false)) one
+run-ends p e (f ∷ []) a = absurd a
+run-ends p e (f ∷ q ∷ ns) a =
+    let one : f - p - 1 ≡ f - suc p = omega arith in
+    let run : List Bool = replicate (q - f) true in
+    let rest : List Bool = runRows q e ns in
+    ap (turns true p) (append-assoc (replicate (f - p) false) run rest)
+    ∙ ends-first p (f - p) (run ++ rest) (omega arith)
+    ∙ ap (λ (k : ℕ). p ∷ turns false (suc p) (replicate k false ++ (run ++ rest))) one
+    ∙ ap (λ (l : List Bool). p ∷ turns false (suc p) l) (sym (append-assoc (replicate (f - suc p) false) run rest))
+
+pub apart-turns : (b c e : ℕ) (ns : List ℕ) → b ≤ c → Apart c e ns → turns false b (runRows b e ns) ≡ ns
+apart-turns b c e [] h a = ap (turns false b) (sym (append-nil (replicate (e - b) false))) ∙ turns-unset b (e - b) []
+apart-turns b c e (f ∷ []) h a = absurd a
+apart-turns b c e (f ∷ p ∷ ns) h a =
+    let first : b + (f - b) ≡ f = omega arith in
+    let past : f + (p - f) ≡ p = omega arith in
+    let run : List Bool = replicate (p - f) true in
+    let rest : List Bool = runRows p e ns in
+    ap (turns false b) (append-assoc (replicate (f - b) false) run rest)
+    ∙ turns-unset b (f - b) (run ++ rest)
+    ∙ ap (λ (k : ℕ). turns false k (run ++ rest)) first
+    ∙ turns-run f (p - f) rest (omega arith)
+    ∙ ap (λ (k : ℕ). f ∷ turns true k rest) past
+    ∙ ap (λ (l : List ℕ). f ∷ l) (run-ends p e ns (a .3) ∙ ap (λ (l : List ℕ). p ∷ l) (apart-turns (suc p) (suc p) e ns (omega arith) (a .3)))
+
+pub runs-back : (e : ℕ) (ns : List ℕ) → Apart 0 e ns → runsOf (inRuns e ns) ≡ ns
+runs-back e ns a = ap runsOf (in-runs e ns a) ∙ apart-turns 0 0 e ns (omega arith) a
