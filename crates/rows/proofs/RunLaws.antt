@@ -9,7 +9,7 @@ use mathlib.Core.List.{List, [], _∷_, _++_, append-nil, append-assoc}
 use native.Mathlib.Omega.{arith}
 use borrow.Author.Tests.{lt-ltb, le-ltb, le-leb, lt-leb}
 use lib.Dec.{leb}
-use lib.ListN.{replicate}
+use lib.ListN.{length, replicate}
 use Rattle.rows.specs.Rows.{count}
 use Rattle.rows.specs.Lists.{tab}
 use Rattle.rows.specs.Runs.{held, inRuns, runLengths, Apart, turns, runsOf}
@@ -169,3 +169,57 @@ apart-turns b c e (f ∷ p ∷ ns) h a =
 
 pub runs-back : (e : ℕ) (ns : List ℕ) → Apart 0 e ns → runsOf (inRuns e ns) ≡ ns
 runs-back e ns a = ap runsOf (in-runs e ns a) ∙ apart-turns 0 0 e ns (omega arith) a
+
+-- ---- the runs of a mask: they are apart, and say its rows
+
+-- outside a run, and in one that began at f
+mutual
+  outside-apart : (b c e : ℕ) (s : List Bool) → c ≤ b → b + length s ≡ e → Apart c e (turns false b s)
+  outside-apart b c e [] h q = tt
+  outside-apart b c e (false ∷ s) h q = outside-apart (suc b) c e s (omega arith) (omega arith)
+  outside-apart b c e (true ∷ s) h q = inside-apart b (suc b) c e s h (omega arith) (omega arith)
+
+  inside-apart : (f b c e : ℕ) (s : List Bool) → c ≤ f → f < b → b + length s ≡ e → Apart c e (f ∷ turns true b s)
+  inside-apart f b c e [] h k q = (h, k, omega arith, tt)
+  inside-apart f b c e (true ∷ s) h k q = inside-apart f (suc b) c e s h (omega arith) (omega arith)
+  inside-apart f b c e (false ∷ s) h k q = (h, k, omega arith, outside-apart (suc b) (suc b) e s (omega arith) (omega arith))
+
+pub runs-apart : (s : List Bool) → Apart 0 (length s) (runsOf s)
+runs-apart s = outside-apart 0 0 (length s) s (omega arith) (zero-add (length s))
+
+-- one row more of a kind
+one-more : (a b : ℕ) (x : Bool) (s : List Bool) → a ≤ b → replicate (suc b - a) x ++ s ≡ replicate (b - a) x ++ x ∷ s
+one-more a b x s h = let e : suc b - a ≡ suc (b - a) = omega arith in ap (λ (k : ℕ). replicate k x ++ s) e ∙ go (b - a)
+  where
+    go : (n : ℕ) → replicate (suc n) x ++ s ≡ replicate n x ++ x ∷ s
+    go zero = refl
+    go (suc n) = ap (λ (l : List Bool). x ∷ l) (go n)
+
+-- the rows from c on, of which those to b are unset, or those to f unset and those to b set
+mutual
+  outside-rows : (b c e : ℕ) (s : List Bool) → c ≤ b → b + length s ≡ e → runRows c e (turns false b s) ≡ replicate (b - c) false ++ s
+  outside-rows b c e [] h q =
+      let end : e - c ≡ b - c = omega arith in
+      ap (λ (k : ℕ). replicate k false) end ∙ sym (append-nil (replicate (b - c) false))
+  outside-rows b c e (false ∷ s) h q = outside-rows (suc b) c e s (omega arith) (omega arith) ∙ one-more c b false s h
+  outside-rows b c e (true ∷ s) h q =
+      let one : suc b - b ≡ 1 = omega arith in
+      inside-rows b (suc b) c e s h (omega arith) (omega arith) ∙ ap (λ (k : ℕ). replicate (b - c) false ++ (replicate k true ++ s)) one
+
+  inside-rows : (f b c e : ℕ) (s : List Bool) → c ≤ f → f < b → b + length s ≡ e
+      → runRows c e (f ∷ turns true b s) ≡ replicate (f - c) false ++ (replicate (b - f) true ++ s)
+  inside-rows f b c e [] h k q =
+      let end : e - b ≡ 0 = omega arith in
+      append-assoc (replicate (f - c) false) (replicate (b - f) true) (replicate (e - b) false)
+      ∙ ap (λ (n : ℕ). replicate (f - c) false ++ (replicate (b - f) true ++ replicate n false)) end
+  inside-rows f b c e (true ∷ s) h k q =
+      inside-rows f (suc b) c e s h (omega arith) (omega arith)
+      ∙ ap (λ (l : List Bool). replicate (f - c) false ++ l) (one-more f b true s (omega arith))
+  inside-rows f b c e (false ∷ s) h k q =
+      let one : suc b - b ≡ 1 = omega arith in
+      append-assoc (replicate (f - c) false) (replicate (b - f) true) (runRows b e (turns false (suc b) s))
+      ∙ ap (λ (l : List Bool). replicate (f - c) false ++ (replicate (b - f) true ++ l))
+          (outside-rows (suc b) b e s (omega arith) (omega arith) ∙ ap (λ (n : ℕ). replicate n false ++ s) one)
+
+pub rows-back : (s : List Bool) → inRuns (length s) (runsOf s) ≡ s
+rows-back s = in-runs (length s) (runsOf s) (runs-apart s) ∙ outside-rows 0 0 (length s) s (omega arith) (zero-add (length s))
