@@ -1,7 +1,7 @@
 -- Runs of rows against masks: the rows from one run to the next, their count, the runs of what runs say and back, and the set rows.
 -- By recursion over the runs, and over the rows.
 -- Assumes nothing.
-use Prim.Native.Nat.{ℕ, zero, suc, _+_, _-_, _≤_, _<_}
+use Prim.Native.Nat.{ℕ, zero, suc, _+_, _-_, _*_, _/_, _≤_, _<_}
 use native.Mathlib.Nat.{add-zero, zero-add, suc-add, add-suc}
 use mathlib.Core.Path.{_≡_, refl, sym, ap, ap₂, _∙_}
 use mathlib.Core.Bool.{Bool, true, false, and-false}
@@ -12,7 +12,7 @@ use lib.Dec.{leb}
 use lib.ListN.{length, replicate}
 use Rattle.rows.specs.Rows.{count}
 use Rattle.rows.specs.Lists.{tab}
-use Rattle.rows.specs.Runs.{held, inRuns, runLengths, Apart, turns, runsOf}
+use Rattle.rows.specs.Runs.{held, inRuns, runLengths, Apart, turns, runsOf, runsIn}
 use Rattle.rows.proofs.RowLaws.{count-append}
 use Rattle.rows.proofs.ListLaws.{tab-ext}
 
@@ -223,3 +223,13 @@ mutual
 
 pub rows-back : (s : List Bool) → inRuns (length s) (runsOf s) ≡ s
 rows-back s = in-runs (length s) (runsOf s) (runs-apart s) ∙ outside-rows 0 0 (length s) s (omega arith) (zero-add (length s))
+
+-- ---- they are numbers in pairs
+
+pub apart-even : (b e : ℕ) (ns : List ℕ) → Apart b e ns → length ns ≡ length ns / 2 * 2
+apart-even b e [] a = refl
+apart-even b e (f ∷ []) a = absurd a
+apart-even b e (f ∷ p ∷ ns) a = omega (arith, apart-even (suc p) e ns (a .3))
+
+pub runs-even : (s : List Bool) → length (runsOf s) ≡ runsIn s * 2
+runs-even s = apart-even 0 (length s) (runsOf s) (runs-apart s)
