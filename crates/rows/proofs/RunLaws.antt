@@ -11,7 +11,7 @@ use borrow.Author.Tests.{lt-ltb, le-ltb, le-leb, lt-leb}
 use lib.Dec.{leb}
 use lib.ListN.{length, replicate}
 use Rattle.rows.specs.Rows.{count}
-use Rattle.rows.specs.Lists.{tab}
+use Rattle.rows.specs.Lists.{tab, setRows}
 use Rattle.rows.specs.Runs.{held, inRuns, runLengths, Apart, turns, runsOf, runsIn}
 use Rattle.rows.proofs.RowLaws.{count-append}
 use Rattle.rows.proofs.ListLaws.{tab-ext}
@@ -233,3 +233,39 @@ apart-even b e (f ∷ p ∷ ns) a = omega (arith, apart-even (suc p) e ns (a .3)
 
 pub runs-even : (s : List Bool) → length (runsOf s) ≡ runsIn s * 2
 runs-even s = apart-even 0 (length s) (runsOf s) (runs-apart s)
+
+-- ---- the set rows of runs
+
+-- the n numbers from b on
+abbrev pub rowsFrom : ℕ → ℕ → List ℕ
+rowsFrom b zero = []
+rowsFrom b (suc n) = b ∷ rowsFrom (suc b) n
+
+pub rows-from-length : (b n : ℕ) → length (rowsFrom b n) ≡ n
+rows-from-length b zero = refl
+rows-from-length b (suc n) = ap suc (rows-from-length (suc b) n)
+
+rows-unset : (b n : ℕ) (s : List Bool) → setRows b (replicate n false ++ s) ≡ setRows (b + n) s
+rows-unset b zero s = ap (λ (k : ℕ). setRows k s) (sym (add-zero b))
+rows-unset b (suc n) s = rows-unset (suc b) n s ∙ ap (λ (k : ℕ). setRows k s) (suc-add b n ∙ sym (add-suc b n))
+
+rows-set : (b n : ℕ) (s : List Bool) → setRows b (replicate n true ++ s) ≡ rowsFrom b n ++ setRows (b + n) s
+rows-set b zero s = ap (λ (k : ℕ). setRows k s) (sym (add-zero b))
+rows-set b (suc n) s =
+    ap (λ (l : List ℕ). b ∷ l) (rows-set (suc b) n s ∙ ap (λ (k : ℕ). rowsFrom (suc b) n ++ setRows k s) (suc-add b n ∙ sym (add-suc b n)))
+
+pub runs-set-rows : (b e : ℕ) (f p : ℕ) (ns : List ℕ) → b ≤ f → f < p
+    → setRows b (runRows b e (f ∷ p ∷ ns)) ≡ rowsFrom f (p - f) ++ setRows p (runRows p e ns)
+runs-set-rows b e f p ns h k =
+    let first : b + (f - b) ≡ f = omega arith in
+    let past : f + (p - f) ≡ p = omega arith in
+    let run : List Bool = replicate (p - f) true in
+    let rest : List Bool = runRows p e ns in
+    ap (setRows b) (append-assoc (replicate (f - b) false) run rest)
+    ∙ rows-unset b (f - b) (run ++ rest)
+    ∙ ap (λ (n : ℕ). setRows n (run ++ rest)) first
+    ∙ rows-set f (p - f) rest
+    ∙ ap (λ (n : ℕ). rowsFrom f (p - f) ++ setRows n rest) past
+
+pub no-runs-set-rows : (b e : ℕ) → setRows b (runRows b e []) ≡ []
+no-runs-set-rows b e = ap (setRows b) (sym (append-nil (replicate (e - b) false))) ∙ rows-unset b (e - b) []
