@@ -11,6 +11,16 @@ use Rattle.rows.proofs.LaidLaws.{below-all, laid-nil}
 use Rattle.laid.proofs.inner.lay_some.Statement.{statement}
 use Rattle.laid.proofs.inner.lay_some.Tie as tie
 
+-- ---- the places, each from the one after it
+
+abbrev start : tie.After-put-arg → tie.Start
+start c = c .before .before .before
+
+abbrev asked : tie.After-put → tie.After-put-arg
+asked c = c .before .before
+
+-- ---- the answers
+
 returns : tie.Need-returns
 returns c =
     let a = c .before .before .args in
@@ -30,10 +40,9 @@ same-length c = search needs
 returns-2 : tie.Need-returns-2
 returns-2 c =
     let put = c .before .before in
-    let word = put .before in
-    let start = word .before .before .before .before in
-    let a = start .args in
-    put .put .ensures ∙ ap (λ (z : List Bool). laid (a .at) z (now (a .out))) (word .same-word .ensures (a .n) (start .pre .0))
+    let s = start (asked put) in
+    let a = s .args in
+    put .put .ensures ∙ ap (λ (z : List Bool). laid (a .at) z (now (a .out))) (put .before .same-word .ensures (a .n) (s .pre .0))
 
 pub lay-some-spec : {M : Type 1} → statement M
 lay-some-spec = tie.close (tie.spec returns same-word-requires put-requires same-length returns-2)
