@@ -1,8 +1,8 @@
 -- `laid::inner::same_word` meets its contract: the bits of 0 are zeros, and those of the largest word ones.
 -- By the test on the bit, and the law of a word of one bit. Assumes nothing.
-use Prim.Native.Nat.{ℕ, _-_, _^_}
+use Prim.Native.Nat.{_-_, _^_}
 use mathlib.Core.Path.{sym, ap, _∙_}
-use mathlib.Core.Bool.{Bool, true, false}
+use mathlib.Core.Bool.{true}
 use lib.ListN.{replicate}
 use Rattle.rows.proofs.FitLaws.{zero-word}
 use Rattle.laid.proofs.LayLaws.{ones-bits}

@@ -1,6 +1,6 @@
 -- `fills::inner::lay::lay_run` meets its contract: zeros, and behind them ones.
 -- By the law of bits laid one after the other. Assumes nothing.
-use Prim.Native.Nat.{ℕ, _+_, _-_}
+use Prim.Native.Nat.{_+_, _-_}
 use mathlib.Core.Path.{ap, _∙_}
 use mathlib.Core.Bool.{true, false}
 use native.Mathlib.Omega.{arith}
