@@ -1,2 +1,3 @@
 pub mod LayLaws
+pub mod SameLaws
 pub mod StoreLaws

@@ -3,7 +3,7 @@
 ghost use mathlib.Core.Path.{_≡_};
 ghost use mathlib.Core.Bool.{true, false};
 ghost use mathlib.Core.List.{[], _∷_};
-ghost use Prim.Native.Nat.{_+_, _-_, _*_, _^_, _≤_, _<_};
+ghost use Prim.Native.Nat.{ℕ, _+_, _-_, _*_, _^_, _≤_, _<_};
 ghost use lib.ListN.{length, take, replicate};
 ghost use denote.Ref.{now};
 ghost use Rattle.rows.specs.Rows.{splice};
@@ -29,15 +29,25 @@ pub fn put(out: &mut [u64], at: u64, n: u64, bits: u64)
     }
 }
 
-// Zeros over out, none or up to 64 of them, from bit at on.
-fn clear_some(out: &mut [u64], at: u64, n: u64)
+// A word of one bit: its low bits, however many.
+fn same_word(set: bool) -> u64
+    ensures { λ r. ⌜ ((n : ℕ) → n ≤ 64 → bitsOf n r ≡ replicate n set) ⌝ }
+{
+    if set {
+        return 0xffff_ffff_ffff_ffffu64;
+    }
+    0
+}
+
+// The same bit over out, never or up to 64 times, from bit at on.
+fn lay_some(out: &mut [u64], at: u64, n: u64, set: bool)
     requires { ⌜ (n ≤ 64) × (at + n ≤ length (now out) * 64) ⌝ }
-    ensures { λ _. ⌜ now (out .exit) ≡ laid at (replicate n false) (now (out .entry)) ⌝ }
+    ensures { λ _. ⌜ now (out .exit) ≡ laid at (replicate n set) (now (out .entry)) ⌝ }
 {
     if n == 0 {
         return;
     }
-    put(out, at, n, 0);
+    put(out, at, n, same_word(set));
 }
 
 // The words from first to end are 0: a loop of one store, which is made a fill of memory.
@@ -52,21 +62,61 @@ fn clear_words(out: &mut [u64], first: usize, end: usize)
     }
 }
 
-// Zeros over out, n of them, from bit at on: in one word; or to the end of the first, then whole words, then what is left.
-pub fn clear(out: &mut [u64], at: u64, n: u64)
+// The same with every bit set. What is stored is written out in each of the two, for only then it is made a fill of memory.
+fn fill_words(out: &mut [u64], first: usize, end: usize)
+    requires { ⌜ (first ≤ end) × (end ≤ length (now out)) × Below (2 ^ 64) (now out) ⌝ }
+    ensures { λ _. ⌜ now (out .exit) ≡ laid (first * 64) (replicate ((end - first) * 64) true) (now (out .entry)) ⌝ }
+{
+    let mut i = first;
+    while i < end {
+        out[i] = 0xffff_ffff_ffff_ffffu64;
+        i += 1;
+    }
+}
+
+// The words from first to end, of one bit.
+fn same_words(out: &mut [u64], first: usize, end: usize, set: bool)
+    requires { ⌜ (first ≤ end) × (end ≤ length (now out)) × Below (2 ^ 64) (now out) ⌝ }
+    ensures { λ _. ⌜ now (out .exit) ≡ laid (first * 64) (replicate ((end - first) * 64) set) (now (out .entry)) ⌝ }
+{
+    if set {
+        fill_words(out, first, end);
+        return;
+    }
+    clear_words(out, first, end);
+}
+
+// The same bit over out, n times, from bit at on: in one word; or to the end of the first, then whole words, then what is left.
+pub fn lay_same(out: &mut [u64], at: u64, n: u64, set: bool)
     requires { ⌜ Room at n (now out) ⌝ }
-    ensures { λ _. ⌜ now (out .exit) ≡ laid at (replicate n false) (now (out .entry)) ⌝ }
+    ensures { λ _. ⌜ now (out .exit) ≡ laid at (replicate n set) (now (out .entry)) ⌝ }
 {
     let shift = at % 64;
     if shift + n <= 64 {
-        clear_some(out, at, n);
+        lay_some(out, at, n, set);
         return;
     }
     let end = at + n;
     let last = end % 64;
-    put(out, at, 64 - shift, 0);
-    clear_words(out, (at / 64 + 1) as usize, (end / 64) as usize);
-    clear_some(out, end - last, last);
+    lay_some(out, at, 64 - shift, set);
+    same_words(out, (at / 64 + 1) as usize, (end / 64) as usize, set);
+    lay_some(out, end - last, last, set);
+}
+
+// Zeros over out, n of them, from bit at on.
+pub fn clear(out: &mut [u64], at: u64, n: u64)
+    requires { ⌜ Room at n (now out) ⌝ }
+    ensures { λ _. ⌜ now (out .exit) ≡ laid at (replicate n false) (now (out .entry)) ⌝ }
+{
+    lay_same(out, at, n, false);
+}
+
+// Ones over out, n of them, from bit at on.
+pub fn fill(out: &mut [u64], at: u64, n: u64)
+    requires { ⌜ Room at n (now out) ⌝ }
+    ensures { λ _. ⌜ now (out .exit) ≡ laid at (replicate n true) (now (out .entry)) ⌝ }
+{
+    lay_same(out, at, n, true);
 }
 
 // One bit set.

@@ -1,18 +1,18 @@
 -- Runs of rows against masks: the rows from one run to the next, their count, the runs of what runs say and back, and the set rows.
 -- By recursion over the runs, and over the rows.
 -- Assumes nothing.
-use Prim.Native.Nat.{ℕ, zero, suc, _+_, _-_, _≤_, _<_}
+use Prim.Native.Nat.{ℕ, zero, suc, _+_, _-_, _*_, _/_, _≤_, _<_}
 use native.Mathlib.Nat.{add-zero, zero-add, suc-add, add-suc}
 use mathlib.Core.Path.{_≡_, refl, sym, ap, ap₂, _∙_}
 use mathlib.Core.Bool.{Bool, true, false, and-false}
-use mathlib.Core.List.{List, [], _∷_, _++_, append-assoc}
+use mathlib.Core.List.{List, [], _∷_, _++_, append-nil, append-assoc}
 use native.Mathlib.Omega.{arith}
 use borrow.Author.Tests.{lt-ltb, le-ltb, le-leb, lt-leb}
 use lib.Dec.{leb}
-use lib.ListN.{replicate}
+use lib.ListN.{length, replicate}
 use Rattle.rows.specs.Rows.{count}
-use Rattle.rows.specs.Lists.{tab}
-use Rattle.rows.specs.Runs.{held, inRuns, runLengths, Apart}
+use Rattle.rows.specs.Lists.{tab, setRows}
+use Rattle.rows.specs.Runs.{held, inRuns, runLengths, Apart, turns, runsOf, runsIn}
 use Rattle.rows.proofs.RowLaws.{count-append}
 use Rattle.rows.proofs.ListLaws.{tab-ext}
 
@@ -112,3 +112,160 @@ few-from b c e (f ∷ p ∷ ns) h k a = omega (arith, few-from p (suc p) e ns (o
 
 pub runs-few : (b e : ℕ) (ns : List ℕ) → Apart b e ns → b ≤ e → b + runLengths ns ≤ e
 runs-few b e ns a h = few-from b b e ns (omega arith) h a
+
+-- ---- the runs of what runs say
+
+-- unset rows turn nothing outside a run, and set rows nothing in one
+turns-unset : (b n : ℕ) (s : List Bool) → turns false b (replicate n false ++ s) ≡ turns false (b + n) s
+turns-unset b zero s = ap (λ (k : ℕ). turns false k s) (sym (add-zero b))
+turns-unset b (suc n) s = turns-unset (suc b) n s ∙ ap (λ (k : ℕ). turns false k s) (suc-add b n ∙ sym (add-suc b n))
+
+turns-set : (b n : ℕ) (s : List Bool) → turns true b (replicate n true ++ s) ≡ turns true (b + n) s
+turns-set b zero s = ap (λ (k : ℕ). turns true k s) (sym (add-zero b))
+turns-set b (suc n) s = turns-set (suc b) n s ∙ ap (λ (k : ℕ). turns true k s) (suc-add b n ∙ sym (add-suc b n))
+
+-- a run that is not empty is its first row, and what turns after it
+turns-run : (b n : ℕ) (s : List Bool) → 0 < n → turns false b (replicate n true ++ s) ≡ b ∷ turns true (b + n) s
+turns-run b zero s h = absurd (omega arith)
+turns-run b (suc n) s h = ap (λ (l : List ℕ). b ∷ l) (turns-set (suc b) n s ∙ ap (λ (k : ℕ). turns true k s) (suc-add b n ∙ sym (add-suc b n)))
+
+-- a run ends at the row past its last, where no other begins at once
+ends-none : (p n : ℕ) → turns true p (replicate n false) ≡ p ∷ turns false (suc p) (replicate (n - 1) false)
+ends-none p zero = refl
+ends-none p (suc n) = let one : n ≡ suc n - 1 = omega arith in ap (λ (k : ℕ). p ∷ turns false (suc p) (replicate k false)) one
+
+ends-first : (p n : ℕ) (s : List Bool) → 0 < n → turns true p (replicate n false ++ s) ≡ p ∷ turns false (suc p) (replicate (n - 1) false ++ s)
+ends-first p zero s h = absurd (omega arith)
+ends-first p (suc n) s h = let one : n ≡ suc n - 1 = omega arith in ap (λ (k : ℕ). p ∷ turns false (suc p) (replicate k false ++ s)) one
+
+run-ends : (p e : ℕ) (ns : List ℕ) → Apart (suc p) e ns → turns true p (runRows p e ns) ≡ p ∷ turns false (suc p) (runRows (suc p) e ns)
+run-ends p e [] a =
+    let one : e - p - 1 ≡ e - suc p = omega arith in
+    ends-none p (e - p) ∙ ap (λ (k : ℕ). p ∷ turns false (suc p) (replicate k false)) one
+run-ends p e (f ∷ []) a = absurd a
+run-ends p e (f ∷ q ∷ ns) a =
+    let one : f - p - 1 ≡ f - suc p = omega arith in
+    let run : List Bool = replicate (q - f) true in
+    let rest : List Bool = runRows q e ns in
+    ap (turns true p) (append-assoc (replicate (f - p) false) run rest)
+    ∙ ends-first p (f - p) (run ++ rest) (omega arith)
+    ∙ ap (λ (k : ℕ). p ∷ turns false (suc p) (replicate k false ++ (run ++ rest))) one
+    ∙ ap (λ (l : List Bool). p ∷ turns false (suc p) l) (sym (append-assoc (replicate (f - suc p) false) run rest))
+
+pub apart-turns : (b c e : ℕ) (ns : List ℕ) → b ≤ c → Apart c e ns → turns false b (runRows b e ns) ≡ ns
+apart-turns b c e [] h a = ap (turns false b) (sym (append-nil (replicate (e - b) false))) ∙ turns-unset b (e - b) []
+apart-turns b c e (f ∷ []) h a = absurd a
+apart-turns b c e (f ∷ p ∷ ns) h a =
+    let first : b + (f - b) ≡ f = omega arith in
+    let past : f + (p - f) ≡ p = omega arith in
+    let run : List Bool = replicate (p - f) true in
+    let rest : List Bool = runRows p e ns in
+    ap (turns false b) (append-assoc (replicate (f - b) false) run rest)
+    ∙ turns-unset b (f - b) (run ++ rest)
+    ∙ ap (λ (k : ℕ). turns false k (run ++ rest)) first
+    ∙ turns-run f (p - f) rest (omega arith)
+    ∙ ap (λ (k : ℕ). f ∷ turns true k rest) past
+    ∙ ap (λ (l : List ℕ). f ∷ l) (run-ends p e ns (a .3) ∙ ap (λ (l : List ℕ). p ∷ l) (apart-turns (suc p) (suc p) e ns (omega arith) (a .3)))
+
+pub runs-back : (e : ℕ) (ns : List ℕ) → Apart 0 e ns → runsOf (inRuns e ns) ≡ ns
+runs-back e ns a = ap runsOf (in-runs e ns a) ∙ apart-turns 0 0 e ns (omega arith) a
+
+-- ---- the runs of a mask: they are apart, and say its rows
+
+-- outside a run, and in one that began at f
+mutual
+  outside-apart : (b c e : ℕ) (s : List Bool) → c ≤ b → b + length s ≡ e → Apart c e (turns false b s)
+  outside-apart b c e [] h q = tt
+  outside-apart b c e (false ∷ s) h q = outside-apart (suc b) c e s (omega arith) (omega arith)
+  outside-apart b c e (true ∷ s) h q = inside-apart b (suc b) c e s h (omega arith) (omega arith)
+
+  inside-apart : (f b c e : ℕ) (s : List Bool) → c ≤ f → f < b → b + length s ≡ e → Apart c e (f ∷ turns true b s)
+  inside-apart f b c e [] h k q = (h, k, omega arith, tt)
+  inside-apart f b c e (true ∷ s) h k q = inside-apart f (suc b) c e s h (omega arith) (omega arith)
+  inside-apart f b c e (false ∷ s) h k q = (h, k, omega arith, outside-apart (suc b) (suc b) e s (omega arith) (omega arith))
+
+pub runs-apart : (s : List Bool) → Apart 0 (length s) (runsOf s)
+runs-apart s = outside-apart 0 0 (length s) s (omega arith) (zero-add (length s))
+
+-- one row more of a kind
+one-more : (a b : ℕ) (x : Bool) (s : List Bool) → a ≤ b → replicate (suc b - a) x ++ s ≡ replicate (b - a) x ++ x ∷ s
+one-more a b x s h = let e : suc b - a ≡ suc (b - a) = omega arith in ap (λ (k : ℕ). replicate k x ++ s) e ∙ go (b - a)
+  where
+    go : (n : ℕ) → replicate (suc n) x ++ s ≡ replicate n x ++ x ∷ s
+    go zero = refl
+    go (suc n) = ap (λ (l : List Bool). x ∷ l) (go n)
+
+-- the rows from c on, of which those to b are unset, or those to f unset and those to b set
+mutual
+  outside-rows : (b c e : ℕ) (s : List Bool) → c ≤ b → b + length s ≡ e → runRows c e (turns false b s) ≡ replicate (b - c) false ++ s
+  outside-rows b c e [] h q =
+      let end : e - c ≡ b - c = omega arith in
+      ap (λ (k : ℕ). replicate k false) end ∙ sym (append-nil (replicate (b - c) false))
+  outside-rows b c e (false ∷ s) h q = outside-rows (suc b) c e s (omega arith) (omega arith) ∙ one-more c b false s h
+  outside-rows b c e (true ∷ s) h q =
+      let one : suc b - b ≡ 1 = omega arith in
+      inside-rows b (suc b) c e s h (omega arith) (omega arith) ∙ ap (λ (k : ℕ). replicate (b - c) false ++ (replicate k true ++ s)) one
+
+  inside-rows : (f b c e : ℕ) (s : List Bool) → c ≤ f → f < b → b + length s ≡ e
+      → runRows c e (f ∷ turns true b s) ≡ replicate (f - c) false ++ (replicate (b - f) true ++ s)
+  inside-rows f b c e [] h k q =
+      let end : e - b ≡ 0 = omega arith in
+      append-assoc (replicate (f - c) false) (replicate (b - f) true) (replicate (e - b) false)
+      ∙ ap (λ (n : ℕ). replicate (f - c) false ++ (replicate (b - f) true ++ replicate n false)) end
+  inside-rows f b c e (true ∷ s) h k q =
+      inside-rows f (suc b) c e s h (omega arith) (omega arith)
+      ∙ ap (λ (l : List Bool). replicate (f - c) false ++ l) (one-more f b true s (omega arith))
+  inside-rows f b c e (false ∷ s) h k q =
+      let one : suc b - b ≡ 1 = omega arith in
+      append-assoc (replicate (f - c) false) (replicate (b - f) true) (runRows b e (turns false (suc b) s))
+      ∙ ap (λ (l : List Bool). replicate (f - c) false ++ (replicate (b - f) true ++ l))
+          (outside-rows (suc b) b e s (omega arith) (omega arith) ∙ ap (λ (n : ℕ). replicate n false ++ s) one)
+
+pub rows-back : (s : List Bool) → inRuns (length s) (runsOf s) ≡ s
+rows-back s = in-runs (length s) (runsOf s) (runs-apart s) ∙ outside-rows 0 0 (length s) s (omega arith) (zero-add (length s))
+
+-- ---- they are numbers in pairs
+
+pub apart-even : (b e : ℕ) (ns : List ℕ) → Apart b e ns → length ns ≡ length ns / 2 * 2
+apart-even b e [] a = refl
+apart-even b e (f ∷ []) a = absurd a
+apart-even b e (f ∷ p ∷ ns) a = omega (arith, apart-even (suc p) e ns (a .3))
+
+pub runs-even : (s : List Bool) → length (runsOf s) ≡ runsIn s * 2
+runs-even s = apart-even 0 (length s) (runsOf s) (runs-apart s)
+
+-- ---- the set rows of runs
+
+-- the n numbers from b on
+abbrev pub rowsFrom : ℕ → ℕ → List ℕ
+rowsFrom b zero = []
+rowsFrom b (suc n) = b ∷ rowsFrom (suc b) n
+
+pub rows-from-length : (b n : ℕ) → length (rowsFrom b n) ≡ n
+rows-from-length b zero = refl
+rows-from-length b (suc n) = ap suc (rows-from-length (suc b) n)
+
+rows-unset : (b n : ℕ) (s : List Bool) → setRows b (replicate n false ++ s) ≡ setRows (b + n) s
+rows-unset b zero s = ap (λ (k : ℕ). setRows k s) (sym (add-zero b))
+rows-unset b (suc n) s = rows-unset (suc b) n s ∙ ap (λ (k : ℕ). setRows k s) (suc-add b n ∙ sym (add-suc b n))
+
+rows-set : (b n : ℕ) (s : List Bool) → setRows b (replicate n true ++ s) ≡ rowsFrom b n ++ setRows (b + n) s
+rows-set b zero s = ap (λ (k : ℕ). setRows k s) (sym (add-zero b))
+rows-set b (suc n) s =
+    ap (λ (l : List ℕ). b ∷ l) (rows-set (suc b) n s ∙ ap (λ (k : ℕ). rowsFrom (suc b) n ++ setRows k s) (suc-add b n ∙ sym (add-suc b n)))
+
+pub runs-set-rows : (b e : ℕ) (f p : ℕ) (ns : List ℕ) → b ≤ f → f < p
+    → setRows b (runRows b e (f ∷ p ∷ ns)) ≡ rowsFrom f (p - f) ++ setRows p (runRows p e ns)
+runs-set-rows b e f p ns h k =
+    let first : b + (f - b) ≡ f = omega arith in
+    let past : f + (p - f) ≡ p = omega arith in
+    let run : List Bool = replicate (p - f) true in
+    let rest : List Bool = runRows p e ns in
+    ap (setRows b) (append-assoc (replicate (f - b) false) run rest)
+    ∙ rows-unset b (f - b) (run ++ rest)
+    ∙ ap (λ (n : ℕ). setRows n (run ++ rest)) first
+    ∙ rows-set f (p - f) rest
+    ∙ ap (λ (n : ℕ). rowsFrom f (p - f) ++ setRows n rest) past
+
+pub no-runs-set-rows : (b e : ℕ) → setRows b (runRows b e []) ≡ []
+no-runs-set-rows b e = ap (setRows b) (sym (append-nil (replicate (e - b) false))) ∙ rows-unset b (e - b) []

@@ -1,0 +1,3 @@
+// What our own crates call of the runs.
+pub mod lay;
+pub mod list;

@@ -1,0 +1,2 @@
+// Runs of rows, laid over lent words or listed.
+pub mod inner;
