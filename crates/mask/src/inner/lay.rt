@@ -1,5 +1,6 @@
-// An operand's rows over lent words, from any bit on or as whole words: chunk by chunk, or, of row numbers, one bit a row on zeros.
+// An operand's rows over lent words, from any bit on or as whole words: chunk by chunk; of row numbers, one bit a row on zeros; of runs, run by run.
 ghost use mathlib.Core.Path.{_≡_};
+ghost use mathlib.Core.Bool.{false};
 ghost use mathlib.Core.List.{[]};
 ghost use Prim.Native.Nat.{_+_, _*_, _%_, _≤_};
 ghost use lib.ListN.{length};
@@ -9,7 +10,8 @@ ghost use Rattle.rows.specs.Words.{view, Below};
 ghost use Rattle.rows.specs.Laid.{wordsFor, written, laid, marked};
 ghost use Rattle.rows.specs.Asks.{Room};
 ghost use Rattle.rules.specs.Operand.{lent, rowsOf, lengthOf, Accepted};
-ghost use Rattle.operand.specs.Flat.{Flat};
+ghost use Rattle.operand.specs.Flat.{Flat, hasRuns};
+use fills::inner::lay::lay_runs;
 use laid::inner::clear;
 use laid::inner::clear_last;
 use laid::inner::copy_words;
@@ -18,6 +20,7 @@ use laid::inner::set_bit;
 use lent::inner::chunk_len;
 use operand::inner::chunks::chunk_of;
 use operand::inner::forms::has_row_numbers;
+use operand::inner::forms::has_runs;
 use operand::inner::forms::length_of;
 use rules::Form;
 
@@ -92,9 +95,9 @@ fn lay_list(len: u64, rows: &[u32], at: u64, out: &mut [u64])
     mark(rows, len, at, out);
 }
 
-// The operand's rows laid over out from bit at on.
-pub fn lay_rows(form: Form, words: &[u64], rows: &[u32], at: u64, out: &mut [u64])
-    requires { ⌜ Accepted (lent form (now words) (now rows)) × Room at (lengthOf form) (now out) ⌝ }
+// An operand that is no runs.
+fn lay_other(form: Form, words: &[u64], rows: &[u32], at: u64, out: &mut [u64])
+    requires { ⌜ Accepted (lent form (now words) (now rows)) × Room at (lengthOf form) (now out) × (hasRuns form ≡ false) ⌝ }
     ensures { λ _. ⌜ now (out .exit) ≡ laid at (rowsOf (lent form (now (words .entry)) (now (rows .entry)))) (now (out .entry)) ⌝ }
 {
     if has_row_numbers(form) {
@@ -102,6 +105,18 @@ pub fn lay_rows(form: Form, words: &[u64], rows: &[u32], at: u64, out: &mut [u64
         return;
     }
     lay_flat(form, words, at, out);
+}
+
+// The operand's rows laid over out from bit at on.
+pub fn lay_rows(form: Form, words: &[u64], rows: &[u32], at: u64, out: &mut [u64])
+    requires { ⌜ Accepted (lent form (now words) (now rows)) × Room at (lengthOf form) (now out) ⌝ }
+    ensures { λ _. ⌜ now (out .exit) ≡ laid at (rowsOf (lent form (now (words .entry)) (now (rows .entry)))) (now (out .entry)) ⌝ }
+{
+    if has_runs(form) {
+        lay_runs(rows, length_of(form), at, out);
+        return;
+    }
+    lay_other(form, words, rows, at, out);
 }
 
 // The operand's rows as whole words from the start on.
