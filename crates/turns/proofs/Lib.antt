@@ -1,1 +1,2 @@
 pub mod TurnedLaws
+pub mod WrittenLaws

@@ -1,7 +1,7 @@
 -- `turns::inner::count_turns` meets its contract.
 -- The invariant: what the runs turn at before `row` is counted, and the row before it carried on. Assumes nothing.
 use Prim.Native.Nat.{ℕ, _+_, _-_, _/_, _^_, _≤_, _<_}
-use mathlib.Core.Path.{_≡_, _∙_}
+use mathlib.Core.Path.{_≡_}
 use mathlib.Core.Bool.{Bool, false}
 use mathlib.Core.List.{List}
 use native.Mathlib.Omega.{arith}
@@ -13,8 +13,7 @@ use Rattle.rows.specs.Words.{view}
 use Rattle.rows.specs.Edges.{edges}
 use Rattle.rows.proofs.RowLaws.{count-take-le}
 use Rattle.rows.proofs.WordsLaws.{view-length}
-use Rattle.rows.proofs.PartLaws.{view-chunk}
-use Rattle.turns.proofs.TurnedLaws.{Counted, counted-none, carry-small, counted-next, counted-all}
+use Rattle.turns.proofs.TurnedLaws.{Counted, counted-none, carry-small, view-word, found-ones, counted-next, counted-all}
 use Rattle.turns.proofs.inner.count_turns.Statement.{statement}
 use Rattle.turns.proofs.inner.count_turns.Tie as tie
 
@@ -69,7 +68,8 @@ word : (c : tie.After-chunk Inv-loop μ-loop) → c .chunk .result ≡ wordOf (t
 word c =
     let t = sized c in
     let a = start (head t) .args in
-    c .chunk .ensures ∙ view-chunk (a .start) (row t) (n t) (a .len) (now (a .words)) (omega (arith, room t, long (head t))) (start (head t) .pre .2)
+    view-word (a .start) (row t) (n t) (a .len) (c .chunk .result) (now (a .words)) (omega (arith, room t, long (head t))) (start (head t) .pre .2)
+    (c .chunk .ensures)
 
 -- the turn counted
 module _ (c : tie.After-edge-word Inv-loop μ-loop) where
@@ -86,8 +86,9 @@ module _ (c : tie.After-edge-word Inv-loop μ-loop) where
   counted =
       let t = sized (read c) in
       let l = here .loop in
-      counted-next (rows here) (row t) (n t) (l .sum) (l .carry) (read c .chunk .result) (l .inv .1) (some t) (room t) (word (read c))
-      (c .edge-word .result) (c .edge-word .ensures)
+      let x : ℕ = read c .chunk .result in
+      counted-next (rows here) (row t) (n t) (l .sum) (l .carry) x (l .inv .1) (some t) (room t) (word (read c)) found
+      (found-ones (rows here) (row t) (n t) (l .sum) (l .carry) x (l .inv .1) (some t) (room t) (word (read c)) (c .edge-word .result) (c .edge-word .ensures))
 
   few-more : here .loop .sum + found ≤ next
   few-more = omega (arith, counted .passed, count-take-le next (edges false (rows here)))
