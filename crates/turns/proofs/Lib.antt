@@ -1,0 +1,3 @@
+pub mod TurnedLaws
+pub mod WrittenLaws
+pub mod ListTurnLaws

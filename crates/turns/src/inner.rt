@@ -1,0 +1,89 @@
+// What our own crates call to find the runs of rows. A run begins and ends at a row that differs from the row before it, and in a word those
+// rows are the word against itself moved up by one, with the row before it carried in.
+ghost use mathlib.Core.Path.{_≡_};
+ghost use mathlib.Core.List.{[]};
+ghost use Prim.Native.Nat.{_+_, _≤_, _<_};
+ghost use lib.ListN.{length};
+ghost use denote.Ref.{now};
+ghost use Rattle.rows.specs.Rows.{count, splice};
+ghost use Rattle.rows.specs.Word.{isOne, bitsOf, wordOf};
+ghost use Rattle.rows.specs.Words.{view};
+ghost use Rattle.rows.specs.Lists.{setRows};
+ghost use Rattle.rows.specs.Runs.{turns, runsOf};
+ghost use Rattle.rows.specs.Edges.{edges};
+ghost use Rattle.rows.specs.Asks.{InView, Chunk};
+use lent::inner::chunk;
+use lent::inner::chunk_len;
+use lent::inner::ones;
+
+// Which of a chunk's n rows differ from the row before them, the row before the first being carry.
+fn edge_word(chunk: u64, carry: u64, n: u64) -> u64
+    requires { ⌜ Chunk n × (carry < 2) ⌝ }
+    ensures { λ r. ⌜ r ≡ wordOf (edges (isOne carry) (bitsOf n chunk)) ⌝ }
+{
+    (chunk ^ ((chunk << 1) | carry)) & ones(n)
+}
+
+// How many numbers the runs of a view are. A run that goes on to the view's end has its end there: that is the last row, carried out.
+pub fn count_turns(words: &[u64], start: u64, len: u64) -> u64
+    requires { ⌜ InView start len (now words) ⌝ }
+    ensures { λ r. ⌜ r ≡ length (runsOf (view start len (now (words .entry)))) ⌝ }
+{
+    let mut sum: u64 = 0;
+    let mut carry: u64 = 0;
+    let mut row: u64 = 0;
+    while row < len {
+        let n = chunk_len(len, row);
+        let here = chunk(words, start, row, n);
+        let found = u64::count_ones(edge_word(here, carry, n)) as u64;
+        sum += found;
+        carry = here >> (n - 1);
+        row += n;
+    }
+    sum + carry
+}
+
+// The set bits of a chunk whose first row is base, from entry k of out on; the entry after them.
+fn write_edges(found: u64, base: u32, k: usize, out: &mut [u32]) -> usize
+    requires { ⌜ (base ≤ 1048576) × (k + count (bitsOf 64 found) ≤ length (now out)) ⌝ }
+    ensures { λ r. ⌜ (r ≡ k + count (bitsOf 64 found)) × (now (out .exit) ≡ splice k (now (out .entry)) (setRows base (bitsOf 64 found))) ⌝ }
+{
+    let mut rest = found;
+    let mut p = k;
+    while rest != 0 {
+        out[p] = base + u64::trailing_zeros(rest);
+        rest = rest & (rest - 1);
+        p += 1;
+    }
+    p
+}
+
+// The end of a run that goes on to the last row, at entry k of out.
+fn write_end(carry: u64, past: u32, k: usize, out: &mut [u32])
+    requires { ⌜ k + length (turns (isOne carry) past []) ≤ length (now out) ⌝ }
+    ensures { λ _. ⌜ now (out .exit) ≡ splice k (now (out .entry)) (turns (isOne carry) past []) ⌝ }
+{
+    if carry == 0 {
+        return;
+    }
+    out[k] = past;
+}
+
+// The runs of a view, over the front of out; later entries stay.
+pub fn write_turns(words: &[u64], start: u64, len: u64, out: &mut [u32])
+    requires { ⌜ InView start len (now words) × (length (runsOf (view start len (now words))) ≤ length (now out)) ⌝ }
+    ensures { λ _. ⌜ now (out .exit) ≡ splice 0 (now (out .entry)) (runsOf (view start len (now (words .entry)))) ⌝ }
+{
+    let mut k: usize = 0;
+    let mut carry: u64 = 0;
+    let mut row: u64 = 0;
+    while row < len {
+        let n = chunk_len(len, row);
+        let here = chunk(words, start, row, n);
+        let found = edge_word(here, carry, n);
+        k = write_edges(found, row as u32, k, out);
+        carry = here >> (n - 1);
+        row += n;
+    }
+    write_end(carry, len as u32, k, out);
+}
