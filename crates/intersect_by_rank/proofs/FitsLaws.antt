@@ -5,7 +5,7 @@ use Prim.Native.Nat.{ℕ, zero, suc, _*_}
 use mathlib.Core.Path.{_≡_, refl, sym, ap, ap₂, _∙_, subst}
 use mathlib.Core.Bool.{Bool, true, false, _&&_, cond, false≢true}
 use mathlib.Core.Logic.{_⊎_, inl, inr}
-use mathlib.Core.List.{List}
+use mathlib.Core.List.{List, []}
 use native.Mathlib.Omega.{arith}
 use borrow.Author.Tests.{eqb-true, lt-ltb}
 use lib.ListN.{length, drop, replicate}
@@ -14,22 +14,23 @@ use Rattle.rows.specs.declared.Way.{Way}
 use Rattle.rows.specs.Rows.{count, compose}
 use Rattle.rows.specs.Words.{bitsOfAll, view}
 use Rattle.rows.specs.Lists.{listed, Ascending}
+use Rattle.rows.specs.Runs.{inRuns, Apart}
 use Rattle.rows.specs.Asks.{InView}
 use Rattle.rows.specs.Table.{Met}
 use Rattle.rows.proofs.RowLaws.{compose-full, compose-by-full, compose-empty, compose-by-empty}
 use Rattle.rows.proofs.FitLaws.{compose-cut}
-use Rattle.rows.proofs.ListLaws.{eqb-same, listed-count}
+use Rattle.rows.proofs.ListLaws.{eqb-same}
 use Rattle.rules.specs.declared.Form.{Form}
-use Rattle.rules.specs.declared.Form.the-variants.{All, None, Words, List as Listed}
+use Rattle.rules.specs.declared.Form.the-variants.{All, None, Words, List as Listed, Runs}
 use Rattle.rules.specs.declared.Factors.{Factors}
 use Rattle.rules.specs.declared.Route.the-variants.{RankMask, SelfMask, NoRows, EntryAtRank, EntryIfSet, MaskDriven, Gathered, Read}
-use Rattle.rules.specs.Operand.{Operand, rowsOf, lengthOf, countBy, countOf, empty, full, countsAsList, checksBy, rowsBy, Accepted}
-use Rattle.rules.specs.Route.{routeOf, wayOf}
+use Rattle.rules.specs.Operand.{Operand, lent, rowsOf, lengthOf, countBy, countOf, empty, full, countsAsList, checksBy, rowsBy, Accepted}
+use Rattle.rules.specs.Route.{routeOf, routeBy, wayBy}
 use Rattle.rules.specs.Compose.{Paired, result}
 use Rattle.rules.proofs.OperandLaws.{accepted-length, accepted-count, words-reach}
 use Rattle.rules.proofs.ComposeLaws.{ranks-length}
-use Rattle.operand.specs.Flat.{hasRowNumbers, startOf}
-use Rattle.operand.proofs.NumberLaws.{accepted-list, list-numbers, list-rows, list-count}
+use Rattle.operand.specs.Flat.{hasRowNumbers, hasRuns, startOf}
+use Rattle.operand.proofs.NumberLaws.{accepted-list, list-numbers, list-rows, accepted-runs, runs-rows}
 use Rattle.intersect_by_rank.specs.Fits.{AsList, InWords, Fits}
 
 -- ---- the chosen route's line fits, whatever the factors are
@@ -49,8 +50,8 @@ module _ (s r : Operand) where
   line false false false false false false false w a b c e f g = ((f, a, c), (g, b, e))
 
   pub route-fits : (k : Factors) → Fits (routeOf k s r) s r
-  unfolding routeOf
-  route-fits k = line (full s) (full r) (empty s) (empty r) (countsAsList (s .form)) (countsAsList (r .form)) (ltb (k .driven * countOf r) (lengthOf (r .form))) (wayOf k s) refl refl refl refl refl refl
+  unfolding routeBy
+  route-fits k = line (full s) (full r) (empty s) (empty r) (countsAsList (s .form)) (countsAsList (r .form)) (ltb (k .driven * countOf r) (lengthOf (r .form))) (wayBy k (s .form) (countOf s)) refl refl refl refl refl refl
 
 -- ---- an operand in words: where its rows stand
 
@@ -71,6 +72,29 @@ in-words o w a = let v = by (o .form) w a in record { rows = v .0; inView = v .1
     by (None n) w m = absurd (false≢true (sym (w .2)))
     by (Words start len claimed) w m = (refl, (m .0, m .1 .0, omega (arith, words-reach start len claimed o m)))
     by (Listed len) w m = absurd (false≢true (sym (w .0)))
+    by (Runs len) w m = absurd (false≢true (sym (w .0)))
+
+-- ---- a list, or runs: its rows and its checks are of its numbers alone
+
+bare-rows : (o : Operand) → AsList o → rowsOf o ≡ rowsOf (lent (o .form) [] (o .numbers))
+bare-rows o = by (o .form)
+  where
+    by : (f : Form) → countsAsList f ≡ true → rowsBy f o ≡ rowsBy f (lent f [] (o .numbers))
+    by (All n) e = refl
+    by (None n) e = refl
+    by (Words start len claimed) e = absurd (false≢true e)
+    by (Listed len) e = refl
+    by (Runs len) e = refl
+
+bare-accepted : (o : Operand) → AsList o → Accepted o → Accepted (lent (o .form) [] (o .numbers))
+bare-accepted o = by (o .form)
+  where
+    by : (f : Form) → countsAsList f ≡ true → Met (checksBy f 0 o) → Met (checksBy f 0 (lent f [] (o .numbers)))
+    by (All n) e m = m
+    by (None n) e m = m
+    by (Words start len claimed) e m = absurd (false≢true e)
+    by (Listed len) e m = m
+    by (Runs len) e m = m
 
 -- ---- full and empty
 
@@ -123,11 +147,11 @@ module _ (s r : Operand) (p : Paired s r) where
     pub words-count : lengthOf (r .form) ≡ count shown
     words-count = ranks-count ∙ ap count same
 
-    pub words-ascends : AsList r → Ascending 0 (count shown) (r .numbers)
-    words-ascends e = subst (λ (k : ℕ). Ascending 0 k (r .numbers)) words-count (accepted-list r (list-numbers (r .form) e) (p .rank))
+    pub words-ascends : hasRowNumbers (r .form) ≡ true → Ascending 0 (count shown) (r .numbers)
+    words-ascends e = subst (λ (k : ℕ). Ascending 0 k (r .numbers)) words-count (accepted-list r e (p .rank))
 
-    pub words-listed : AsList r → compose shown (listed (count shown) (r .numbers)) ≡ result s r
-    words-listed e = sym (ap₂ compose same (list-rows r (list-numbers (r .form) e) ∙ ap (λ (k : ℕ). listed k (r .numbers)) words-count))
+    pub words-listed : hasRowNumbers (r .form) ≡ true → compose shown (listed (count shown) (r .numbers)) ≡ result s r
+    words-listed e = sym (ap₂ compose same (list-rows r e ∙ ap (λ (k : ℕ). listed k (r .numbers)) words-count))
 
     pub words-words : InWords r → compose shown (view (startOf (r .form)) (lengthOf (r .form)) (r .words)) ≡ result s r
     words-words v = sym (ap₂ compose same (in-words r v (p .rank) .rows))
@@ -135,44 +159,34 @@ module _ (s r : Operand) (p : Paired s r) where
     pub words-read : InWords r → compose shown (drop (startOf (r .form)) (bitsOfAll 64 (r .words))) ≡ result s r
     words-read v = sym (compose-cut (lengthOf (r .form)) shown (drop (startOf (r .form)) (bitsOfAll 64 (r .words))) (omega (arith, words-count))) ∙ words-words v
 
-  -- self a list
+  -- self a list, or runs: no words are read of it
   module _ (l : AsList s) where
-    abbrev rows : List Bool
-    rows = listed (lengthOf (s .form)) (s .numbers)
+    abbrev alone : Operand
+    alone = lent (s .form) [] (s .numbers)
 
-    listed-self : rowsOf s ≡ rows
-    listed-self = list-rows s (list-numbers (s .form) l)
+    pub alone-accepted : Accepted alone
+    alone-accepted = bare-accepted s l (p .self)
 
-    pub list-length : lengthOf (r .form) ≡ length (s .numbers)
-    list-length = p .ranks ∙ list-count s (list-numbers (s .form) l)
+    pub alone-ranks : hasRowNumbers (r .form) ≡ true → Ascending 0 (countOf s) (r .numbers)
+    alone-ranks e = subst (λ (k : ℕ). Ascending 0 k (r .numbers)) (p .ranks) (accepted-list r e (p .rank))
 
-    pub list-ascends : Ascending 0 (lengthOf (s .form)) (s .numbers)
-    list-ascends = accepted-list s (list-numbers (s .form) l) (p .self)
+    pub alone-listed : hasRowNumbers (r .form) ≡ true → compose (rowsOf alone) (listed (countOf s) (r .numbers)) ≡ result s r
+    alone-listed e = sym (ap₂ compose (bare-rows s l) (list-rows r e ∙ ap (λ (k : ℕ). listed k (r .numbers)) (p .ranks)))
 
-    pub list-ranks : AsList r → Ascending 0 (length (s .numbers)) (r .numbers)
-    list-ranks e = subst (λ (k : ℕ). Ascending 0 k (r .numbers)) list-length (accepted-list r (list-numbers (r .form) e) (p .rank))
+    pub alone-read : InWords r → compose (rowsOf alone) (drop (startOf (r .form)) (bitsOfAll 64 (r .words))) ≡ result s r
+    alone-read v =
+        sym (ap₂ compose (bare-rows s l) (in-words r v (p .rank) .rows)
+        ∙ compose-cut (lengthOf (r .form)) (rowsOf alone) (drop (startOf (r .form)) (bitsOfAll 64 (r .words))) (omega (arith, ranks-count, ap count (bare-rows s l))))
 
-    pub list-listed : AsList r → compose rows (listed (length (s .numbers)) (r .numbers)) ≡ result s r
-    list-listed e = sym (ap₂ compose listed-self (list-rows r (list-numbers (r .form) e) ∙ ap (λ (k : ℕ). listed k (r .numbers)) list-length))
+  -- the rank mask is runs
+  module _ (e : hasRuns (r .form) ≡ true) where
+    pub runs-apart : Apart 0 (countOf s) (r .numbers)
+    runs-apart = subst (λ (k : ℕ). Apart 0 k (r .numbers)) (p .ranks) (accepted-runs r e (p .rank))
 
-    pub list-read : InWords r → compose rows (drop (startOf (r .form)) (bitsOfAll 64 (r .words))) ≡ result s r
-    list-read v =
-        let all : count rows ≡ length (s .numbers) = listed-count (lengthOf (s .form)) (s .numbers) list-ascends in
-        sym (ap₂ compose listed-self (in-words r v (p .rank) .rows)
-        ∙ compose-cut (lengthOf (r .form)) rows (drop (startOf (r .form)) (bitsOfAll 64 (r .words))) (omega (arith, all, list-length)))
+    pub runs-kept : compose (rowsOf s) (inRuns (countOf s) (r .numbers)) ≡ result s r
+    runs-kept = sym (ap (compose (rowsOf s)) (runs-rows r e ∙ ap (λ (k : ℕ). inRuns k (r .numbers)) (p .ranks)))
 
 -- a rank mask without row numbers, on route 6
-pub rank-in-words : (o : Operand) → AsList o ⊎ InWords o → hasRowNumbers (o .form) ≡ false → InWords o
-rank-in-words o (inl e) h = absurd (false≢true (sym h ∙ list-numbers (o .form) e))
-rank-in-words o (inr w) h = w
-
--- and one with them
-pub rank-as-list : (o : Operand) → AsList o ⊎ InWords o → hasRowNumbers (o .form) ≡ true → AsList o
-rank-as-list o (inl e) h = e
-rank-as-list o (inr w) h = by (o .form) (w .0) h
-  where
-    by : (f : Form) → countsAsList f ≡ false → hasRowNumbers f ≡ true → countsAsList f ≡ true
-    by (All n) c e = e
-    by (None n) c e = e
-    by (Words start len claimed) c e = e
-    by (Listed len) c e = refl
+pub rank-in-words : (o : Operand) → AsList o ⊎ InWords o → hasRuns (o .form) ≡ false → hasRowNumbers (o .form) ≡ false → InWords o
+rank-in-words o (inl e) d h = absurd (false≢true (sym h ∙ list-numbers (o .form) e d))
+rank-in-words o (inr w) d h = w

@@ -7,11 +7,13 @@ ghost use Rattle.rows.specs.declared.Verdict.the-variants.{Fine};
 ghost use Rattle.rows.specs.Laid.{wordsFor, written};
 ghost use Rattle.rules.specs.Operand.{lent, lengthOf};
 ghost use Rattle.rules.specs.Answer.{answered};
+ghost use Rattle.operand.specs.Counts.{Counts};
 ghost use Rattle.rules.specs.Compose.{Paired, result, routed, composed, composedOut};
 use super::judge::judge;
 use super::lay::lay_composition;
 use laid::inner::clear_last;
 use operand::inner::answers::refused;
+use operand::inner::counts::Counted;
 use operand::inner::forms::length_of;
 use rows::Verdict;
 use rules::Answer;
@@ -21,19 +23,21 @@ use rules::Form;
 // The same as whole words from the start on.
 fn compose_accepted(
     factors: Factors,
-    s: Form,
+    s: Counted,
     swords: &[u64],
     srows: &[u32],
-    r: Form,
+    r: Counted,
     rwords: &[u64],
     rrows: &[u32],
     out: &mut [u64],
 ) -> Answer
-    requires { ⌜ Paired (lent s (now swords) (now srows)) (lent r (now rwords) (now rrows)) × (wordsFor (lengthOf s) ≤ length (now out)) ⌝ }
-    ensures { λ a. ⌜ (a ≡ answered Fine (result (lent s (now (swords .entry)) (now (srows .entry))) (lent r (now (rwords .entry)) (now (rrows .entry)))) (routed factors (lent s (now (swords .entry)) (now (srows .entry))) (lent r (now (rwords .entry)) (now (rrows .entry)))))
-        × (now (out .exit) ≡ written (lengthOf s) (result (lent s (now (swords .entry)) (now (srows .entry))) (lent r (now (rwords .entry)) (now (rrows .entry)))) (now (out .entry))) ⌝ }
+    requires { ⌜ Paired (lent (s .form) (now swords) (now srows)) (lent (r .form) (now rwords) (now rrows))
+        × Counts s (now swords) (now srows) × Counts r (now rwords) (now rrows) × (wordsFor (lengthOf (s .form)) ≤ length (now out)) ⌝ }
+    ensures { λ a. ⌜ (a ≡ answered Fine (result (lent (s .form) (now (swords .entry)) (now (srows .entry))) (lent (r .form) (now (rwords .entry)) (now (rrows .entry)))) (routed factors (lent (s .form) (now (swords .entry)) (now (srows .entry))) (lent (r .form) (now (rwords .entry)) (now (rrows .entry)))))
+        × (now (out .exit) ≡ written (lengthOf (s .form)) (result (lent (s .form) (now (swords .entry)) (now (srows .entry))) (lent (r .form) (now (rwords .entry)) (now (rrows .entry)))) (now (out .entry))) ⌝ }
 {
-    clear_last(out, length_of(s));
+    let form = s.form;
+    clear_last(out, length_of(form));
     lay_composition(factors, s, swords, srows, r, rwords, rrows, 0, out)
 }
 
@@ -51,8 +55,20 @@ pub fn compose_with(
     ensures { λ a. ⌜ (a ≡ composed factors (lent s (now (swords .entry)) (now (srows .entry))) (lent r (now (rwords .entry)) (now (rrows .entry))) (now (out .entry)))
         × (now (out .exit) ≡ composedOut (lent s (now (swords .entry)) (now (srows .entry))) (lent r (now (rwords .entry)) (now (rrows .entry))) (now (out .entry))) ⌝ }
 {
-    match judge(s, swords, srows, r, rwords, rrows, out.len() as u64) {
+    let judged = judge(s, swords, srows, r, rwords, rrows, out.len() as u64);
+    let verdict = judged.verdict;
+    match verdict {
         Verdict::Refused(refusal) => refused(refusal),
-        Verdict::Fine => compose_accepted(factors, s, swords, srows, r, rwords, rrows, out),
+        Verdict::Fine => {
+            let own = Counted {
+                form: s,
+                count: judged.rows,
+            };
+            let ranked = Counted {
+                form: r,
+                count: judged.ranks,
+            };
+            compose_accepted(factors, own, swords, srows, ranked, rwords, rrows, out)
+        }
     }
 }
