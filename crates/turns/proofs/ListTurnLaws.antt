@@ -3,16 +3,20 @@
 -- Assumes nothing.
 use Prim.Native.Nat.{ℕ, zero, suc, _+_, _*_, _≤_, _<_}
 use native.Mathlib.Nat.{zero-add}
-use mathlib.Core.Path.{_≡_, refl, sym, ap, _∙_}
+use native.Mathlib.Numerals.{add-one}
+use mathlib.Core.Path.{_≡_, refl, sym, ap, ap₂, _∙_}
 use mathlib.Core.Logic.{_≢_}
 use mathlib.Core.Bool.{Bool, true, false}
 use mathlib.Core.List.{List, [], _∷_, _++_}
 use native.Mathlib.Omega.{arith}
 use lib.Dec.{eqb}
-use lib.ListN.{length, length-append}
-use Rattle.rows.specs.Lists.{listed, Ascending, setRows}
+use lib.ListN.{length, drop, getD, length-append, drop-of-length-le}
+use lib.Seq.{drop-cons}
+use Rattle.rows.specs.Lists.{member, listed, Ascending, setRows}
 use Rattle.rows.specs.Runs.{turns, runsOf}
-use Rattle.rows.proofs.ListLaws.{eqb-same, eqb-other, rows-listed, rows-ascending}
+use Rattle.rows.proofs.RowLaws.{count-le-length}
+use Rattle.rows.proofs.ListLaws.{eqb-same, eqb-other, tab-length, rows-listed, rows-ascending, listed-count}
+use Rattle.rows.proofs.MarkLaws.{ascending-below, below-at}
 use Rattle.turns.specs.Gaps.{unless, between}
 
 -- from a run on that the row before `past` is in
@@ -67,3 +71,38 @@ gaps-few past (r ∷ rs) = omega (arith, length-append (between past r) (gaps (s
 pub turns-few : (rs : List ℕ) → length (listTurns rs) ≤ length rs * 2
 turns-few [] = omega arith
 turns-few (r ∷ rs) = omega (arith, gaps-few (suc r) rs)
+
+pub list-short : (len : ℕ) (rs : List ℕ) → Ascending 0 len rs → length rs ≤ len
+list-short len rs a = omega (arith, listed-count len rs a, count-le-length (listed len rs), tab-length 0 len (λ i. member i rs))
+
+pub list-below : (len : ℕ) (rs : List ℕ) (i : ℕ) → Ascending 0 len rs → i < length rs → getD rs i 0 < len
+list-below len rs i a h = below-at len rs i (ascending-below 0 len rs a) h
+
+-- ---- entry after entry
+
+pub turns-first : (rs : List ℕ) → 0 < length rs → listTurns rs ≡ getD rs 0 0 ∷ gaps (getD rs 0 0 + 1) (drop 1 rs)
+turns-first [] h = absurd (omega arith)
+turns-first (r ∷ rs) h = ap (λ (p : ℕ). r ∷ gaps p rs) (sym (add-one r))
+
+pub gaps-next : (past i : ℕ) (rs : List ℕ) → i < length rs
+    → gaps past (drop i rs) ≡ between past (getD rs i 0) ++ gaps (getD rs i 0 + 1) (drop (i + 1) rs)
+gaps-next past i rs h =
+    let r : ℕ = getD rs i 0 in
+    ap (gaps past) (drop-cons rs i 0 h) ∙ ap₂ (λ (p k : ℕ). between past r ++ gaps p (drop k rs)) (sym (add-one r)) (sym (add-one i))
+
+pub gaps-end : (past i : ℕ) (rs : List ℕ) → length rs ≤ i → gaps past (drop i rs) ≡ past ∷ []
+gaps-end past i rs h = ap (gaps past) (drop-of-length-le rs {i = i} h)
+
+-- ---- between an entry and the next
+
+pub between-none : (past row : ℕ) → row ≡ past → between past row ≡ []
+between-none past row e = ap (λ (b : Bool). unless b (past ∷ row ∷ [])) (ap (λ (k : ℕ). eqb k past) e ∙ eqb-same past)
+
+pub between-two : (past row : ℕ) → row ≢ past → between past row ≡ past ∷ row ∷ []
+between-two past row ne = ap (λ (b : Bool). unless b (past ∷ row ∷ [])) (eqb-other row past ne)
+
+pub count-next : (sum past i : ℕ) (rs : List ℕ) → i < length rs
+    → sum + length (gaps past (drop i rs)) ≡ sum + length (between past (getD rs i 0)) + length (gaps (getD rs i 0 + 1) (drop (i + 1) rs))
+count-next sum past i rs h =
+    let r : ℕ = getD rs i 0 in
+    omega (arith, ap length (gaps-next past i rs h), length-append (between past r) (gaps (r + 1) (drop (i + 1) rs)))
