@@ -118,3 +118,38 @@ pub fn count_list_turns(rows: &[u32], len: u64) -> u64
     }
     sum + 1
 }
+
+// What stands between an entry and the next, from entry k of out on; the entry after it.
+fn write_gap(past: u32, row: u32, k: usize, out: &mut [u32]) -> usize
+    requires { ⌜ k + length (between past row) ≤ length (now out) ⌝ }
+    ensures { λ r. ⌜ (r ≡ k + length (between past row)) × (now (out .exit) ≡ splice k (now (out .entry)) (between past row)) ⌝ }
+{
+    if row == past {
+        return k;
+    }
+    out[k] = past;
+    out[k + 1] = row;
+    k + 2
+}
+
+// The runs of a list of row numbers, over the front of out; later entries stay.
+pub fn write_list_turns(rows: &[u32], len: u64, out: &mut [u32])
+    requires { ⌜ (len ≤ 1048576) × Ascending 0 len (now rows) × (length (runsOf (listed len (now rows))) ≤ length (now out)) ⌝ }
+    ensures { λ _. ⌜ now (out .exit) ≡ splice 0 (now (out .entry)) (runsOf (listed len (now (rows .entry)))) ⌝ }
+{
+    if rows.len() == 0 {
+        return;
+    }
+    let first = rows[0];
+    out[0] = first;
+    let mut past = first + 1;
+    let mut k: usize = 1;
+    let mut i: usize = 1;
+    while i < rows.len() {
+        let row = rows[i];
+        k = write_gap(past, row, k, out);
+        past = row + 1;
+        i += 1;
+    }
+    out[k] = past;
+}

@@ -1,6 +1,6 @@
 -- `turns::inner::count_list_turns` meets its contract.
 -- The invariant: what is counted and what is left, from the row past the last entry that was passed, are all. Assumes nothing.
-use Prim.Native.Nat.{ℕ, _+_, _-_, _*_, _≤_, _<_}
+use Prim.Native.Nat.{ℕ, _+_, _-_, _≤_, _<_}
 use mathlib.Core.Path.{_≡_, sym, ap, _∙_}
 use mathlib.Core.List.{List}
 use native.Mathlib.Omega.{arith}
@@ -9,7 +9,6 @@ use denote.Ref.{now}
 use borrow.Author.Needs.{needs}
 use Rattle.rows.specs.Lists.{listed}
 use Rattle.rows.specs.Runs.{runsOf}
-use Rattle.turns.specs.Gaps.{between}
 use Rattle.turns.proofs.ListTurnLaws.{gaps, listTurns, runs-listed, turns-few, list-short, list-below, turns-first, gaps-end, count-next}
 use Rattle.turns.proofs.inner.count_list_turns.Statement.{statement}
 use Rattle.turns.proofs.inner.count_list_turns.Tie as tie
