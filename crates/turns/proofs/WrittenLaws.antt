@@ -27,7 +27,7 @@ use Rattle.turns.proofs.TurnedLaws.{Counted, counted-none, carry-small,
 
 -- ---- the set bits of a word, lowest first
 
-splice-cons : (p : ℕ) (xs : List ℕ) (y : ℕ) (ys : List ℕ) → p < length xs → splice p xs (y ∷ ys) ≡ splice (suc p) (set xs p y) ys
+pub splice-cons : (p : ℕ) (xs : List ℕ) (y : ℕ) (ys : List ℕ) → p < length xs → splice p xs (y ∷ ys) ≡ splice (suc p) (set xs p y) ys
 splice-cons p [] y ys h = absurd (omega arith)
 splice-cons zero (x ∷ xs) y ys h = refl
 splice-cons (suc p) (x ∷ xs) y ys h = ap (λ (l : List ℕ). x ∷ l) (splice-cons p xs y ys (le-of-suc-le-suc h))

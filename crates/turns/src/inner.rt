@@ -8,10 +8,11 @@ ghost use denote.Ref.{now};
 ghost use Rattle.rows.specs.Rows.{count, splice};
 ghost use Rattle.rows.specs.Word.{isOne, bitsOf, wordOf};
 ghost use Rattle.rows.specs.Words.{view};
-ghost use Rattle.rows.specs.Lists.{setRows};
+ghost use Rattle.rows.specs.Lists.{listed, Ascending, setRows};
 ghost use Rattle.rows.specs.Runs.{turns, runsOf};
 ghost use Rattle.rows.specs.Edges.{edges};
 ghost use Rattle.rows.specs.Asks.{InView, Chunk};
+ghost use Rattle.turns.specs.Gaps.{between};
 use lent::inner::chunk;
 use lent::inner::chunk_len;
 use lent::inner::ones;
@@ -86,4 +87,69 @@ pub fn write_turns(words: &[u64], start: u64, len: u64, out: &mut [u32])
         row += n;
     }
     write_end(carry, len as u32, k, out);
+}
+
+// How many numbers stand between an entry of a list, past being the row after it, and the next: an end and a beginning, or none.
+fn gap(past: u32, row: u32) -> u64
+    ensures { λ r. ⌜ r ≡ length (between past row) ⌝ }
+{
+    if row == past {
+        return 0;
+    }
+    2
+}
+
+// How many numbers the runs of a list of row numbers are.
+pub fn count_list_turns(rows: &[u32], len: u64) -> u64
+    requires { ⌜ (len ≤ 1048576) × Ascending 0 len (now rows) ⌝ }
+    ensures { λ r. ⌜ r ≡ length (runsOf (listed len (now (rows .entry)))) ⌝ }
+{
+    if rows.len() == 0 {
+        return 0;
+    }
+    let mut past = rows[0] + 1;
+    let mut sum: u64 = 1;
+    let mut i: usize = 1;
+    while i < rows.len() {
+        let row = rows[i];
+        sum += gap(past, row);
+        past = row + 1;
+        i += 1;
+    }
+    sum + 1
+}
+
+// What stands between an entry and the next, from entry k of out on; the entry after it.
+fn write_gap(past: u32, row: u32, k: usize, out: &mut [u32]) -> usize
+    requires { ⌜ k + length (between past row) ≤ length (now out) ⌝ }
+    ensures { λ r. ⌜ (r ≡ k + length (between past row)) × (now (out .exit) ≡ splice k (now (out .entry)) (between past row)) ⌝ }
+{
+    if row == past {
+        return k;
+    }
+    out[k] = past;
+    out[k + 1] = row;
+    k + 2
+}
+
+// The runs of a list of row numbers, over the front of out; later entries stay.
+pub fn write_list_turns(rows: &[u32], len: u64, out: &mut [u32])
+    requires { ⌜ (len ≤ 1048576) × Ascending 0 len (now rows) × (length (runsOf (listed len (now rows))) ≤ length (now out)) ⌝ }
+    ensures { λ _. ⌜ now (out .exit) ≡ splice 0 (now (out .entry)) (runsOf (listed len (now (rows .entry)))) ⌝ }
+{
+    if rows.len() == 0 {
+        return;
+    }
+    let first = rows[0];
+    out[0] = first;
+    let mut past = first + 1;
+    let mut k: usize = 1;
+    let mut i: usize = 1;
+    while i < rows.len() {
+        let row = rows[i];
+        k = write_gap(past, row, k, out);
+        past = row + 1;
+        i += 1;
+    }
+    out[k] = past;
 }
