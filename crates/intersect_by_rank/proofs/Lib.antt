@@ -1,1 +1,2 @@
 pub mod FitsLaws
+pub mod JudgeLaws

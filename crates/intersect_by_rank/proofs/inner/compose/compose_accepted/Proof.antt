@@ -41,10 +41,10 @@ laid-out c = c .before .before
 
 module _ (c : tie.After-slice-known) where
   abbrev self : Operand
-  self = lent (entry c .args .s) (now (entry c .args .swords)) (now (entry c .args .srows))
+  self = lent (entry c .args .s .form) (now (entry c .args .swords)) (now (entry c .args .srows))
 
   abbrev rank : Operand
-  rank = lent (entry c .args .r) (now (entry c .args .rwords)) (now (entry c .args .rrows))
+  rank = lent (entry c .args .r .form) (now (entry c .args .rwords)) (now (entry c .args .rrows))
 
   abbrev rows : List Bool
   rows = result self rank
@@ -53,12 +53,12 @@ module _ (c : tie.After-slice-known) where
   out = now (entry c .args .out)
 
   abbrev len : ℕ
-  len = lengthOf (entry c .args .s)
+  len = lengthOf (entry c .args .s .form)
 
   whole : laid 0 rows (lastCleared len out) ≡ written len rows out
   whole =
       laid-written len rows out (below-all (2 ^ 64) out (λ i. c .slice-known .given i .fits))
-      (result-length self rank (entry c .pre .0)) (entry c .pre .1)
+      (result-length self rank (entry c .pre .0)) (entry c .pre .3)
 
 module _ (c : tie.After-clear-last) where
   abbrev start : tie.After-slice-known
@@ -80,13 +80,13 @@ length-of-requires : tie.Need-length-of-requires
 length-of-requires c κs = search needs
 
 clear-last-requires : tie.Need-clear-last-requires
-clear-last-requires c κs = rw (c .length-of .ensures) (entry (given c) .pre .1)
+clear-last-requires c κs = rw (c .length-of .ensures) (entry (given c) .pre .3)
 
 lay-composition-requires : tie.Need-lay-composition-requires
 lay-composition-requires c κs =
     let q = start (cleared c) in
     let p = entry q .pre in
-    (p .0, (omega (arith, p .1), omega (arith, accepted-limit (self q) (p .0 .self))))
+    (p .0, p .1, p .2, (omega (arith, p .3), omega (arith, accepted-limit (self q) (p .0 .self))))
 
 same-length : tie.Need-same-length
 same-length c = search needs

@@ -1,7 +1,7 @@
 -- `intersect_by_rank::inner::compose::compose_with` meets its contract: a refusal is answered and nothing written; else the work is done.
 -- By the verdict of its table. Assumes nothing.
 use Prim.Native.Nat.{ℕ}
-use mathlib.Core.Path.{_≡_, sym, _∙_}
+use mathlib.Core.Path.{_≡_, sym, ap, _∙_}
 use mathlib.Core.Bool.{Bool}
 use mathlib.Core.List.{List}
 use lib.ListN.{length}
@@ -16,6 +16,8 @@ use Rattle.rules.specs.Compose.{composeChecks, result, routed, composed, compos
 use Rattle.rules.proofs.AnswerLaws.{by-fine, by-refusal}
 use Rattle.rules.proofs.Compositions.{compose-fine}
 use borrow.Author.Needs.{needs}
+use Rattle.intersect_by_rank.specs.declared.inner.judge.Judged.{Judged}
+use Rattle.intersect_by_rank.proofs.JudgeLaws.{all-counts}
 use Rattle.intersect_by_rank.proofs.inner.compose.compose_with.Statement.{statement}
 use Rattle.intersect_by_rank.proofs.inner.compose.compose_with.Tie as tie
 
@@ -30,13 +32,13 @@ entry c = words-lent c .before .before
 abbrev start : tie.After-judge → tie.Start
 start c = entry (c .before)
 
-abbrev barred : tie.After-refusal → tie.After-judge
+abbrev barred : tie.After-verdict → tie.After-judge
 barred c = c .before .before
 
 abbrev passed : tie.After-enum-told → tie.After-judge
 passed c = c .before .before
 
-abbrev told : tie.After-refused → tie.After-refusal
+abbrev told : tie.After-refused → tie.After-verdict
 told c = c .before .before
 
 abbrev asked : tie.After-compose-accepted → tie.After-enum-told
@@ -71,10 +73,10 @@ module _ (c : tie.Start) where
   to = written (lengthOf (c .args .s)) rows out
 
 fine : (c : tie.After-enum-told) → verdict (start (passed c)) ≡ Fine
-fine c = sym (passed c .judge .ensures) ∙ c .enum-told .given .1
+fine c = sym (ap (λ (j : Judged). j .verdict) (passed c .judge .ensures)) ∙ c .enum-told .given .1
 
-refuses : (c : tie.After-refusal) → verdict (start (barred c)) ≡ Refused (c .refusal .given .0 .0)
-refuses c = sym (barred c .judge .ensures) ∙ c .refusal .given .1
+refuses : (c : tie.After-verdict) → verdict (start (barred c)) ≡ Refused (c .verdict .given .0 .0)
+refuses c = sym (ap (λ (j : Judged). j .verdict) (barred c .judge .ensures)) ∙ c .verdict .given .1
 
 module _ (c : tie.After-compose-accepted) where
   abbrev here : tie.Start
@@ -91,8 +93,8 @@ module _ (c : tie.After-compose-accepted) where
 judge-requires : tie.Need-judge-requires
 judge-requires c κs = search needs
 
-enum-known-refusal : tie.Need-enum-known-refusal
-enum-known-refusal c = search needs
+enum-known-verdict : tie.Need-enum-known-verdict
+enum-known-verdict c = search needs
 
 refused-requires : tie.Need-refused-requires
 refused-requires c κs = search needs
@@ -102,8 +104,11 @@ enum-told c = search needs
 
 compose-accepted-requires : tie.Need-compose-accepted-requires
 compose-accepted-requires c κs =
-    let s = start (passed (c .before)) in
-    compose-fine (self s) (rank s) (length (out s)) .0 (fine (c .before))
+    let j = passed (c .before) in
+    let s = start j in
+    let well = compose-fine (self s) (rank s) (length (out s)) .0 (fine (c .before)) in
+    let own = all-counts (self s) (rank s) (length (out s)) (fine (c .before)) in
+    (well .0, ap (λ (x : Judged). x .rows) (j .judge .ensures) ∙ own .0, ap (λ (x : Judged). x .ranks) (j .judge .ensures) ∙ own .1, well .1)
 
 returns : tie.Need-returns
 unfolding composed composedOut
@@ -128,7 +133,7 @@ compose-with-spec =
     tie.close
     (tie.spec
     judge-requires
-    enum-known-refusal
+    enum-known-verdict
     refused-requires
     enum-told
     compose-accepted-requires

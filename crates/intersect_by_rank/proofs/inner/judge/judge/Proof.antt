@@ -1,16 +1,18 @@
--- `intersect_by_rank::inner::judge::judge` meets its contract: the first part of the table that refuses is told.
+-- `intersect_by_rank::inner::judge::judge` meets its contract: the first part of the table that refuses is told, with both counts.
 -- By the law of parts in order. Assumes nothing.
 use Prim.Native.Nat.{ℕ}
-use mathlib.Core.Path.{_≡_, ap, ap₂, _∙_}
-use mathlib.Core.List.{List, [], _∷_}
+use mathlib.Core.Path.{_≡_, ap, _∙_}
+use mathlib.Core.List.{[], _∷_}
 use native.Mathlib.Decide.{ℕ-discrete, decLe}
 use denote.Ref.{now}
-use Rattle.rows.specs.Laid.{wordsFor}
-use Rattle.rows.specs.Table.{Line, first, need, inOrder}
-use Rattle.rows.proofs.TableLaws.{then-told, last-told}
-use Rattle.rules.specs.Operand.{Operand, lent, lengthOf, countOf}
-use Rattle.rules.specs.Compose.{bothChecks}
 use borrow.Author.Needs.{needs}
+use Rattle.rows.specs.declared.Verdict.{Verdict}
+use Rattle.rows.specs.Laid.{wordsFor}
+use Rattle.rows.specs.Table.{first, need, ifFine}
+use Rattle.rules.specs.Operand.{Operand, lent, lengthOf}
+use Rattle.intersect_by_rank.specs.declared.inner.judge.Judged.{Judged}
+use Rattle.intersect_by_rank.specs.Judged.{judgedBy, judgedBoth}
+use Rattle.intersect_by_rank.proofs.JudgeLaws.{told-verdict}
 use Rattle.intersect_by_rank.proofs.inner.judge.judge.Statement.{statement}
 use Rattle.intersect_by_rank.proofs.inner.judge.judge.Tie as tie
 
@@ -23,7 +25,7 @@ abbrev start : tie.After-judge-both → tie.Start
 start c = words-lent c .before .before
 
 abbrev judged : tie.After-equal → tie.After-judge-both
-judged c = c .before .before .before
+judged c = c .before .before
 
 abbrev matched : tie.After-has-room → tie.After-equal
 matched c = c .before .before .before
@@ -31,7 +33,7 @@ matched c = c .before .before .before
 abbrev roomed : tie.After-then → tie.After-has-room
 roomed c = c .before
 
--- ---- the parts
+-- ---- the operands, and the verdict of each part by what was told of both
 
 module _ (c : tie.Start) where
   abbrev self : Operand
@@ -40,43 +42,50 @@ module _ (c : tie.Start) where
   abbrev rank : Operand
   rank = lent (c .args .r) (now (c .args .rwords)) (now (c .args .rrows))
 
-  abbrev both : List Line
-  both = bothChecks self rank
+  abbrev seven : Judged → Verdict
+  seven j = first (need (ℕ-discrete (lengthOf (c .args .r)) (j .rows)) 7 0 ∷ [])
 
-  abbrev ranks : List Line
-  ranks = need (ℕ-discrete (lengthOf (c .args .r)) (countOf self)) 7 0 ∷ []
+  abbrev eight : Verdict
+  eight = first (need (decLe (wordsFor (lengthOf (c .args .s))) (c .args .room)) 8 0 ∷ [])
 
-  abbrev space : List Line
-  space = need (decLe (wordsFor (lengthOf (c .args .s))) (c .args .room)) 8 0 ∷ []
+  -- all parts in order
+  abbrev parts : Judged → Verdict
+  parts j = ifFine (j .verdict) (ifFine (seven j) eight (seven j)) (j .verdict)
 
--- ---- the verdict of each, and of the last two
-
-both-told : (c : tie.After-judge-both) → c .judge-both .result ≡ first (both (start c))
-both-told c = c .judge-both .ensures
+  abbrev told : Judged → Verdict → Judged
+  told j v = record { verdict = v; rows = j .rows; ranks = j .ranks }
 
 module _ (c : tie.After-equal) where
   abbrev asked : tie.Start
   asked = start (judged c)
 
-  ranks-told : c .equal .result ≡ first (ranks asked)
-  ranks-told =
-      c .equal .ensures
-      ∙ ap₂ (λ (x y : ℕ). first (need (ℕ-discrete x y) 7 0 ∷ [])) (c .before .before .length-of .ensures) (c .before .count-of .ensures)
+  ranks-told : c .equal .result ≡ seven asked (judged c .judge-both .result)
+  ranks-told = c .equal .ensures ∙ ap (λ (x : ℕ). first (need (ℕ-discrete x (judged c .judge-both .result .rows)) 7 0 ∷ [])) (c .before .length-of .ensures)
 
 module _ (c : tie.After-has-room) where
   abbrev here : tie.Start
   here = asked (matched c)
 
-  space-told : c .has-room .result ≡ first (space here)
+  space-told : c .has-room .result ≡ eight here
   space-told =
       c .has-room .ensures
       ∙ ap (λ (n : ℕ). first (need (decLe n (here .args .room)) 8 0 ∷ []))
       (c .before .words-for .ensures ∙ ap wordsFor (c .before .before .length-of2 .ensures))
 
-joined : (c : tie.After-then) → c .then .result ≡ first (inOrder (ranks (here (roomed c)) ∷ space (here (roomed c)) ∷ []))
-joined c =
-    let s = here (roomed c) in
-    then-told (ranks s) (space s) [] (c .then .ensures) (ranks-told (matched (roomed c))) (last-told (space s) (space-told (roomed c)))
+module _ (c : tie.After-then) where
+  abbrev begun : tie.Start
+  begun = here (roomed c)
+
+  abbrev both : Judged
+  both = judged (matched (roomed c)) .judge-both .result
+
+  joined : c .then .result ≡ ifFine (seven begun both) (eight begun) (seven begun both)
+  joined =
+      let seventh = ranks-told (matched (roomed c)) in
+      c .then .ensures ∙ (λ i. ifFine (seventh i) (space-told (roomed c) i) (seventh i))
+
+  both-told : both ≡ judgedBoth (self begun) (rank begun)
+  both-told = judged (matched (roomed c)) .judge-both .ensures
 
 -- ---- the answers
 
@@ -85,9 +94,6 @@ judge-both-requires c κs = search needs
 
 length-of-requires : tie.Need-length-of-requires
 length-of-requires c κs = search needs
-
-count-of-requires : tie.Need-count-of-requires
-count-of-requires c κs = search needs
 
 equal-requires : tie.Need-equal-requires
 equal-requires c κs = search needs
@@ -109,9 +115,13 @@ then-requires-2 c κs = search needs
 
 returns : tie.Need-returns
 returns c =
-    let j = c .before in
-    let s = here (roomed j) in
-    then-told (both s) (ranks s) (space s ∷ []) (c .then2 .ensures) (both-told (judged (matched (roomed j)))) (joined j)
+    let k = c .before in
+    let j = both k in
+    let s = begun k in
+    let all = c .then2 .ensures ∙ ap (λ (v : Verdict). ifFine (j .verdict) v (j .verdict)) (joined k) in
+    ap (told s j) all
+    ∙ ap (λ (x : Judged). told s x (parts s x)) (both-told k)
+    ∙ ap (λ (v : Verdict). judgedBy v (self s) (rank s)) (told-verdict (self s) (rank s) (s .args .room))
 
 pub judge-spec : {M : Type 1} → statement M
 judge-spec =
@@ -119,7 +129,6 @@ judge-spec =
     (tie.spec
     judge-both-requires
     length-of-requires
-    count-of-requires
     equal-requires
     length-of-requires-2
     words-for-requires

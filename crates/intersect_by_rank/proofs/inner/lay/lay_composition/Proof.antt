@@ -6,12 +6,11 @@ use lib.ListN.{length}
 use denote.Ref.{now}
 use Rattle.rows.specs.Rows.{count}
 use Rattle.rules.specs.declared.Route.{Route}
-use Rattle.rules.specs.Operand.{Operand, lent}
+use Rattle.rules.specs.Operand.{Operand, lent, countOf}
 use Rattle.rules.specs.Answer.{accepted}
 use Rattle.rules.specs.Compose.{Paired, result, routed}
-use Rattle.rules.specs.Route.{routeOf, numberOf}
+use Rattle.rules.specs.Route.{routeBy, routeOf, numberOf}
 use Rattle.rules.proofs.OperandLaws.{accepted-limit, accepted-few}
-use Rattle.rules.proofs.RouteLaws.{route-by-numbers}
 use Rattle.rules.proofs.ComposeLaws.{result-length, result-count}
 use Rattle.intersect_by_rank.specs.Fits.{Fits}
 use Rattle.intersect_by_rank.proofs.FitsLaws.{route-fits}
@@ -30,14 +29,11 @@ entry c = words-lent c .before .before
 abbrev start : tie.After-choose-route → tie.Start
 start c = entry (c .before)
 
-abbrev route : tie.After-compose-at → tie.After-choose-route
+abbrev route : tie.After-lay-by-route → tie.After-choose-route
 route c = c .before .before
 
-abbrev laid : tie.After-count-of → tie.After-compose-at
+abbrev laid : tie.After-number → tie.After-lay-by-route
 laid c = c .before .before .before
-
-abbrev counted : tie.After-number → tie.After-count-of
-counted c = c .before
 
 abbrev numbered : tie.After-length-of → tie.After-number
 numbered c = c .before
@@ -46,10 +42,10 @@ numbered c = c .before
 
 module _ (c : tie.Start) where
   abbrev self : Operand
-  self = lent (c .args .s) (now (c .args .swords)) (now (c .args .srows))
+  self = lent (c .args .s .form) (now (c .args .swords)) (now (c .args .srows))
 
   abbrev rank : Operand
-  rank = lent (c .args .r) (now (c .args .rwords)) (now (c .args .rrows))
+  rank = lent (c .args .r .form) (now (c .args .rwords)) (now (c .args .rrows))
 
 module _ (c : tie.After-choose-route) where
   abbrev s : Operand
@@ -61,18 +57,24 @@ module _ (c : tie.After-choose-route) where
   abbrev both : Paired s r
   both = start c .pre .0
 
+  own : start c .args .s .count ≡ countOf s
+  own = start c .pre .1
+
+  ranked : start c .args .r .count ≡ countOf r
+  ranked = start c .pre .2
+
   chosen : c .choose-route .result ≡ routeOf (start c .args .factors) s r
-  chosen = c .choose-route .ensures ∙ route-by-numbers (start c .args .factors) s r
+  chosen = c .choose-route .ensures ∙ (λ i. routeBy (start c .args .factors) (s .form) (own i) (r .form) (ranked i))
 
   fits : Fits (c .choose-route .result) s r
   fits = subst (λ (x : Route). Fits x s r) (sym chosen) (route-fits s r (start c .args .factors))
 
 module _ (c : tie.After-length-of) where
   abbrev here : tie.After-choose-route
-  here = route (laid (counted (numbered c)))
+  here = route (laid (numbered c))
 
-  count-told : counted (numbered c) .count-of .result ≡ count (result (s here) (r here))
-  count-told = counted (numbered c) .count-of .ensures ∙ sym (result-count (s here) (r here) (both here))
+  count-told : start here .args .r .count ≡ count (result (s here) (r here))
+  count-told = ranked here ∙ sym (result-count (s here) (r here) (both here))
 
   route-told : numbered c .number .result ≡ routed (start here .args .factors) (s here) (r here)
   route-told = numbered c .number .ensures ∙ ap numberOf (chosen here)
@@ -85,15 +87,12 @@ module _ (c : tie.After-length-of) where
 choose-route-requires : tie.Need-choose-route-requires
 choose-route-requires c κs =
     let e = entry c in
-    (accepted-few (self e) (e .pre .0 .self), accepted-few (rank e) (e .pre .0 .rank))
+    (omega (arith, e .pre .1, accepted-few (self e) (e .pre .0 .self)), omega (arith, e .pre .2, accepted-few (rank e) (e .pre .0 .rank)))
 
-compose-at-requires : tie.Need-compose-at-requires
-compose-at-requires c κs =
+lay-by-route-requires : tie.Need-lay-by-route-requires
+lay-by-route-requires c κs =
     let q = c .before in
-    (both q, fits q, start q .pre .1)
-
-count-of-requires : tie.Need-count-of-requires
-count-of-requires c κs = search needs
+    (both q, fits q, start q .pre .3)
 
 number-requires : tie.Need-number-requires
 number-requires c κs = search needs
@@ -104,10 +103,9 @@ length-of-requires c κs = search needs
 accepted-requires : tie.Need-accepted-requires
 accepted-requires c κs =
     let q = here c in
-    let n = counted (numbered c) .count-of .ensures in
     -- both counts, so that the wrong one is refused at what it tells
     (
-      omega (arith, n, accepted-few (r q) (both q .rank), accepted-few (s q) (both q .self)),
+      omega (arith, own q, ranked q, accepted-few (r q) (both q .rank), accepted-few (s q) (both q .self)),
       omega (arith, c .length-of .ensures, accepted-limit (s q) (both q .self)),
     )
 
@@ -118,7 +116,7 @@ returns : tie.Need-returns
 returns c =
     let n = c .before in (
       c .accepted .ensures ∙ (λ i. accepted (count-told n i) (route-told n i) (length-told n i)),
-      laid (counted (numbered n)) .compose-at .ensures,
+      laid (numbered n) .lay-by-route .ensures,
     )
 
 pub lay-composition-spec : {M : Type 1} → statement M
@@ -126,8 +124,7 @@ lay-composition-spec =
     tie.close
     (tie.spec
     choose-route-requires
-    compose-at-requires
-    count-of-requires
+    lay-by-route-requires
     number-requires
     length-of-requires
     accepted-requires
