@@ -1,16 +1,17 @@
 // Where a row or a rank becomes a bit of lent words. The struct in the signature says in which book the number is kept, and nowhere else is one
 // added to a start or to the output's first bit.
 ghost use mathlib.Core.Path.{_≡_};
-ghost use mathlib.Core.Bool.{true};
+ghost use mathlib.Core.Bool.{true, false};
 ghost use mathlib.Core.List.{[], _∷_};
 ghost use Prim.Native.Nat.{_+_, _*_, _^_, _≤_, _<_};
-ghost use lib.ListN.{length, drop};
+ghost use lib.ListN.{length, drop, replicate};
 ghost use denote.Ref.{now};
 ghost use Rattle.rows.specs.Word.{bitsOf, wordOf};
 ghost use Rattle.rows.specs.Words.{fit, bitsOfAll, view};
 ghost use Rattle.rows.specs.Laid.{laid};
 ghost use Rattle.rows.specs.Asks.{Room, Chunk};
 ghost use Rattle.books.specs.Chunks.{chunkAt};
+use laid::inner::clear;
 use laid::inner::put;
 use laid::inner::set_bit;
 use lent::inner::chunk;
@@ -74,6 +75,14 @@ pub fn put_rows(out: &mut [u64], at: u64, row: Row, n: u64, bits: u64)
     ensures { λ _. ⌜ now (out .exit) ≡ laid (at + row .0) (bitsOf n bits) (now (out .entry)) ⌝ }
 {
     put(out, at + row.0, n, bits);
+}
+
+// Zeros over the output from a row on, n of them; row 0 is at bit at.
+pub fn clear_rows(out: &mut [u64], at: u64, row: Row, n: u64)
+    requires { ⌜ Room (at + row .0) n (now out) ⌝ }
+    ensures { λ _. ⌜ now (out .exit) ≡ laid (at + row .0) (replicate n false) (now (out .entry)) ⌝ }
+{
+    clear(out, at + row.0, n);
 }
 
 // A row marked in the output; row 0 is at bit at.
