@@ -23,6 +23,7 @@ use Rattle.rows.proofs.ListLaws.{eqb-same}
 use Rattle.rules.specs.declared.Form.{Form}
 use Rattle.rules.specs.declared.Form.the-variants.{All, None, Words, List as Listed, Runs}
 use Rattle.rules.specs.declared.Factors.{Factors}
+use Rattle.rules.specs.declared.Route.{Route}
 use Rattle.rules.specs.declared.Route.the-variants.{RankMask, SelfMask, NoRows, EntryAtRank, EntryIfSet, MaskDriven, Gathered, Read}
 use Rattle.rules.specs.Operand.{Operand, lent, rowsOf, lengthOf, countBy, countOf, empty, full, countsAsList, checksBy, rowsBy, Accepted}
 use Rattle.rules.specs.Route.{routeOf, routeBy, wayBy}
@@ -31,7 +32,7 @@ use Rattle.rules.proofs.OperandLaws.{accepted-length, accepted-count, words-rea
 use Rattle.rules.proofs.ComposeLaws.{ranks-length}
 use Rattle.operand.specs.Flat.{hasRowNumbers, hasRuns, startOf}
 use Rattle.operand.proofs.NumberLaws.{accepted-list, list-numbers, list-rows, accepted-runs, runs-rows}
-use Rattle.intersect_by_rank.specs.Fits.{AsList, InWords, Fits}
+use Rattle.intersect_by_rank.specs.Fits.{AsList, InWords, Fits, keepsRuns}
 
 -- ---- the chosen route's line fits, whatever the factors are
 
@@ -190,3 +191,14 @@ module _ (s r : Operand) (p : Paired s r) where
 pub rank-in-words : (o : Operand) → AsList o ⊎ InWords o → hasRuns (o .form) ≡ false → hasRowNumbers (o .form) ≡ false → InWords o
 rank-in-words o (inl e) d h = absurd (false≢true (sym h ∙ list-numbers (o .form) e d))
 rank-in-words o (inr w) d h = w
+
+-- runs that are kept are runs
+pub kept-runs : (q : Route) (f : Form) → keepsRuns q f ≡ true → hasRuns f ≡ true
+kept-runs RankMask f e = absurd (false≢true e)
+kept-runs SelfMask f e = absurd (false≢true e)
+kept-runs NoRows f e = absurd (false≢true e)
+kept-runs EntryAtRank f e = e
+kept-runs EntryIfSet f e = e
+kept-runs MaskDriven f e = e
+kept-runs (Gathered way) f e = e
+kept-runs (Read way) f e = e

@@ -2,8 +2,8 @@
 -- What the line of the route says is what its kernel asks for, and gives the composition. Assumes nothing.
 use Prim.Native.Nat.{ℕ, _+_, _*_, _≤_}
 use mathlib.Core.Path.{_≡_, sym, ap, ap₂, _∙_, subst}
-use mathlib.Core.Bool.{Bool, false}
-use mathlib.Core.List.{List}
+use mathlib.Core.Bool.{Bool, true, false}
+use mathlib.Core.List.{List, []}
 use native.Mathlib.Omega.{arith}
 use lib.ListN.{length, drop, replicate}
 use denote.Ref.{now}
@@ -13,14 +13,15 @@ use Rattle.rows.specs.Lists.{listed, Ascending}
 use Rattle.rows.specs.Laid.{laid}
 use Rattle.rows.specs.Asks.{InView, Room}
 use Rattle.rules.specs.declared.Route.{Route}
-use Rattle.rules.specs.declared.Route.the-variants.{NoRows, EntryAtRank, EntryIfSet}
-use Rattle.rules.specs.Operand.{Operand, lent, rowsOf, lengthOf}
+use Rattle.rules.specs.declared.Route.the-variants.{NoRows, EntryIfSet}
+use Rattle.rules.specs.Operand.{Operand, lent, rowsOf, lengthOf, countOf}
 use Rattle.rules.specs.Compose.{Paired, result}
-use Rattle.operand.specs.Flat.{startOf}
-use Rattle.intersect_by_rank.specs.Fits.{Fits, AsList, InWords}
+use Rattle.operand.specs.Flat.{hasRowNumbers, startOf}
+use Rattle.operand.proofs.NumberLaws.{list-numbers}
+use Rattle.intersect_by_rank.specs.Fits.{Fits, AsList, InWords, keepsRuns}
 use Rattle.intersect_by_rank.proofs.FitsLaws.{in-words, by-full-self, full-length, by-full-rank, by-empty}
 use Rattle.intersect_by_rank.proofs.FitsLaws.{words-ascends, words-listed, words-read}
-use Rattle.intersect_by_rank.proofs.FitsLaws.{list-ascends, list-length, list-ranks, list-listed, list-read}
+use Rattle.intersect_by_rank.proofs.FitsLaws.{alone-accepted, alone-ranks, alone-listed, alone-read}
 use Rattle.intersect_by_rank.proofs.inner.lay.compose_at.Statement.{statement}
 use Rattle.intersect_by_rank.proofs.inner.lay.compose_at.Tie as tie
 use borrow.Author.Needs.{needs}
@@ -57,13 +58,13 @@ no-rows-laid c = c .before .before
 abbrev at-rank : tie.After-enum-told4 → tie.After-start-of2
 at-rank c = c .before .before
 
-abbrev at-rank-laid : tie.After-slice-known5 → tie.After-lay-entry-at-rank
+abbrev at-rank-laid : tie.After-slice-known5 → tie.After-lay-at-ranks
 at-rank-laid c = c .before .before
 
 abbrev if-set : tie.After-enum-told5 → tie.After-start-of2
 if-set c = c .before .before
 
-abbrev if-set-laid : tie.After-slice-known6 → tie.After-lay-entry-if-set
+abbrev if-set-laid : tie.After-slice-known6 → tie.After-lay-if-set
 if-set-laid c = c .before .before
 
 abbrev driven : tie.After-enum-told6 → tie.After-start-of2
@@ -102,6 +103,9 @@ module _ (c : tie.Start) where
   -- the line of the route that the match tells
   line : {route : Route} → c .args .route ≡ route → Fits route self rank
   line e = subst (λ (q : Route). Fits q self rank) e (c .pre .1)
+
+  bare : {route : Route} → c .args .route ≡ route → keepsRuns route (c .args .r) ≡ false
+  bare e = subst (λ (q : Route). keepsRuns q (c .args .r) ≡ false) e (c .pre .3)
 
   -- the rows laid there are these
   laid-as : (rows : List Bool) {o : List ℕ} → o ≡ laid (c .args .at) rows (now (c .args .out)) → rows ≡ result self rank
@@ -144,36 +148,28 @@ module _ (c : tie.After-start-of2) where
 cleared : (c : tie.After-start-of2) → Fits NoRows (s c) (r c) → replicate (len c) false ≡ result (s c) (r c)
 cleared c f = ap (λ (k : ℕ). replicate k false) (long c) ∙ by-empty (s c) (r c) (both c) f
 
--- self a list
+-- self a list, or runs
 module _ (c : tie.After-start-of2) where
-  abbrev rows : List ℕ
-  rows = s c .numbers
+  -- self without its words
+  abbrev alone : Operand
+  alone = lent (s c .form) [] (s c .numbers)
 
   abbrev rows-at-rank : List Bool
-  rows-at-rank = compose (listed (len c) rows) (listed (length rows) (r c .numbers))
+  rows-at-rank = compose (rowsOf alone) (listed (countOf alone) (r c .numbers))
 
   abbrev rows-if-set : List Bool
-  rows-if-set = compose (listed (len c) rows) (drop (from c) (bitsOfAll 64 (r c .words)))
+  rows-if-set = compose (rowsOf alone) (drop (from c) (bitsOfAll 64 (r c .words)))
 
   module _ (l : AsList (s c)) where
-    ascends : Ascending 0 (len c) rows
-    ascends = subst (λ (k : ℕ). Ascending 0 k rows) (sym (long c)) (list-ascends (s c) (r c) (both c) l)
-
-    reach : InWords (r c) → (length rows ≤ 1048576) × (from c + length rows ≤ length (r c .words) * 64)
+    reach : InWords (r c) → (from c ≤ 63) × (from c + countOf alone ≤ length (r c .words) * 64)
     reach v =
         let m = in-words (r c) v (both c .rank) .inView in
-        let n = list-length (s c) (r c) (both c) l in
-        (omega (arith, n, m .0), omega (arith, n, rank-from c, m .2))
-
-    by-rank : AsList (r c) → rows-at-rank ≡ result (s c) (r c)
-    by-rank e =
-        ap (λ (k : ℕ). compose (listed k rows) (listed (length rows) (r c .numbers))) (long c)
-        ∙ list-listed (s c) (r c) (both c) l e
+        (omega (arith, rank-from c, m .1), omega (arith, both c .ranks, rank-from c, m .2))
 
     by-bit : InWords (r c) → rows-if-set ≡ result (s c) (r c)
     by-bit v =
-        ap₂ (λ (k n : ℕ). compose (listed k rows) (drop n (bitsOfAll 64 (r c .words)))) (long c) (rank-from c)
-        ∙ list-read (s c) (r c) (both c) l v
+        ap (λ (n : ℕ). compose (rowsOf alone) (drop n (bitsOfAll 64 (r c .words)))) (rank-from c)
+        ∙ alone-read (s c) (r c) (both c) l v
 
 -- self in words
 module _ (c : tie.After-start-of2) where
@@ -195,12 +191,12 @@ module _ (c : tie.After-start-of2) where
         let v = in-words (s c) w (both c .self) .inView in
         (omega (arith, long c, v .0), omega (arith, self-from c, v .1), omega (arith, long c, self-from c, v .2))
 
-    ranks-ascend : AsList (r c) → Ascending 0 ranks (r c .numbers)
+    ranks-ascend : hasRowNumbers (r c .form) ≡ true → Ascending 0 ranks (r c .numbers)
     ranks-ascend e =
         let same = ap₂ (λ (k n : ℕ). count (shown k n)) (sym (self-from c)) (sym (long c)) in
         subst (λ (k : ℕ). Ascending 0 k (r c .numbers)) same (words-ascends (s c) (r c) (both c) w e)
 
-    by-list : AsList (r c) → rows-gathered ≡ result (s c) (r c)
+    by-list : hasRowNumbers (r c .form) ≡ true → rows-gathered ≡ result (s c) (r c)
     by-list e =
         ap₂ (λ (k n : ℕ). compose (shown k n) (listed (count (shown k n)) (r c .numbers))) (self-from c) (long c)
         ∙ words-listed (s c) (r c) (both c) w e
@@ -213,16 +209,22 @@ module _ (c : tie.After-start-of2) where
         ∙ ap (λ (n : ℕ). compose all (drop n bits)) (rank-from c)
         ∙ words-read (s c) (r c) (both c) w v
 
--- ---- the line that each arm is told
+-- ---- the line that each arm is told; a rank mask that counts as a list is one, since no runs are to be kept
 
-fits-at-rank : (c : tie.After-enum-told4) → Fits EntryAtRank (s (at-rank c)) (r (at-rank c))
-fits-at-rank c = line (start (at-rank c)) (c .enum-told4 .given .1)
+fits-at-rank : (c : tie.After-enum-told4) → AsList (s (at-rank c)) × (hasRowNumbers (r (at-rank c) .form) ≡ true)
+fits-at-rank c =
+    let q = at-rank c in
+    let f = line (start q) (c .enum-told4 .given .1) in
+    (f .0, list-numbers (r q .form) (f .1) (bare (start q) (c .enum-told4 .given .1)))
 
 fits-if-set : (c : tie.After-enum-told5) → Fits EntryIfSet (s (if-set c)) (r (if-set c))
 fits-if-set c = line (start (if-set c)) (c .enum-told5 .given .1)
 
-fits-gathered : (c : tie.After-route) → InWords (s (gathered c)) × AsList (r (gathered c))
-fits-gathered c = line (start (gathered c)) (c .route .given .1)
+fits-gathered : (c : tie.After-route) → InWords (s (gathered c)) × (hasRowNumbers (r (gathered c) .form) ≡ true)
+fits-gathered c =
+    let q = gathered c in
+    let f = line (start q) (c .route .given .1) in
+    (f .0, list-numbers (r q .form) (f .1) (bare (start q) (c .route .given .1)))
 
 fits-read : (c : tie.After-route2) → InWords (s (read c)) × InWords (r (read c))
 fits-read c = line (start (read c)) (c .route2 .given .1)
@@ -264,20 +266,20 @@ clear-requires c κs = room (no-rows (c .before))
 enum-told-4 : tie.Need-enum-told-4
 enum-told-4 c = search needs
 
-lay-entry-at-rank-requires : tie.Need-lay-entry-at-rank-requires
-lay-entry-at-rank-requires c κs =
+lay-at-ranks-requires : tie.Need-lay-at-ranks-requires
+lay-at-ranks-requires c κs =
     let q = at-rank (c .before) in
     let f = fits-at-rank (c .before) in
-    (ascends q (f .0), list-ranks (s q) (r q) (both q) (f .0) (f .1), room q)
+    (alone-accepted (s q) (r q) (both q) (f .0), f .0, alone-ranks (s q) (r q) (both q) (f .0) (f .1), start q .pre .2)
 
 enum-told-5 : tie.Need-enum-told-5
 enum-told-5 c = search needs
 
-lay-entry-if-set-requires : tie.Need-lay-entry-if-set-requires
-lay-entry-if-set-requires c κs =
+lay-if-set-requires : tie.Need-lay-if-set-requires
+lay-if-set-requires c κs =
     let q = if-set (c .before) in
     let f = fits-if-set (c .before) in
-    (ascends q (f .0), reach q (f .0) (f .1) .0, reach q (f .0) (f .1) .1, room q)
+    (alone-accepted (s q) (r q) (both q) (f .0), f .0, reach q (f .0) (f .1) .0, reach q (f .0) (f .1) .1, start q .pre .2)
 
 enum-told-6 : tie.Need-enum-told-6
 enum-told-6 c = search needs
@@ -285,7 +287,7 @@ enum-told-6 c = search needs
 lay-mask-driven-requires : tie.Need-lay-mask-driven-requires
 lay-mask-driven-requires c κs =
     let q = driven (c .before) in
-    (both q, line (start q) (c .before .enum-told6 .given .1), start q .pre .2)
+    (both q, line (start q) (c .before .enum-told6 .given .1), start q .pre .2, bare (start q) (c .before .enum-told6 .given .1))
 
 enum-known-route : tie.Need-enum-known-route
 enum-known-route c = search needs
@@ -345,7 +347,7 @@ returns-4 c =
     let gave = at-rank-laid c in
     let told = gave .before .before in
     let q = at-rank told in
-    laid-as (start q) (rows-at-rank q) (gave .lay-entry-at-rank .ensures) (by-rank q (fits-at-rank told .0) (fits-at-rank told .1))
+    laid-as (start q) (rows-at-rank q) (gave .lay-at-ranks .ensures) (alone-listed (s q) (r q) (both q) (fits-at-rank told .0) (fits-at-rank told .1))
 
 same-length-5 : tie.Need-same-length-5
 same-length-5 c = search needs
@@ -355,7 +357,7 @@ returns-5 c =
     let gave = if-set-laid c in
     let told = gave .before .before in
     let q = if-set told in
-    laid-as (start q) (rows-if-set q) (gave .lay-entry-if-set .ensures) (by-bit q (fits-if-set told .0) (fits-if-set told .1))
+    laid-as (start q) (rows-if-set q) (gave .lay-if-set .ensures) (by-bit q (fits-if-set told .0) (fits-if-set told .1))
 
 same-length-6 : tie.Need-same-length-6
 same-length-6 c = search needs
@@ -399,9 +401,9 @@ compose-at-spec =
     enum-told-3
     clear-requires
     enum-told-4
-    lay-entry-at-rank-requires
+    lay-at-ranks-requires
     enum-told-5
-    lay-entry-if-set-requires
+    lay-if-set-requires
     enum-told-6
     lay-mask-driven-requires
     enum-known-route

@@ -2,7 +2,7 @@
 -- Self is in words, and the rank mask a list or in words; each has its driver. Assumes nothing.
 use Prim.Native.Nat.{ℕ, _+_, _*_, _≤_}
 use mathlib.Core.Path.{_≡_, ap, ap₂, sym, _∙_, subst}
-use mathlib.Core.Bool.{Bool}
+use mathlib.Core.Bool.{Bool, true}
 use mathlib.Core.List.{List}
 use native.Mathlib.Omega.{arith}
 use lib.ListN.{length}
@@ -14,9 +14,9 @@ use Rattle.rows.specs.Laid.{laid}
 use Rattle.rows.specs.Asks.{InView, Room}
 use Rattle.rules.specs.Operand.{Operand, lent, lengthOf}
 use Rattle.rules.specs.Compose.{Paired, result}
-use Rattle.operand.specs.Flat.{startOf}
-use Rattle.intersect_by_rank.specs.Fits.{AsList, InWords}
-use Rattle.intersect_by_rank.proofs.FitsLaws.{in-words, words-count, words-ascends, words-listed, words-words, rank-in-words, rank-as-list}
+use Rattle.operand.specs.Flat.{hasRowNumbers, startOf}
+use Rattle.intersect_by_rank.specs.Fits.{InWords}
+use Rattle.intersect_by_rank.proofs.FitsLaws.{in-words, words-count, words-ascends, words-listed, words-words, rank-in-words}
 use borrow.Author.Needs.{needs}
 use Rattle.intersect_by_rank.proofs.inner.lay.lay_mask_driven.Statement.{statement}
 use Rattle.intersect_by_rank.proofs.inner.lay.lay_mask_driven.Tie as tie
@@ -96,8 +96,8 @@ module _ (c : tie.Then1) where
   abbrev listing : tie.After-has-row-numbers
   listing = c .before
 
-  listed-rank : AsList (rank listing)
-  listed-rank = rank-as-list (rank listing) (start listing .pre .1 .1) (sym (listing .has-row-numbers .ensures) ∙ c .if1 .taken)
+  listed-rank : hasRowNumbers (rank listing .form) ≡ true
+  listed-rank = sym (listing .has-row-numbers .ensures) ∙ c .if1 .taken
 
   ascends : Ascending 0 (count (shown listing (first listing) (len listing))) (rank listing .numbers)
   ascends =
@@ -125,7 +125,7 @@ module _ (c : tie.After-length-of2) where
   from = c .before .start-of2 .result
 
   worded-rank : InWords (rank reading)
-  worded-rank = rank-in-words (rank reading) (start reading .pre .1 .1) (sym (reading .has-row-numbers .ensures) ∙ by-words c .if1 .left)
+  worded-rank = rank-in-words (rank reading) (start reading .pre .1 .1) (start reading .pre .3) (sym (reading .has-row-numbers .ensures) ∙ by-words c .if1 .left)
 
   counted : ranks ≡ count (shown reading (first reading) (len reading))
   counted = c .length-of2 .ensures ∙ words-count (self reading) (rank reading) (both reading) (worded reading) ∙ same-count reading
