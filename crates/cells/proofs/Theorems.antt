@@ -20,7 +20,7 @@ use Rattle.rules.specs.Stream.{Pair, pairOf, judged, fedBy, outBy}
 use Rattle.cells.specs.declared.Given.{Given}
 use Rattle.cells.specs.declared.Given.the-variants.{Bad}
 use Rattle.cells.specs.declared.Told.{Told}
-use Rattle.cells.specs.Probe.{AnswerCells, cells, enough, ready, tells, Memory, Done, does, fedTold, given, formOf, ifGood, ifBoth, toWordsDone, toListDone, composeDone, setsDone, feedDone}
+use Rattle.cells.specs.Probe.{AnswerCells, cells, enough, ready, tells, Memory, Done, does, fedTold, given, formOf, ifGood, ifBoth, toWordsDone, toListDone, toRunsDone, composeDone, setsDone, feedDone}
 
 -- ---- where `ans` has fewer than 16 cells or `den` fewer than 1, the call does nothing at all
 
@@ -60,19 +60,19 @@ tells-written t l h k = rw (has-room l h k) record { told = refl; density = refl
 pub does-written : (d : Done) (m : Memory) → 16 ≤ length (m .answer .ans) → 1 ≤ length (m .answer .den) → Leaves (d .told) (m .answer) (does d m .answer) × (does d m .out ≡ d .out)
 does-written d m h k = rw (has-room (m .answer) h k) (record { told = refl; density = refl; rest = refl; others = refl }, refl)
 
--- ---- a form that is none of the four, in either operand: 99 in cell 0, 0 in all others, density 0.0, and no other memory changes
+-- ---- a form that is none of the five, in either operand: 99 in cell 0, 0 in all others, density 0.0, and no other memory changes
 
 pub record Bads (out : List ℕ) (d : Done) : Type 0 where
   pub told : cells (d .told) ≡ 99 ∷ replicate 15 0
   pub density : d .told .density ≡ noDensity
   pub stays : d .out ≡ out
 
-pub bad-form : (kind length start claimed : ℕ) (ws es : List ℕ) → 3 < kind → given (formOf kind length start claimed) ws es ≡ none
+pub bad-form : (kind length start claimed : ℕ) (ws es : List ℕ) → 4 < kind → given (formOf kind length start claimed) ws es ≡ none
 unfolding formOf
 bad-form kind length start claimed ws es h = ap (λ (g : Given). given g ws es) bad
   where
     bad : formOf kind length start claimed ≡ Bad
-    bad = rw (ne-eqb kind 0 (λ e. omega arith), ne-eqb kind 1 (λ e. omega arith), ne-eqb kind 2 (λ e. omega arith), ne-eqb kind 3 (λ e. omega arith))
+    bad = rw (ne-eqb kind 0 (λ e. omega arith), ne-eqb kind 1 (λ e. omega arith), ne-eqb kind 2 (λ e. omega arith), ne-eqb kind 3 (λ e. omega arith), ne-eqb kind 4 (λ e. omega arith))
 
 one-bad : (a : Option Operand) (call : Operand → Done) (out : List ℕ) → a ≡ none → Bads out (ifGood a call out)
 one-bad a call out e = rw e record { told = refl; density = refl; stays = refl }
@@ -91,6 +91,9 @@ module _ (a : Option Operand) (out : List ℕ) (e : a ≡ none) where
 
   pub to-list-bad : Bads out (toListDone a out)
   to-list-bad = one-bad a _ out e
+
+  pub to-runs-bad : Bads out (toRunsDone a out)
+  to-runs-bad = one-bad a _ out e
 
 -- also in one that the call ignores, as not does its second
 module _ (a b : Option Operand) (out : List ℕ) (e : (a ≡ none) ⊎ (b ≡ none)) where

@@ -12,12 +12,13 @@ use Rattle.rows.specs.declared.Refusal.{Refusal}
 use Rattle.rows.specs.Table.{refusal}
 use Rattle.rows.specs.WordAnswer.{deposited, selected, rankRead}
 use Rattle.rules.specs.declared.Answer.{Answer}
-use Rattle.rules.specs.declared.Form.the-variants.{All, None, Words, List as Listed}
+use Rattle.rules.specs.declared.Form.the-variants.{All, None, Words, List as Listed, Runs}
 use Rattle.rules.specs.declared.State.{State}
 use Rattle.rules.specs.declared.Fed.{Fed}
+use Rattle.rules.specs.declared.Written.{Written as InRuns}
 use Rattle.rules.specs.Operand.{Operand, lent}
 use Rattle.rules.specs.Answer.{noDensity}
-use Rattle.rules.specs.Convert.{toWords, toWordsOut, toList, toListOut}
+use Rattle.rules.specs.Convert.{toWords, toWordsOut, toList, toListOut, toRuns, toRunsOut}
 use Rattle.rules.specs.SetOps.{andNot, combined, combinedOut, negated, negatedOut}
 use Rattle.rules.specs.Route.{published}
 use Rattle.rules.specs.Compose.{composed, composedOut}
@@ -37,7 +38,7 @@ pub record AnswerCells : Type 0 where
 abbrev pub answerCells : List ℕ → List Float → AnswerCells
 answerCells ans den = record { ans = ans; den = den }
 
--- 0 refusal, 1 operand, 2 count, 3 route (of a composition, a feed or the program), 4 word or position, 5 done, 6 ranks, 7 kept, 8 to 14 are 0, 15 bytes
+-- 0 refusal, 1 operand, 2 count, 3 route (of a composition, a feed or the program), 4 word or position, 5 done, 6 ranks, 7 kept, 8 to 14 are 0, 15 a number
 abbrev pub cells : Told → List ℕ
 cells t =
     t .refusal
@@ -55,7 +56,7 @@ cells t =
     ∷ 0
     ∷ 0
     ∷ 0
-    ∷ t .bytes
+    ∷ t .number
     ∷ []
 
 -- `ans` has 16 cells or more, and `den` 1 or more
@@ -97,11 +98,11 @@ does d m = cond (ready (m .answer)) (record { out = d .out; answer = over (d .to
 
 -- a word or a position
 abbrev pub wordTold : Refusal → ℕ → Told
-wordTold r word = record { refusal = r .number; operand = r .operand; count = 0; route = 0; word = word; done = 0; ranks = 0; kept = 0; bytes = 0; density = noDensity }
+wordTold r word = record { refusal = r .number; operand = r .operand; count = 0; route = 0; word = word; done = 0; ranks = 0; kept = 0; number = 0; density = noDensity }
 
--- an answer, a state's three numbers, and how many bytes were written
+-- an answer, a state's three numbers, and how many bytes or runs were written
 abbrev pub stateTold : Answer → ℕ → ℕ → ℕ → ℕ → Told
-stateTold a done ranks kept bytes =
+stateTold a done ranks kept number =
     record {
       refusal = a .refusal .number;
       operand = a .refusal .operand;
@@ -111,7 +112,7 @@ stateTold a done ranks kept bytes =
       done = done;
       ranks = ranks;
       kept = kept;
-      bytes = bytes;
+      number = number;
       density = a .summary .density;
     }
 
@@ -125,7 +126,11 @@ fedTold f = stateTold (f .answer) (f .state .done .0) (f .state .ranks .0) (f .s
 abbrev pub writtenTold : Written → Told
 writtenTold w = stateTold (w .answer) 0 0 0 (w .len)
 
--- ---- an operand's form: 0 all, 1 none, 2 words, 3 list; any other number is bad
+-- the answer of the writer of runs, and how many they are
+abbrev pub runsTold : InRuns → Told
+runsTold w = stateTold (w .answer) 0 0 0 (w .runs)
+
+-- ---- an operand's form: 0 all, 1 none, 2 words, 3 list, 4 runs; any other number is bad
 
 -- start and claimed are of words alone
 unfoldable pub formOf : ℕ → ℕ → ℕ → ℕ → Given
@@ -133,7 +138,8 @@ formOf kind length start claimed =
     cond (eqb kind 0) (Good (All length))
     (cond (eqb kind 1) (Good (None length))
     (cond (eqb kind 2) (Good (Words start length claimed))
-    (cond (eqb kind 3) (Good (Listed length)) Bad)))
+    (cond (eqb kind 3) (Good (Listed length))
+    (cond (eqb kind 4) (Good (Runs length)) Bad))))
 
 -- a bad form: 99 in cell 0, 0 in all others, density 0.0
 abbrev pub badTold : Told
@@ -170,6 +176,9 @@ toWordsDone a out = ifGood a (λ x. ended (answerTold (toWords x out)) (toWordsO
 
 abbrev pub toListDone : Option Operand → List ℕ → Done
 toListDone a out = ifGood a (λ x. ended (answerTold (toList x out)) (toListOut x out)) out
+
+abbrev pub toRunsDone : Option Operand → List ℕ → Done
+toRunsDone a out = ifGood a (λ x. ended (runsTold (toRuns x out)) (toRunsOut x out)) out
 
 abbrev pub composeDone : Option Operand → Option Operand → List ℕ → Done
 composeDone a b out = ifBoth a b (λ x y. ended (answerTold (composed published x y out)) (composedOut x y out)) out

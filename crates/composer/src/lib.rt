@@ -5,6 +5,7 @@ ghost use Rattle.rules.specs.Operand.{lent};
 ghost use Rattle.rules.specs.Stream.{pairOf, fresh, fed, fedOut};
 use judge::judge;
 use operand::inner::answers::refused;
+use operand::inner::counts::Counted;
 use rows::Rank;
 use rows::Row;
 use rows::Verdict;
@@ -48,11 +49,23 @@ pub fn feed(
     ensures { λ f. ⌜ (f ≡ fed state (pairOf (lent s (now (swords .entry)) (now (srows .entry))) (lent r (now (rwords .entry)) (now (rrows .entry)))) (now (out .entry)))
         × (now (out .exit) ≡ fedOut state (pairOf (lent s (now (swords .entry)) (now (srows .entry))) (lent r (now (rwords .entry)) (now (rrows .entry)))) (now (out .entry))) ⌝ }
 {
-    match judge(state, s, swords, srows, r, rwords, rrows, out.len() as u64) {
+    let judged = judge(state, s, swords, srows, r, rwords, rrows, out.len() as u64);
+    let verdict = judged.verdict;
+    match verdict {
         Verdict::Refused(refusal) => Fed {
             answer: refused(refusal),
             state,
         },
-        Verdict::Fine => step(state, s, swords, srows, r, rwords, rrows, out),
+        Verdict::Fine => {
+            let own = Counted {
+                form: s,
+                count: judged.rows,
+            };
+            let ranked = Counted {
+                form: r,
+                count: judged.ranks,
+            };
+            step(state, own, swords, srows, ranked, rwords, rrows, out)
+        }
     }
 }

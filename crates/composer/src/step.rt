@@ -5,15 +5,15 @@ ghost use lib.ListN.{length};
 ghost use denote.Ref.{now};
 ghost use Rattle.rows.specs.declared.Verdict.the-variants.{Fine};
 ghost use Rattle.rules.specs.Operand.{lent, limit};
+ghost use Rattle.operand.specs.Counts.{Counts};
 ghost use Rattle.rules.specs.Stream.{pairOf, stateOf, judged, fedBy, outBy};
 use intersect_by_rank::inner::lay::lay_composition;
-use operand::inner::forms::count_of;
+use operand::inner::counts::Counted;
 use operand::inner::forms::length_of;
 use routes::inner::document_factors;
 use rows::Rank;
 use rows::Row;
 use rules::Fed;
-use rules::Form;
 use rules::State;
 
 // The state past so many rows more, so many of them set, and so many of those kept.
@@ -33,22 +33,24 @@ fn moved(state: State, rows: Row, ranks: Rank, kept: u64) -> State
 // As many rows are kept as the rank piece sets.
 pub fn step(
     state: State,
-    s: Form,
+    s: Counted,
     swords: &[u64],
     srows: &[u32],
-    r: Form,
+    r: Counted,
     rwords: &[u64],
     rrows: &[u32],
     out: &mut [u64],
 ) -> Fed
-    requires { ⌜ judged state (pairOf (lent s (now swords) (now srows)) (lent r (now rwords) (now rrows))) (length (now out)) ≡ Fine ⌝ }
-    ensures { λ f. ⌜ (f ≡ fedBy Fine state (pairOf (lent s (now (swords .entry)) (now (srows .entry))) (lent r (now (rwords .entry)) (now (rrows .entry)))))
-        × (now (out .exit) ≡ outBy Fine state (pairOf (lent s (now (swords .entry)) (now (srows .entry))) (lent r (now (rwords .entry)) (now (rrows .entry)))) (now (out .entry))) ⌝ }
+    requires { ⌜ (judged state (pairOf (lent (s .form) (now swords) (now srows)) (lent (r .form) (now rwords) (now rrows))) (length (now out)) ≡ Fine)
+        × Counts s (now swords) (now srows) × Counts r (now rwords) (now rrows) ⌝ }
+    ensures { λ f. ⌜ (f ≡ fedBy Fine state (pairOf (lent (s .form) (now (swords .entry)) (now (srows .entry))) (lent (r .form) (now (rwords .entry)) (now (rrows .entry)))))
+        × (now (out .exit) ≡ outBy Fine state (pairOf (lent (s .form) (now (swords .entry)) (now (srows .entry))) (lent (r .form) (now (rwords .entry)) (now (rrows .entry)))) (now (out .entry))) ⌝ }
 {
     let at = state.done.0;
-    let rows = Row(length_of(s));
-    let ranks = Rank(count_of(s, srows));
-    let next = moved(state, rows, ranks, count_of(r, rrows));
+    let form = s.form;
+    let rows = Row(length_of(form));
+    let ranks = Rank(s.count);
+    let next = moved(state, rows, ranks, r.count);
     let factors = document_factors();
     let answer = lay_composition(factors, s, swords, srows, r, rwords, rrows, at, out);
     Fed {

@@ -15,7 +15,7 @@ use Rattle.rules.specs.Compose.{bothChecks, composeChecks}
 use Rattle.operand.specs.Counts.{checkedOf}
 
 -- a verdict after another matters only where that one is fine
-same-after : (v x y : Verdict) → (v ≡ Fine → x ≡ y) → ifFine v x v ≡ ifFine v y v
+pub same-after : (v x y : Verdict) → (v ≡ Fine → x ≡ y) → ifFine v x v ≡ ifFine v y v
 same-after Fine x y h = h refl
 same-after (Refused z) x y h = refl
 

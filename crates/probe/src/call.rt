@@ -4,10 +4,11 @@ ghost use denote.Ref.{now};
 ghost use Rattle.rows.specs.WordAnswer.{deposited};
 ghost use Rattle.rules.specs.Operand.{lent};
 ghost use Rattle.rules.specs.Stream.{stateOf};
-ghost use Rattle.cells.specs.Probe.{given, ended, depositTold, selectTold, readTold, toWordsDone, toListDone, composeDone, setDone, setsDone, feedDone, programDone, answerTold};
+ghost use Rattle.cells.specs.Probe.{given, ended, depositTold, selectTold, readTold, toWordsDone, toListDone, toRunsDone, composeDone, setDone, setsDone, feedDone, programDone, answerTold};
 use super::tell::of_answer;
 use super::tell::of_bad_form;
 use super::tell::of_fed;
+use super::tell::of_runs;
 use super::tell::of_word;
 use super::tell::of_written;
 use cells::Given;
@@ -69,6 +70,15 @@ pub fn to_list(a: Given, awords: &[u64], arows: &[u32], out: &mut [u32]) -> Told
     match a {
         Given::Bad => of_bad_form(),
         Given::Good(form) => of_answer(mask::to_list(form, awords, arows, out)),
+    }
+}
+
+pub fn to_runs(a: Given, awords: &[u64], arows: &[u32], out: &mut [u32]) -> Told
+    ensures { λ t. ⌜ ended t (now (out .exit)) ≡ toRunsDone (given a (now (awords .entry)) (now (arows .entry))) (now (out .entry)) ⌝ }
+{
+    match a {
+        Given::Bad => of_bad_form(),
+        Given::Good(form) => of_runs(mask::to_runs(form, awords, arows, out)),
     }
 }
 

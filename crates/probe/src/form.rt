@@ -16,6 +16,7 @@ pub fn form_of(kind: u64, length: u64, start: u64, claimed: u64) -> Given
             claimed,
         }),
         3 => Given::Good(Form::List { length }),
+        4 => Given::Good(Form::Runs { length }),
         _ => Given::Bad,
     }
 }

@@ -3,7 +3,7 @@
 ghost use mathlib.Core.Path.{_≡_};
 ghost use denote.Ref.{now};
 ghost use Rattle.rules.specs.Stream.{stateOf};
-ghost use Rattle.cells.specs.Probe.{answerCells, tells, memory, does, given, formOf, depositTold, selectTold, readTold, toWordsDone, toListDone, composeDone, setsDone, feedDone, programDone};
+ghost use Rattle.cells.specs.Probe.{answerCells, tells, memory, does, given, formOf, depositTold, selectTold, readTold, toWordsDone, toListDone, toRunsDone, composeDone, setsDone, feedDone, programDone};
 use form::form_of;
 use tell::ready;
 use tell::tell;
@@ -104,6 +104,30 @@ pub extern "C" fn probe_to_list(
     }
     let a = form_of(aform, alength, astart, aclaimed);
     tell(call::to_list(a, awords, arows, out), ans, den);
+}
+
+// Any form to runs: numbers in pairs, and how many runs they are.
+#[no_mangle]
+pub extern "C" fn probe_to_runs(
+    aform: u64,
+    alength: u64,
+    astart: u64,
+    aclaimed: u64,
+    awords: &[u64],
+    arows: &[u32],
+    out: &mut [u32],
+    ans: &mut [u64],
+    den: &mut [f64],
+)
+    ensures { λ _. ⌜ memory (now (out .exit)) (now (ans .exit)) (now (den .exit))
+        ≡ does (toRunsDone (given (formOf aform alength astart aclaimed) (now (awords .entry)) (now (arows .entry))) (now (out .entry)))
+        (memory (now (out .entry)) (now (ans .entry)) (now (den .entry))) ⌝ }
+{
+    if !ready(ans.len(), den.len()) {
+        return;
+    }
+    let a = form_of(aform, alength, astart, aclaimed);
+    tell(call::to_runs(a, awords, arows, out), ans, den);
 }
 
 // Composition by rank: a is self, and b the rank mask.

@@ -3,7 +3,7 @@ ghost use mathlib.Core.Path.{_≡_};
 ghost use Prim.Native.Nat.{_≤_, _<_};
 ghost use lib.ListN.{length};
 ghost use denote.Ref.{now};
-ghost use Rattle.cells.specs.Probe.{answerCells, enough, over, wordTold, badTold, stateTold, answerTold, fedTold, writtenTold};
+ghost use Rattle.cells.specs.Probe.{answerCells, enough, over, wordTold, badTold, stateTold, answerTold, fedTold, writtenTold, runsTold};
 use cells::Told;
 use laid::inner::copy_words;
 use lines::Written;
@@ -25,14 +25,14 @@ pub fn of_word(refusal: Refusal, word: u64) -> Told
         done: 0,
         ranks: 0,
         kept: 0,
-        bytes: 0,
+        number: 0,
         density: 0.0,
     }
 }
 
-// An answer, a state's three numbers, and how many bytes were written.
-fn of_state(answer: Answer, done: u64, ranks: u64, kept: u64, bytes: u64) -> Told
-    ensures { λ t. ⌜ t ≡ stateTold answer done ranks kept bytes ⌝ }
+// An answer, a state's three numbers, and how many bytes or runs were written.
+fn of_state(answer: Answer, done: u64, ranks: u64, kept: u64, number: u64) -> Told
+    ensures { λ t. ⌜ t ≡ stateTold answer done ranks kept number ⌝ }
 {
     Told {
         refusal: answer.refusal.number as u64,
@@ -43,7 +43,7 @@ fn of_state(answer: Answer, done: u64, ranks: u64, kept: u64, bytes: u64) -> Tol
         done,
         ranks,
         kept,
-        bytes,
+        number,
         density: answer.summary.density,
     }
 }
@@ -73,6 +73,14 @@ pub fn of_written(written: Written) -> Told
 {
     let answer = written.answer;
     of_state(answer, 0, 0, 0, written.len as u64)
+}
+
+// The answer of the writer of runs, and how many they are.
+pub fn of_runs(written: rules::Written) -> Told
+    ensures { λ t. ⌜ t ≡ runsTold written ⌝ }
+{
+    let answer = written.answer;
+    of_state(answer, 0, 0, 0, written.runs)
 }
 
 // A form that is none: 99, and nothing else is told.
@@ -112,7 +120,7 @@ pub fn tell(told: Told, ans: &mut [u64], den: &mut [f64])
         0,
         0,
         0,
-        told.bytes,
+        told.number,
     ];
     copy_words(&cells, 0, 16, ans);
     den[0] = told.density;

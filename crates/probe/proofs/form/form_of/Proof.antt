@@ -35,7 +35,13 @@ returns-5 : tie.Need-returns-5
 unfolding formOf
 returns-5 c =
     let k : ℕ = c .before .args .kind in
-    rw (ne-eqb k 0 (λ e. omega arith), ne-eqb k 1 (λ e. omega arith), ne-eqb k 2 (λ e. omega arith), ne-eqb k 3 (λ e. omega arith))
+    rw (ne-eqb k 0 (λ e. omega arith), ne-eqb k 1 (λ e. omega arith), ne-eqb k 2 (λ e. omega arith), ne-eqb k 3 (λ e. omega arith), eq-eqb k 4 (omega arith))
+
+returns-6 : tie.Need-returns-6
+unfolding formOf
+returns-6 c =
+    let k : ℕ = c .before .args .kind in
+    rw (ne-eqb k 0 (λ e. omega arith), ne-eqb k 1 (λ e. omega arith), ne-eqb k 2 (λ e. omega arith), ne-eqb k 3 (λ e. omega arith), ne-eqb k 4 (λ e. omega arith))
 
 pub form-of-spec : {M : Type 1} → statement M
-form-of-spec = tie.close (tie.spec returns returns-2 returns-3 returns-4 returns-5)
+form-of-spec = tie.close (tie.spec returns returns-2 returns-3 returns-4 returns-5 returns-6)
