@@ -10,11 +10,11 @@ use Rattle.rules.specs.Operand.{Operand, rowsOf}
 use Rattle.rules.specs.SetOps.{combination}
 use Rattle.rules.proofs.SetOperations.{Taken}
 use Rattle.operand.specs.Flat.{Flat, flat}
-use Rattle.operand.proofs.NumberLaws.{no-numbers}
+use Rattle.operand.proofs.NumberLaws.{no-numbers, no-runs}
 use Rattle.operand.proofs.FlatLaws.{accepted-flat, flat-rows}
 
 pub taken-flat : (o : Operand) → Taken o → Flat o
-taken-flat o t = accepted-flat o (no-numbers (o .form) (t .0)) (t .1)
+taken-flat o t = accepted-flat o (no-numbers (o .form) (t .0)) (no-runs (o .form) (t .0)) (t .1)
 
 -- their words alone are read
 pub flat-combination : (g : Bool → Bool → Bool) (a b : Operand) → Taken a → Taken b → combination g (flat a) (flat b) ≡ combination g a b
