@@ -3,8 +3,8 @@
 -- Assumes nothing.
 use Prim.Native.Nat.{ℕ, _*_, _≤_, _<_}
 use mathlib.Core.Path.{_≡_, refl, sym, ap, _∙_}
-use mathlib.Core.Logic.{_↔_}
-use mathlib.Core.Bool.{Bool, true, false, _&&_, false≢true}
+use mathlib.Core.Logic.{_↔_, _⊎_, inl, inr}
+use mathlib.Core.Bool.{Bool, true, false, _&&_, _||_, false≢true}
 use mathlib.Core.List.{List}
 use lib.ListN.{length, take, drop, getD}
 use lib.Seq.{getD-take}
@@ -78,3 +78,11 @@ writes v e n rows by out long rowAt law =
 pub in-both : (x y : Bool) → ((x && y) ≡ true) ↔ ((x ≡ true) × (y ≡ true))
 in-both true y = (λ e. (refl, e), λ p. p .1)
 in-both false y = (λ e. absurd (false≢true e), λ p. p .0)
+
+pub in-either : (x y : Bool) → ((x || y) ≡ true) ↔ ((x ≡ true) ⊎ (y ≡ true))
+in-either true y = (λ e. inl refl, λ p. refl)
+in-either false y = (λ e. inr e, either)
+  where
+    either : (false ≡ true) ⊎ (y ≡ true) → y ≡ true
+    either (inl e) = absurd (false≢true e)
+    either (inr e) = e
