@@ -135,7 +135,8 @@ module _ (o : Operand) (out : List ℕ) (well : Accepted o) where
         ∙ take-at (runsOf rows) (drop (runsIn rows * 2) out) (runsIn rows * 2) (runs-even rows)
 
     -- the numbers written, with the same length, are an operand with the same rows
-    pub to-runs-back : let back = lent (Runs (lengthOf (o .form))) [] (take (toRuns o out .runs * 2) (toRunsOut o out)) in Accepted back × (rowsOf back ≡ rowsOf o)
+    pub to-runs-back : let back = lent (Runs (lengthOf (o .form))) [] (take (toRuns o out .runs * 2) (toRunsOut o out)) in
+        Accepted back × (rowsOf back ≡ rowsOf o)
     to-runs-back =
         let long = accepted-length o well in
         rw (written-runs, ← long)

@@ -1,4 +1,4 @@
--- `turns::inner::write_edges` meets its contract.
+-- `turns::inner::list_chunk` meets its contract.
 -- The invariant: the rows that are left, over the entries from p on, are the whole over those from k on. Assumes nothing.
 use Prim.Native.Nat.{ℕ, _+_, _-_, _<_, _^_}
 use mathlib.Core.Path.{_≡_, refl, sym, ap, _∙_}
@@ -17,19 +17,19 @@ use Rattle.rows.proofs.ClearLaws.{count-low}
 use Rattle.rows.proofs.PartLaws.{rows-zero}
 use Rattle.turns.proofs.WrittenLaws.{bit-turn}
 use borrow.Author.Needs.{needs}
-use Rattle.turns.proofs.inner.write_edges.Statement.{statement}
-use Rattle.turns.proofs.inner.write_edges.Tie as tie
+use Rattle.turns.proofs.inner.list_chunk.Statement.{statement}
+use Rattle.turns.proofs.inner.list_chunk.Tie as tie
 
 abbrev Inv-loop : tie.InvT-loop
-Inv-loop found base k out₀ rest₀ p₀ out rest p =
-    (rest < 2 ^ 64) × (length out ≡ length out₀) × (p + count (bitsOf 64 rest) ≡ k + count (bitsOf 64 found))
-    × (splice p out (setRows base (bitsOf 64 rest)) ≡ splice k out₀ (setRows base (bitsOf 64 found)))
+Inv-loop chunk base k out₀ rest₀ p₀ out rest p =
+    (rest < 2 ^ 64) × (length out ≡ length out₀) × (p + count (bitsOf 64 rest) ≡ k + count (bitsOf 64 chunk))
+    × (splice p out (setRows base (bitsOf 64 rest)) ≡ splice k out₀ (setRows base (bitsOf 64 chunk)))
 
 abbrev μ-loop : tie.MeasureT-loop
-μ-loop found base k out₀ rest₀ p₀ out rest p = count (bitsOf 64 rest)
+μ-loop chunk base k out₀ rest₀ p₀ out rest p = count (bitsOf 64 rest)
 
 loop-holds : tie.Need-loop-holds Inv-loop μ-loop
-loop-holds c = (c .fits .found .fits, refl, refl, refl)
+loop-holds c = (c .fits .chunk .fits, refl, refl, refl)
 
 add-out : tie.Need-add-out Inv-loop μ-loop
 add-out c = omega (arith, trailing-le 64 (c .before .loop .rest))
@@ -72,8 +72,8 @@ returns c =
     let n : count (bitsOf 64 (l .rest)) ≡ 0 = sym (rows-count (a .base) (bitsOf 64 (l .rest))) ∙ ap length z in
     (omega arith, sym (splice-nil (l .p) (l .out)) ∙ ap (splice (l .p) (l .out)) (sym z) ∙ l .inv .3)
 
-pub write-edges-spec : {M : Type 1} → statement M
-write-edges-spec =
+pub list-chunk-spec : {M : Type 1} → statement M
+list-chunk-spec =
     tie.close
     (tie.spec
     Inv-loop
