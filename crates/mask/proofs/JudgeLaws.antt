@@ -4,6 +4,7 @@ use Prim.Native.Nat.{ℕ}
 use native.Mathlib.Decide.{decLe}
 use mathlib.Core.Path.{_≡_, refl, sym, ap, _∙_}
 use mathlib.Core.List.{List, [], _∷_}
+use Rattle.rows.specs.declared.Refusal.{Refusal}
 use Rattle.rows.specs.declared.Verdict.{Verdict}
 use Rattle.rows.specs.declared.Verdict.the-variants.{Fine, Refused}
 use Rattle.rows.specs.Table.{Line, need, first, ifFine}
@@ -20,6 +21,10 @@ eight needed room = need (decLe needed room) 8 0 ∷ []
 module _ (o : Operand) (room : ℕ) where
   parts : (needed : ℕ) → ifFine (first (operandChecks 1 o)) (first (eight needed room)) (first (operandChecks 1 o)) ≡ first (convertChecks o needed room)
   parts needed = then-told (operandChecks 1 o) (eight needed room) [] refl refl (last-told (eight needed room) refl)
+
+  -- a refusal of the operand's is the conversion's
+  pub judged-refused : (needed : ℕ) (x : Refusal) → first (operandChecks 1 o) ≡ Refused x → first (convertChecks o needed room) ≡ Refused x
+  judged-refused needed x e = sym (parts needed) ∙ ap (λ (v : Verdict). ifFine v (first (eight needed room)) v) e
 
   abbrev told : Verdict → Checked
   told v = record { verdict = v; count = checkedOf 1 o .count }

@@ -1,16 +1,13 @@
--- A mask's rows written as a list: entry after entry, and chunk after chunk, lowest set bit first. By what one store, one
--- cleared bit and one chunk more do.
+-- A mask's rows written as a list, chunk after chunk. By what one chunk more does.
 -- Assumes nothing.
-use Prim.Native.Nat.{ℕ, zero, suc, _+_, _-_, _^_, _≤_, _<_}
-use native.Mathlib.Nat.{zero-add, le-of-suc-le-suc}
-use mathlib.Core.Path.{_≡_, refl, sym, ap, ap₂, _∙_}
+use Prim.Native.Nat.{ℕ, _+_, _≤_}
+use native.Mathlib.Nat.{zero-add}
+use mathlib.Core.Path.{_≡_, sym, ap, ap₂, _∙_}
 use mathlib.Core.Bool.{Bool}
-use mathlib.Core.List.{List, [], _∷_, _++_}
+use mathlib.Core.List.{List, _++_}
 use native.Mathlib.Omega.{arith}
-use lib.ListN.{length, take, drop, set, length-take}
+use lib.ListN.{length, take, drop, length-take}
 use lib.Seq.{length-take-le}
-use lib.Bits.{bitAnd}
-use lib.Count.{trailingZeros}
 use Rattle.rows.specs.Rows.{count, splice}
 use Rattle.rows.specs.Word.{bitsOf, wordOf}
 use Rattle.rows.specs.Lists.{setRows}
@@ -18,22 +15,7 @@ use Rattle.rows.proofs.RowLaws.{count-append}
 use Rattle.rows.proofs.SpliceLaws.{splice-append, splice-eq}
 use Rattle.rows.proofs.PartLaws.{rows-append, rows-word}
 use Rattle.rows.proofs.ListLaws.{rows-count}
-use Rattle.rows.proofs.ClearLaws.{rows-low}
 use Rattle.rows.proofs.ChunkLaws.{chunk-next}
-
--- ---- the set bits of a word, lowest first
-
-splice-cons : (p : ℕ) (xs : List ℕ) (y : ℕ) (ys : List ℕ) → p < length xs → splice p xs (y ∷ ys) ≡ splice (suc p) (set xs p y) ys
-splice-cons p [] y ys h = absurd (omega arith)
-splice-cons zero (x ∷ xs) y ys h = refl
-splice-cons (suc p) (x ∷ xs) y ys h = ap (λ (l : List ℕ). x ∷ l) (splice-cons p xs y ys (le-of-suc-le-suc h))
-
-pub bit-turn : (w base n p : ℕ) (out : List ℕ) → 0 < n → n < 2 ^ w → p < length out
-    → splice (suc p) (set out p (base + trailingZeros w n)) (setRows base (bitsOf w (bitAnd n (n - 1)))) ≡ splice p out (setRows base (bitsOf w n))
-bit-turn w base n p out h l r =
-    sym (ap (splice p out) (rows-low base w n h l) ∙ splice-cons p out (base + trailingZeros w n) (setRows base (bitsOf w (bitAnd n (n - 1)))) r)
-
--- ---- chunk after chunk
 
 count-word : (w : ℕ) (s : List Bool) → length s ≤ w → count (bitsOf w (wordOf s)) ≡ count s
 count-word w s h = sym (rows-count 0 (bitsOf w (wordOf s))) ∙ ap length (rows-word 0 w s h) ∙ rows-count 0 s

@@ -9,14 +9,22 @@ ghost use Rattle.rows.specs.Lists.{setRows};
 ghost use Rattle.rows.specs.Laid.{wordsFor, written};
 ghost use Rattle.rules.specs.Operand.{lent, rowsOf, lengthOf, countOf, limit, Accepted};
 ghost use Rattle.rules.specs.Answer.{accepted, answered, noRoute};
+ghost use Rattle.rules.specs.Convert.{toRuns, toRunsOut};
 ghost use Rattle.operand.specs.Counts.{Counts};
+ghost use Rattle.mask.specs.Judged.{noRuns};
 use super::inner::lay::write_rows;
 use super::list::write_list;
+use super::runs::count_runs;
+use super::runs::write_runs;
 use operand::inner::answers::NO_ROUTE;
 use operand::inner::answers::accepted;
+use operand::inner::answers::refused;
 use operand::inner::counts::Counted;
 use operand::inner::forms::length_of;
+use rows::Refusal;
+use rows::inner::verdicts::refusal;
 use rules::Answer;
+use rules::Written;
 
 // What is told of an operand that is its own result.
 fn own_answer(operand: Counted) -> Answer
@@ -45,4 +53,31 @@ pub fn convert_to_list(operand: Counted, words: &[u64], rows: &[u32], out: &mut 
     let form = operand.form;
     write_list(form, words, rows, out);
     own_answer(operand)
+}
+
+// What the writer of runs tells of a refusal.
+pub fn no_runs(refusal: Refusal) -> Written
+    ensures { λ w. ⌜ w ≡ noRuns refusal ⌝ }
+{
+    let answer = refused(refusal);
+    Written { answer, runs: 0 }
+}
+
+// The numbers needed are known only by counting the operand's runs, and so 8 is told here.
+pub fn convert_to_runs(operand: Counted, words: &[u64], rows: &[u32], out: &mut [u32]) -> Written
+    requires { ⌜ Accepted (lent (operand .form) (now words) (now rows)) × Counts operand (now words) (now rows) ⌝ }
+    ensures { λ w. ⌜ (w ≡ toRuns (lent (operand .form) (now (words .entry)) (now (rows .entry))) (now (out .entry)))
+        × (now (out .exit) ≡ toRunsOut (lent (operand .form) (now (words .entry)) (now (rows .entry))) (now (out .entry))) ⌝ }
+{
+    let form = operand.form;
+    let numbers = count_runs(form, words, rows);
+    if (out.len() as u64) < numbers {
+        return no_runs(refusal(8, 0));
+    }
+    write_runs(form, words, rows, out);
+    let answer = own_answer(operand);
+    Written {
+        answer,
+        runs: numbers / 2,
+    }
 }

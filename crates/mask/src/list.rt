@@ -2,11 +2,10 @@
 ghost use mathlib.Core.Path.{_≡_};
 ghost use mathlib.Core.Bool.{false};
 ghost use mathlib.Core.List.{[], _++_};
-ghost use Prim.Native.Nat.{_+_, _≤_};
+ghost use Prim.Native.Nat.{_≤_};
 ghost use lib.ListN.{length, drop};
 ghost use denote.Ref.{now};
 ghost use Rattle.rows.specs.Rows.{count, splice};
-ghost use Rattle.rows.specs.Word.{bitsOf};
 ghost use Rattle.rows.specs.Lists.{setRows};
 ghost use Rattle.rules.specs.Operand.{lent, rowsOf, countOf, Accepted};
 ghost use Rattle.operand.specs.Flat.{Flat, hasRuns};
@@ -17,6 +16,7 @@ use operand::inner::forms::has_row_numbers;
 use operand::inner::forms::has_runs;
 use operand::inner::forms::length_of;
 use rules::Form;
+use turns::inner::list_chunk;
 
 pub fn copy_list(rows: &[u32], out: &mut [u32])
     requires { ⌜ length (now rows) ≤ length (now out) ⌝ }
@@ -25,21 +25,6 @@ pub fn copy_list(rows: &[u32], out: &mut [u32])
     for i in 0..rows.len() {
         out[i] = rows[i];
     }
-}
-
-// The set bits of a chunk whose first row is base, from entry k of out on; the entry after them.
-fn list_chunk(chunk: u64, base: u32, k: usize, out: &mut [u32]) -> usize
-    requires { ⌜ (base ≤ 1048576) × (k + count (bitsOf 64 chunk) ≤ length (now out)) ⌝ }
-    ensures { λ r. ⌜ (r ≡ k + count (bitsOf 64 chunk)) × (now (out .exit) ≡ splice k (now (out .entry)) (setRows base (bitsOf 64 chunk))) ⌝ }
-{
-    let mut rest = chunk;
-    let mut p = k;
-    while rest != 0 {
-        out[p] = base + u64::trailing_zeros(rest);
-        rest = rest & (rest - 1);
-        p += 1;
-    }
-    p
 }
 
 // All, none or words: chunk by chunk.

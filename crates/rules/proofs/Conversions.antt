@@ -1,7 +1,7 @@
 -- Demand 1 for the conversions, as statements that can be held against document 01: which refusal is told exactly when, and that a
 -- refusal changes nothing. By the law of tables.
 -- Assumes nothing.
-use Prim.Native.Nat.{ℕ, zero, _≤_, _<_}
+use Prim.Native.Nat.{ℕ, zero, _*_, _≤_, _<_}
 use mathlib.Core.Path.{_≡_}
 use mathlib.Core.Logic.{_↔_, _≢_, _⊎_, inl, inr}
 use mathlib.Core.Bool.{Bool}
@@ -11,12 +11,13 @@ use native.Mathlib.Omega.{arith}
 use lib.ListN.{length}
 use Rattle.rows.specs.declared.Refusal.{Refusal}
 use Rattle.rows.specs.declared.Verdict.the-variants.{Fine, Refused}
+use Rattle.rows.specs.Runs.{runsIn}
 use Rattle.rows.specs.Laid.{wordsFor}
 use Rattle.rows.specs.Table.{First, Met, Numbered, first, refusal}
 use Rattle.rows.proofs.TableLaws.{fine-exactly, parts-met, none-met, then-refuses, parts-numbered, none-numbered}
-use Rattle.rules.specs.Operand.{Operand, lengthOf, countOf, operandChecks, Accepted}
+use Rattle.rules.specs.Operand.{Operand, rowsOf, lengthOf, countOf, operandChecks, Accepted}
 use Rattle.rules.specs.Answer.{answered}
-use Rattle.rules.specs.Convert.{convertChecks, toWordsVerdict, toWords, toWordsOut, toListVerdict, toList, toListOut}
+use Rattle.rules.specs.Convert.{convertChecks, toWordsVerdict, toWords, toWordsOut, toListVerdict, toList, toListOut, toRunsVerdict, toRuns, toRunsOut}
 use Rattle.rules.proofs.OperandLaws.{accepted-as}
 use Rattle.rules.proofs.AnswerLaws.{Bare, answer-refuses, answer-accepts, nothing-done}
 use Rattle.rules.proofs.Operands.{Wrong, operand-refuses, operand-numbered}
@@ -73,6 +74,10 @@ module _ (o : Operand) (out : List ℕ) where
   unfolding toList
   to-list-refuses = refuses o (countOf o) (length out) _ _
 
+  pub to-runs-refuses : (x : Refusal) → zero < x .number → (toRuns o out .answer .refusal ≡ x) ↔ Refuses o (runsIn (rowsOf o) * 2) (length out) x
+  unfolding toRuns
+  to-runs-refuses = refuses o (runsIn (rowsOf o) * 2) (length out) _ _
+
   -- and number 0, accepted, exactly otherwise
   pub to-words-accepts : (toWords o out .refusal .number ≡ 0) ↔ (Accepted o × (wordsFor (lengthOf (o .form)) ≤ length out))
   unfolding toWords
@@ -82,6 +87,10 @@ module _ (o : Operand) (out : List ℕ) where
   unfolding toList
   to-list-accepts = accepts o (countOf o) (length out) _ _
 
+  pub to-runs-accepts : (toRuns o out .answer .refusal .number ≡ 0) ↔ (Accepted o × (runsIn (rowsOf o) * 2 ≤ length out))
+  unfolding toRuns
+  to-runs-accepts = accepts o (runsIn (rowsOf o) * 2) (length out) _ _
+
   -- a refusal changes nothing, and reports count 0, route 0 and density 0.0
   pub to-words-refused : toWords o out .refusal .number ≢ 0 → (toWordsOut o out ≡ out) × Bare (toWords o out)
   unfolding toWords toWordsOut
@@ -90,3 +99,10 @@ module _ (o : Operand) (out : List ℕ) where
   pub to-list-refused : toList o out .refusal .number ≢ 0 → (toListOut o out ≡ out) × Bare (toList o out)
   unfolding toList toListOut
   to-list-refused = nothing-done (toListVerdict o out) _ _ _ out
+
+  -- and no runs
+  pub to-runs-refused : toRuns o out .answer .refusal .number ≢ 0 → (toRunsOut o out ≡ out) × Bare (toRuns o out .answer) × (toRuns o out .runs ≡ 0)
+  unfolding toRuns toRunsOut
+  to-runs-refused h =
+      let left = nothing-done (toRunsVerdict o out) _ _ _ out h in
+      (left .0, left .1, nothing-done (toRunsVerdict o out) (rowsOf o) _ (runsIn (rowsOf o)) 0 h .0)

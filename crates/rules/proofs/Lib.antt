@@ -6,6 +6,7 @@ pub mod StreamLaws
 pub mod NearestLaws
 pub mod Writes
 pub mod Operands
+pub mod RunRows
 pub mod Conversions
 pub mod RoundTrips
 pub mod Densities

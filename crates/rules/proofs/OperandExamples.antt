@@ -1,15 +1,16 @@
--- The operand examples that document 01 settles, and densities as concrete values, one statement over one list, by computation on
--- the definitions that the contracts cite. scripts/densities.py makes the quotients anew, of whole numbers alone.
+-- The operand examples that document 01 settles, the runs of masks, and densities as concrete values, one statement over one list, by
+-- computation on the definitions that the contracts cite. scripts/densities.py makes the quotients anew, of whole numbers alone.
 -- Assumes nothing.
 use Prim.Native.Nat.{ℕ, _-_, _^_}
 use mathlib.Core.Path.{_≡_, refl}
 use mathlib.Core.List.{List, [], _∷_}
 use native.Mathlib.Decide.{ℕ-discrete, decLe}
-use mathlib.Core.Bool.{false}
+use mathlib.Core.Bool.{Bool, true, false}
 use lib.IntN.{ℤ, pos, negsuc}
 use lib.Ieee.{fin, round}
 use Rattle.rows.specs.declared.Refusal.{Refusal}
 use Rattle.rows.specs.Word.{bitsOf}
+use Rattle.rows.specs.Runs.{runsOf}
 use Rattle.rows.specs.Table.{first, refusal, noRefusal, told}
 use Rattle.rules.specs.declared.Form.the-variants.{All, None, Words, List as Listed, Runs}
 use Rattle.rules.specs.Operand.{Operand, lent, operandChecks}
@@ -19,15 +20,17 @@ use Rattle.rules.specs.Answer.{densityOf}
 abbrev pub refusalOf : Operand → Refusal
 refusalOf o = told (first (operandChecks 1 o))
 
--- an operand that is accepted, or one with its refusal; or a count, a length, and the density m * 2 ^ e
+-- an operand that is accepted, or one with its refusal; or rows and their runs; or a count, a length, and the density m * 2 ^ e
 pub data Case : Type 0 where
   accepts : (o : Operand) → Case
   refuses : (o : Operand) (x : Refusal) → Case
+  runs : (rows : List Bool) (ns : List ℕ) → Case
   quotient : (n len m : ℕ) (e : ℤ) → Case
 
 abbrev pub Holds : Case → Type 0
 Holds (accepts o) = refusalOf o ≡ noRefusal
 Holds (refuses o x) = refusalOf o ≡ x
+Holds (runs rows ns) = runsOf rows ≡ ns
 Holds (quotient n len m e) = densityOf n len ≡ fin false m e
 
 abbrev pub Every : List Case → Type 0
@@ -61,6 +64,11 @@ cases =
     ∷ refuses (lent (Runs 10) [] (6 ∷ 8 ∷ 2 ∷ 4 ∷ [])) (refusal 14 1)
     ∷ refuses (lent (Runs 10) [] (4294967295 ∷ 0 ∷ [])) (refusal 14 1)
     ∷ refuses (lent (Runs 1048577) [] (4 ∷ 4 ∷ [])) (refusal 1 1)
+    ∷ runs [] []
+    ∷ runs (false ∷ false ∷ false ∷ []) []
+    ∷ runs (true ∷ true ∷ true ∷ []) (0 ∷ 3 ∷ [])
+    ∷ runs (false ∷ true ∷ true ∷ false ∷ true ∷ []) (1 ∷ 3 ∷ 4 ∷ 5 ∷ [])
+    ∷ runs (true ∷ false ∷ true ∷ false ∷ []) (0 ∷ 1 ∷ 2 ∷ 3 ∷ [])
     ∷ quotient 0 0 0 (pos 0)
     ∷ quotient 0 1 0 (pos 0)
     ∷ quotient 1 1 1 (pos 0)
@@ -82,4 +90,7 @@ cases =
 
 pub examples : Every cases
 unfolding densityOf round first bitsOf ℕ-discrete decLe
-examples = (refl, (refl, (refl, (refl, (refl, (refl, (refl, (refl, (refl, (refl, (refl, (refl, (refl, (refl, (refl, (refl, (refl, (refl, (refl, (refl, (refl, (refl, (refl, (refl, (refl, (refl, (refl, (refl, (refl, (refl, (refl, (refl, (refl, (refl, (refl, (refl, (refl, (refl, (refl, (refl, (refl, (refl, tt))))))))))))))))))))))))))))))))))))))))))
+examples =
+    (refl, (refl, (refl, (refl, (refl, (refl, (refl, (refl, (refl, (refl, (refl, (refl, (refl, (refl, (refl, (refl,
+    (refl, (refl, (refl, (refl, (refl, (refl, (refl, (refl, (refl, (refl, (refl, (refl, (refl, (refl, (refl, (refl,
+    (refl, (refl, (refl, (refl, (refl, (refl, (refl, (refl, (refl, (refl, (refl, (refl, (refl, (refl, (refl, tt)))))))))))))))))))))))))))))))))))))))))))))))

@@ -1,14 +1,14 @@
 -- What an accepted conversion answers and leaves: the mask's own count, route 0 and its density; what was written as words, read as
--- words, is the same mask, and what was written as a list, read as a list; the tail is 0 and what stands after is as it was. By the
--- laws of whole words and of lists of rows.
+-- words, is the same mask, and what was written as a list, read as a list, or as runs, read as runs; the tail is 0 and what stands after
+-- is as it was; and no other runs are the mask's. By the laws of whole words, of lists of rows and of runs.
 -- Assumes nothing.
-use Prim.Native.Nat.{ℕ, suc, _≤_}
+use Prim.Native.Nat.{ℕ, suc, _*_, _≤_}
 use native.Mathlib.Nat.{zero-add}
 use mathlib.Core.Path.{_≡_, refl, sym, ap, _∙_}
 use mathlib.Core.Bool.{Bool, true, false, _&&_}
 use mathlib.Core.List.{List, [], _∷_, _++_}
 use native.Mathlib.Omega.{arith}
-use lib.Dec.{T, ltb, lt→ltb}
+use lib.Dec.{T, leb, le→leb, ltb, lt→ltb}
 use lib.ListN.{length, take, drop}
 use lib.Seq.{take-at, drop-at}
 use Rattle.rows.specs.declared.Verdict.{Verdict}
@@ -16,16 +16,19 @@ use Rattle.rows.specs.declared.Verdict.the-variants.{Fine}
 use Rattle.rows.specs.Rows.{count}
 use Rattle.rows.specs.Words.{bitsOfAll}
 use Rattle.rows.specs.Lists.{Ascending, setRows}
+use Rattle.rows.specs.Runs.{Apart, runsOf, runsIn}
 use Rattle.rows.specs.Laid.{wordsFor, written}
 use Rattle.rows.specs.Table.{first, ifFine}
 use Rattle.rows.proofs.ListLaws.{rows-count, rows-ascending, listed-rows}
+use Rattle.rows.proofs.RunLaws.{runs-apart, runs-back, runs-even, rows-back}
 use Rattle.rows.proofs.WrittenLaws.{written-rows, written-length}
-use Rattle.rules.specs.declared.Form.the-variants.{Words, List as Listed}
-use Rattle.rules.specs.Operand.{Operand, lent, climbs, lastBelow, rowsOf, lengthOf, countOf, Accepted}
-use Rattle.rules.specs.Answer.{densityOf}
-use Rattle.rules.specs.Convert.{convertChecks, toWordsVerdict, toWords, toWordsOut, toList, toListOut}
-use Rattle.rules.proofs.OperandLaws.{accepted-length, accepted-count, accepted-limit}
-use Rattle.rules.proofs.Writes.{row, Writes, writes, Lists}
+use Rattle.rules.specs.declared.Answer.{Answer}
+use Rattle.rules.specs.declared.Form.the-variants.{Words, List as Listed, Runs}
+use Rattle.rules.specs.Operand.{Operand, lent, climbs, lastBelow, runsFit, rowsOf, lengthOf, countOf, Accepted}
+use Rattle.rules.specs.Answer.{densityOf, accepted, answered}
+use Rattle.rules.specs.Convert.{convertChecks, toWordsVerdict, toWords, toWordsOut, toList, toListOut, toRuns, toRunsOut}
+use Rattle.rules.proofs.OperandLaws.{apart, accepted-length, accepted-count, accepted-limit}
+use Rattle.rules.proofs.Writes.{row, Writes, writes, Lists, WritesRuns}
 use Rattle.rules.proofs.Conversions.{convert-fine}
 
 T-both : (a b : Bool) → T a → T b → T (a && b)
@@ -42,6 +45,15 @@ climbing b len e (g ∷ es) a =
 passes : (len : ℕ) (es : List ℕ) → Ascending 0 len es → T (climbs es) × T (lastBelow len es)
 passes len [] a = (tt, tt)
 passes len (e ∷ es) a = climbing 0 len e es a
+
+-- runs that are apart fit: `apart` the other way
+fits : (b len : ℕ) (ns : List ℕ) → Apart b len ns → T (runsFit b len ns)
+fits b len [] a = tt
+fits b len (first ∷ []) a = a
+fits b len (first ∷ past ∷ ns) a =
+    T-both (leb b first) _ (le→leb b first (a .0))
+    (T-both (ltb first past) _ (lt→ltb first past (a .1))
+    (T-both (leb past len) (runsFit (suc past) len ns) (le→leb past len (a .2)) (fits (suc past) len ns (a .3))))
 
 module _ (o : Operand) (out : List ℕ) (well : Accepted o) where
   abbrev rows : List Bool
@@ -106,3 +118,56 @@ module _ (o : Operand) (out : List ℕ) (well : Accepted o) where
           dense = ap (densityOf (count rows)) (accepted-length o well);
           later = ap (λ (n : ℕ). drop n (toListOut o out)) (accepted-count o well) ∙ later-entries ∙ ap (λ (n : ℕ). drop n out) (sym (accepted-count o well));
         })
+
+  module _ (room : runsIn (rowsOf o) * 2 ≤ length out) where
+    told : toRuns o out .runs ≡ runsIn rows
+    unfolding toRuns
+    told = ap (λ (v : Verdict). ifFine v (runsIn rows) 0) (fine (runsIn rows * 2) room)
+
+    to-runs-out : toRunsOut o out ≡ runsOf rows ++ drop (runsIn rows * 2) out
+    unfolding toRunsOut
+    to-runs-out = ap (λ (v : Verdict). ifFine v (runsOf rows ++ drop (runsIn rows * 2) out) out) (fine (runsIn rows * 2) room)
+
+    written-runs : take (toRuns o out .runs * 2) (toRunsOut o out) ≡ runsOf rows
+    written-runs =
+        ap (λ (n : ℕ). take (n * 2) (toRunsOut o out)) told
+        ∙ ap (take (runsIn rows * 2)) to-runs-out
+        ∙ take-at (runsOf rows) (drop (runsIn rows * 2) out) (runsIn rows * 2) (runs-even rows)
+
+    -- the numbers written, with the same length, are an operand with the same rows
+    pub to-runs-back : let back = lent (Runs (lengthOf (o .form))) [] (take (toRuns o out .runs * 2) (toRunsOut o out)) in
+        Accepted back × (rowsOf back ≡ rowsOf o)
+    to-runs-back =
+        let long = accepted-length o well in
+        rw (written-runs, ← long)
+        ((omega (arith, accepted-limit o well), (fits 0 (length rows) (runsOf rows) (runs-apart rows), tt)), rows-back rows)
+
+    -- and no other numbers are: runs that are accepted and have these rows are, number by number, those written
+    pub to-runs-only : (ns : List ℕ) → Accepted (lent (Runs (lengthOf (o .form))) [] ns) → rowsOf (lent (Runs (lengthOf (o .form))) [] ns) ≡ rowsOf o
+        → ns ≡ take (toRuns o out .runs * 2) (toRunsOut o out)
+    to-runs-only ns met same = sym (runs-back len ns (apart 0 len ns (met .1 .0))) ∙ ap runsOf same ∙ sym written-runs
+
+    -- later numbers stay
+    pub to-runs-later : drop (toRuns o out .runs * 2) (toRunsOut o out) ≡ drop (toRuns o out .runs * 2) out
+    to-runs-later =
+        ap (λ (n : ℕ). drop (n * 2) (toRunsOut o out)) told
+        ∙ ap (drop (runsIn rows * 2)) to-runs-out
+        ∙ drop-at (runsOf rows) (drop (runsIn rows * 2) out) (runsIn rows * 2) (runs-even rows)
+        ∙ ap (λ (n : ℕ). drop (n * 2) out) (sym told)
+
+    answer-told : toRuns o out .answer ≡ accepted (count rows) 0 (length rows)
+    unfolding toRuns
+    answer-told = ap (λ (v : Verdict). answered v rows 0) (fine (runsIn rows * 2) room)
+
+    -- its runs as numbers, how many they are, its own count, route 0, the density and the later numbers
+    pub to-runs-writes : WritesRuns (lengthOf (o .form)) (rowsOf o) (toRuns o out) (toRunsOut o out) out
+    to-runs-writes =
+        record {
+          accepted = ap (λ (a : Answer). a .refusal) answer-told;
+          counted = ap (λ (a : Answer). a .summary .count) answer-told;
+          many = told;
+          numbers = written-runs;
+          route = ap (λ (a : Answer). a .summary .route) answer-told;
+          dense = rw answer-told (ap (densityOf (count rows)) (accepted-length o well));
+          later = to-runs-later;
+        }

@@ -22,7 +22,7 @@ use Rattle.rules.specs.Operand.{Operand, rowsOf, lengthOf, countsAsList,
 use Rattle.rules.specs.SetOps.{andNot, pairChecks, notChecks, combined, combinedOut, negated, negatedOut}
 use Rattle.rules.proofs.OperandLaws.{accepted-as, accepted-length}
 use Rattle.rules.proofs.AnswerLaws.{Bare, answer-refuses, answer-accepts, nothing-done}
-use Rattle.rules.proofs.Writes.{bitAt, row, Writes, writes, in-both}
+use Rattle.rules.proofs.Writes.{bitAt, row, Writes, writes, in-both, in-either}
 use Rattle.rules.proofs.Operands.{Wrong, operand-refuses, operand-numbered}
 
 -- an operand that a set operation takes: no list, and accepted
@@ -63,14 +63,6 @@ set-numbered : (k : ℕ) (o : Operand) → Numbered (setChecks k o)
 set-numbered k o = (omega arith, operand-numbered k o)
 
 -- ---- demand 2: the operations on a row; route 0 is told
-
-in-either : (x y : Bool) → ((x || y) ≡ true) ↔ ((x ≡ true) ⊎ (y ≡ true))
-in-either true y = (λ e. inl refl, λ p. refl)
-in-either false y = (λ e. inr e, either)
-  where
-    either : (false ≡ true) ⊎ (y ≡ true) → y ≡ true
-    either (inl e) = absurd (false≢true e)
-    either (inr e) = e
 
 not-in : (x : Bool) → (not x ≡ true) ↔ (x ≡ false)
 not-in true = (λ e. absurd (false≢true e), λ e. sym e)

@@ -1,10 +1,10 @@
 -- What an accepted operation leaves, for any that writes its rows as whole words from the start: the answer's numbers, the rows
--- bit by bit, the last word's tail 0, later words as before; and for one that writes them as a list. By the laws of whole words.
+-- bit by bit, the last word's tail 0, later words as before; and for one that writes them as a list, or as runs. By the laws of whole words.
 -- Assumes nothing.
 use Prim.Native.Nat.{ℕ, _*_, _≤_, _<_}
 use mathlib.Core.Path.{_≡_, refl, sym, ap, _∙_}
-use mathlib.Core.Logic.{_↔_}
-use mathlib.Core.Bool.{Bool, true, false, _&&_, false≢true}
+use mathlib.Core.Logic.{_↔_, _⊎_, inl, inr}
+use mathlib.Core.Bool.{Bool, true, false, _&&_, _||_, false≢true}
 use mathlib.Core.List.{List}
 use lib.ListN.{length, take, drop, getD}
 use lib.Seq.{getD-take}
@@ -13,10 +13,12 @@ use Rattle.rows.specs.declared.Verdict.the-variants.{Fine}
 use Rattle.rows.specs.Rows.{count}
 use Rattle.rows.specs.Words.{bitsOfAll}
 use Rattle.rows.specs.Lists.{setRows}
+use Rattle.rows.specs.Runs.{runsOf, runsIn}
 use Rattle.rows.specs.Laid.{wordsFor, written}
 use Rattle.rows.specs.Table.{noRefusal, ifFine}
 use Rattle.rows.proofs.WrittenLaws.{written-rows, written-tail, written-later}
 use Rattle.rules.specs.declared.Answer.{Answer}
+use Rattle.rules.specs.declared.Written.{Written}
 use Rattle.rules.specs.Operand.{Operand, rowsOf}
 use Rattle.rules.specs.Answer.{answered, densityOf}
 
@@ -46,6 +48,17 @@ pub record Lists (n : ℕ) (rows : List Bool) (answer : Answer) (left out : List
   pub dense : answer .summary .density ≡ densityOf (answer .summary .count) n
   pub later : drop (answer .summary .count) left ≡ drop (answer .summary .count) out
 
+-- accepted, with the runs of these n rows as numbers from the start on: two for each of the runs that it tells, the rows' own count, route 0,
+-- their density
+pub record WritesRuns (n : ℕ) (rows : List Bool) (told : Written) (left out : List ℕ) : Type 0 where
+  pub accepted : told .answer .refusal ≡ noRefusal
+  pub counted : told .answer .summary .count ≡ count rows
+  pub many : told .runs ≡ runsIn rows
+  pub numbers : take (told .runs * 2) left ≡ runsOf rows
+  pub route : told .answer .summary .route ≡ 0
+  pub dense : told .answer .summary .density ≡ densityOf (told .answer .summary .count) n
+  pub later : drop (told .runs * 2) left ≡ drop (told .runs * 2) out
+
 pub writes : (v : Verdict) → v ≡ Fine → (n : ℕ) (rows : List Bool) (by : ℕ) (out : List ℕ) → length rows ≡ n → (rowAt : ℕ → Bool) → ((i : ℕ) → i < n → getD rows i false ≡ rowAt i)
     → Writes n rowAt by (answered v rows by) (ifFine v (written n rows out) out) out
 writes v e n rows by out long rowAt law =
@@ -65,3 +78,11 @@ writes v e n rows by out long rowAt law =
 pub in-both : (x y : Bool) → ((x && y) ≡ true) ↔ ((x ≡ true) × (y ≡ true))
 in-both true y = (λ e. (refl, e), λ p. p .1)
 in-both false y = (λ e. absurd (false≢true e), λ p. p .0)
+
+pub in-either : (x y : Bool) → ((x || y) ≡ true) ↔ ((x ≡ true) ⊎ (y ≡ true))
+in-either true y = (λ e. inl refl, λ p. refl)
+in-either false y = (λ e. inr e, either)
+  where
+    either : (false ≡ true) ⊎ (y ≡ true) → y ≡ true
+    either (inl e) = absurd (false≢true e)
+    either (inr e) = e

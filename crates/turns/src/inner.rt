@@ -45,11 +45,11 @@ pub fn count_turns(words: &[u64], start: u64, len: u64) -> u64
 }
 
 // The set bits of a chunk whose first row is base, from entry k of out on; the entry after them.
-fn write_edges(found: u64, base: u32, k: usize, out: &mut [u32]) -> usize
-    requires { ⌜ (base ≤ 1048576) × (k + count (bitsOf 64 found) ≤ length (now out)) ⌝ }
-    ensures { λ r. ⌜ (r ≡ k + count (bitsOf 64 found)) × (now (out .exit) ≡ splice k (now (out .entry)) (setRows base (bitsOf 64 found))) ⌝ }
+pub fn list_chunk(chunk: u64, base: u32, k: usize, out: &mut [u32]) -> usize
+    requires { ⌜ (base ≤ 1048576) × (k + count (bitsOf 64 chunk) ≤ length (now out)) ⌝ }
+    ensures { λ r. ⌜ (r ≡ k + count (bitsOf 64 chunk)) × (now (out .exit) ≡ splice k (now (out .entry)) (setRows base (bitsOf 64 chunk))) ⌝ }
 {
-    let mut rest = found;
+    let mut rest = chunk;
     let mut p = k;
     while rest != 0 {
         out[p] = base + u64::trailing_zeros(rest);
@@ -82,7 +82,7 @@ pub fn write_turns(words: &[u64], start: u64, len: u64, out: &mut [u32])
         let n = chunk_len(len, row);
         let here = chunk(words, start, row, n);
         let found = edge_word(here, carry, n);
-        k = write_edges(found, row as u32, k, out);
+        k = list_chunk(found, row as u32, k, out);
         carry = here >> (n - 1);
         row += n;
     }

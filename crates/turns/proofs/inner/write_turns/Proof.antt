@@ -38,10 +38,10 @@ sized c = c .before
 abbrev read : tie.After-edge-word Inv-loop μ-loop → tie.After-chunk Inv-loop μ-loop
 read c = c .before
 
-abbrev found : tie.After-write-edges Inv-loop μ-loop → tie.After-edge-word Inv-loop μ-loop
+abbrev found : tie.After-list-chunk Inv-loop μ-loop → tie.After-edge-word Inv-loop μ-loop
 found c = c .before .before
 
-abbrev written : tie.After-slice-known2 Inv-loop μ-loop → tie.After-write-edges Inv-loop μ-loop
+abbrev written : tie.After-slice-known2 Inv-loop μ-loop → tie.After-list-chunk Inv-loop μ-loop
 written c = c .before .before
 
 abbrev turn : tie.After-slice-known2 Inv-loop μ-loop → tie.After-chunk-len Inv-loop μ-loop
@@ -113,14 +113,14 @@ module _ (c : tie.After-edge-word Inv-loop μ-loop) where
   fits : here .loop .k + numbers ≤ length (first here)
   fits = omega (arith, counted-few (rows here) _ _ _ more, start here .pre .1)
 
-module _ (c : tie.After-write-edges Inv-loop μ-loop) where
+module _ (c : tie.After-list-chunk Inv-loop μ-loop) where
   abbrev at : tie.At-loop Inv-loop μ-loop
   at = here (found c)
 
   abbrev after : List ℕ
-  after = c .write-edges .last .1 .1 .1 .0
+  after = c .list-chunk .last .1 .1 .1 .0
 
-  again : Written (rows at) (first at) (row (sized (read (found c))) + n (sized (read (found c)))) (c .write-edges .result)
+  again : Written (rows at) (first at) (row (sized (read (found c))) + n (sized (read (found c)))) (c .list-chunk .result)
       (chunk (read (found c)) / 2 ^ (n (sized (read (found c))) - 1)) after
   again =
       let e = found c in
@@ -128,7 +128,7 @@ module _ (c : tie.After-write-edges Inv-loop μ-loop) where
       let l = at .loop in
       written-next (rows at) (first at) (row t) (n t) (l .k) (l .carry) (chunk (read e)) (e .edge-word .result) (l .out) (l .inv .1)
       (some t) (short t) (room t) (word (read e)) (e .edge-word .ensures)
-      (c .write-edges .result) after (c .write-edges .ensures .0) (c .write-edges .ensures .1)
+      (c .list-chunk .result) after (c .list-chunk .ensures .0) (c .list-chunk .ensures .1)
 
 -- ---- the answers
 
@@ -147,11 +147,11 @@ edge-word-requires c κs =
     let l = head t .loop in
     ((some t, short t), carry-small (rows (head t)) (l .row) (l .k) (l .carry) (l .inv .1 .counted))
 
-cast-write-edges : tie.Need-cast-write-edges Inv-loop μ-loop
-cast-write-edges c = omega (arith, start (here c) .pre .0 .0)
+cast-list-chunk : tie.Need-cast-list-chunk Inv-loop μ-loop
+cast-list-chunk c = omega (arith, start (here c) .pre .0 .0)
 
-write-edges-requires : tie.Need-write-edges-requires Inv-loop μ-loop
-write-edges-requires c κs =
+list-chunk-requires : tie.Need-list-chunk-requires Inv-loop μ-loop
+list-chunk-requires c κs =
     let e = c .before in
     (omega (arith, start (here e) .pre .0 .0), omega (arith, fits e, kept (here e)))
 
@@ -216,8 +216,8 @@ write-turns-spec =
     chunk-len-requires
     chunk-requires
     edge-word-requires
-    cast-write-edges
-    write-edges-requires
+    cast-list-chunk
+    list-chunk-requires
     sub-carry
     shr-carry
     add-row

@@ -1,4 +1,4 @@
--- `mask::list::list_chunk` meets its contract.
+-- `turns::inner::list_chunk` meets its contract.
 -- The invariant: the rows that are left, over the entries from p on, are the whole over those from k on. Assumes nothing.
 use Prim.Native.Nat.{ℕ, _+_, _-_, _<_, _^_}
 use mathlib.Core.Path.{_≡_, refl, sym, ap, _∙_}
@@ -15,10 +15,10 @@ use Rattle.rows.proofs.SpliceLaws.{splice-nil}
 use Rattle.rows.proofs.ListLaws.{rows-count}
 use Rattle.rows.proofs.ClearLaws.{count-low}
 use Rattle.rows.proofs.PartLaws.{rows-zero}
-use Rattle.mask.proofs.ListOutLaws.{bit-turn}
+use Rattle.turns.proofs.WrittenLaws.{bit-turn}
 use borrow.Author.Needs.{needs}
-use Rattle.mask.proofs.list.list_chunk.Statement.{statement}
-use Rattle.mask.proofs.list.list_chunk.Tie as tie
+use Rattle.turns.proofs.inner.list_chunk.Statement.{statement}
+use Rattle.turns.proofs.inner.list_chunk.Tie as tie
 
 abbrev Inv-loop : tie.InvT-loop
 Inv-loop chunk base k out₀ rest₀ p₀ out rest p =
