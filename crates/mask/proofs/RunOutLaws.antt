@@ -2,7 +2,7 @@
 -- By recursion over the rows, and by the law of tables.
 -- Assumes nothing.
 use Prim.Native.Nat.{ℕ, zero, suc, _+_, _*_, _/_, _≤_, _<_}
-use native.Mathlib.Nat.{add-zero, zero-add, suc-add, add-suc}
+use native.Mathlib.Nat.{add-zero, suc-add, add-suc}
 use mathlib.Core.Path.{_≡_, refl, sym, ap, _∙_}
 use mathlib.Core.Bool.{true, false}
 use mathlib.Core.List.{List, [], _∷_}
@@ -69,7 +69,7 @@ module _ (o : Operand) (out : List ℕ) where
       (then-refuses (operandChecks 1 o) (decLe needed (length out)) 8 0 (refusal 8 0) .1
       (inr (accepted-as 1 o .1 m, refl, λ r. omega (arith, runs-even (rowsOf o)))))
 
-  pub runs-room : Accepted o → length runs ≤ length out → toRunsVerdict o out ≡ Fine
+  runs-room : Accepted o → length runs ≤ length out → toRunsVerdict o out ≡ Fine
   runs-room m h = convert-fine o needed (length out) .1 (m, omega (arith, runs-even (rowsOf o)))
 
   -- and what it answers and leaves
@@ -80,6 +80,6 @@ module _ (o : Operand) (out : List ℕ) where
   abbrev told : Written
   told = record { answer = answered Fine (rowsOf o) noRoute; runs = length runs / 2 }
 
-  pub runs-written : toRunsVerdict o out ≡ Fine → length runs ≤ length out → (told ≡ toRuns o out) × (splice 0 out runs ≡ toRunsOut o out)
+  pub runs-written : Accepted o → length runs ≤ length out → (told ≡ toRuns o out) × (splice 0 out runs ≡ toRunsOut o out)
   unfolding toRuns toRunsOut
-  runs-written e h = rw e (refl, list-front out runs needed (runs-even (rowsOf o)) (omega (arith, runs-even (rowsOf o))))
+  runs-written m h = rw (runs-room m h) (refl, list-front out runs needed (runs-even (rowsOf o)) (omega (arith, runs-even (rowsOf o))))

@@ -65,7 +65,7 @@ module _ (o : Operand) (needed room : ℕ) where
         (λ e. convert-met .0 (t .0 e), λ p. t .1 (convert-met .1 p))
 
 module _ (o : Operand) (out : List ℕ) where
-  -- each refusal exactly when: 1 to 6 name operand 1, 8 names none
+  -- each refusal exactly when: 1 to 6 and 14 name operand 1, 8 names none
   pub to-words-refuses : (x : Refusal) → zero < x .number → (toWords o out .refusal ≡ x) ↔ Refuses o (wordsFor (lengthOf (o .form))) (length out) x
   unfolding toWords
   to-words-refuses = refuses o (wordsFor (lengthOf (o .form))) (length out) _ _

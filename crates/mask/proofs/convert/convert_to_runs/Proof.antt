@@ -17,7 +17,7 @@ use Rattle.rules.specs.Answer.{accepted, answered, noRoute}
 use Rattle.rules.proofs.OperandLaws.{accepted-limit, accepted-few}
 use Rattle.rules.proofs.AnswerLaws.{own-answer}
 use Rattle.mask.specs.Judged.{noRuns}
-use Rattle.mask.proofs.RunOutLaws.{runs-no-room, runs-room, runs-refused, runs-written}
+use Rattle.mask.proofs.RunOutLaws.{runs-no-room, runs-refused, runs-written}
 use Rattle.mask.proofs.convert.convert_to_runs.Statement.{statement}
 use Rattle.mask.proofs.convert.convert_to_runs.Tie as tie
 
@@ -96,7 +96,7 @@ returns-2 c =
     let o = operand s in
     let counted = ap (λ (n : ℕ). accepted n noRoute (lengthOf (s .args .operand .form))) (s .pre .1) in
     let own : c .own-answer .result ≡ answered Fine (rowsOf o) noRoute = c .own-answer .ensures ∙ counted ∙ own-answer o noRoute (s .pre .0) in
-    let p = runs-written o (out s) (runs-room o (out s) (s .pre .0) (room e)) (room e) in
+    let p = runs-written o (out s) (s .pre .0) (room e) in
     (ap₂ with own (e .before .count-runs .ensures) ∙ p .0, w .write-runs .ensures ∙ p .1)
 
 pub convert-to-runs-spec : {M : Type 1} → statement M

@@ -1,6 +1,5 @@
 -- `mask::convert::no_runs` meets its contract: the answer is the refusal's, and there are no runs.
 -- By what the call gives. Assumes nothing.
-use Prim.Native.Nat.{ℕ}
 use mathlib.Core.Path.{ap}
 use Rattle.rules.specs.declared.Answer.{Answer}
 use Rattle.rules.specs.declared.Written.{Written}

@@ -1,8 +1,6 @@
 -- `mask::runs::count_runs` meets its contract: each form's runs are counted as it has its rows.
 -- By the case that the match tells, and what acceptance gives of it. Assumes nothing.
-use Prim.Native.Nat.{ℕ}
 use mathlib.Core.Path.{_≡_, refl, sym, ap, subst, _∙_}
-use mathlib.Core.List.{List}
 use lib.ListN.{length}
 use denote.Ref.{now}
 use Rattle.rows.specs.Runs.{runsOf}

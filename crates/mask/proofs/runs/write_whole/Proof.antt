@@ -1,8 +1,7 @@
 -- `mask::runs::write_whole` meets its contract: a run is its first row and the row past its last, stored one after the other.
 -- By the one run of rows that are all set. Assumes nothing.
 use Prim.Native.Nat.{_<_, _≤_}
-use mathlib.Core.Path.{_≡_, sym, ap, _∙_}
-use mathlib.Core.List.{[], _∷_}
+use mathlib.Core.Path.{sym, ap, _∙_}
 use native.Mathlib.Omega.{arith}
 use lib.ListN.{length, length-set}
 use denote.Ref.{now}
