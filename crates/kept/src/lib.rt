@@ -2,3 +2,4 @@
 // bit of the output on, and tells how many; what calls it has checked the operands.
 mod copies;
 pub mod inner;
+mod keeps;
