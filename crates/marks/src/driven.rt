@@ -27,7 +27,8 @@ pub struct Place {
 
 // From a place that is not past the rank on, the place whose chunk holds it.
 pub fn seek(words: &[u64], start: u64, len: u64, from: Place, rank: Rank) -> Place
-    requires { ⌜ HasRows start len (now words) × Walked (view start len (now words)) from × (from .passed .0 ≤ rank .0) × (rank .0 < count (view start len (now words))) ⌝ }
+    requires { ⌜ HasRows start len (now words) × Walked (view start len (now words)) from
+        × (from .passed .0 ≤ rank .0) × (rank .0 < count (view start len (now words))) ⌝ }
     ensures { λ r. ⌜ Holds (view start len (now (words .entry))) r rank ⌝ }
 {
     let mut place = from;

@@ -1,16 +1,15 @@
 -- What lies behind bits that were laid is as it was, and what lies there laid over itself changes nothing. By recursion over the place.
 -- Assumes nothing.
-use Prim.Native.Nat.{ℕ, zero, suc, _+_, _-_, _^_, _≤_, _<_}
+use Prim.Native.Nat.{ℕ, zero, suc, _+_, _-_, _^_, _≤_}
 use native.Mathlib.Nat.{zero-add, suc-add, lt-of-lt-of-le}
-use mathlib.Core.Path.{_≡_, refl, sym, ap, ap₂, _∙_}
+use mathlib.Core.Path.{_≡_, refl, sym, ap, _∙_}
 use mathlib.Core.Bool.{Bool}
-use mathlib.Core.List.{List, [], _∷_, _++_}
+use mathlib.Core.List.{List, [], _∷_}
 use native.Mathlib.Omega.{arith}
 use lib.ListN.{length, take, drop, length-take}
 use lib.Seq.{drop-drop}
 use lib.Pow.{pow-mono}
 use Rattle.rows.specs.Rows.{over, splice}
-use Rattle.rows.specs.Word.{wordOf}
 use Rattle.rows.specs.Words.{Below, bitsOfAll, view, wordsOf}
 use Rattle.rows.specs.Laid.{laidIn, laid}
 use Rattle.rows.proofs.WordLaws.{wordOf-lt}
@@ -42,7 +41,9 @@ pub view-from : (start row len : ℕ) (ws : List ℕ) → row ≤ len → view (
 view-from start row len ws h =
     let bs = bitsOfAll 64 ws in
     let all : row + (len - row) ≡ len = omega arith in
-    ap (take (len - row)) (sym (drop-drop row start bs)) ∙ sym (drop-take row (len - row) (drop start bs)) ∙ ap (λ (k : ℕ). drop row (take k (drop start bs))) all
+    ap (take (len - row)) (sym (drop-drop row start bs))
+    ∙ sym (drop-take row (len - row) (drop start bs))
+    ∙ ap (λ (k : ℕ). drop row (take k (drop start bs))) all
 
 -- ---- what lies there, laid over itself
 
