@@ -1,2 +1,4 @@
 pub mod CopyLaws
 pub mod UnderLaws
+pub mod KeepLaws
+pub mod EntryLaws

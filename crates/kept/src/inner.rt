@@ -4,11 +4,12 @@ ghost use Prim.Native.Nat.{_+_, _*_, _≤_};
 ghost use lib.ListN.{length, drop};
 ghost use denote.Ref.{now};
 ghost use Rattle.rows.specs.Rows.{count, compose};
-ghost use Rattle.rows.specs.Words.{bitsOfAll};
+ghost use Rattle.rows.specs.Words.{bitsOfAll, view};
 ghost use Rattle.rows.specs.Runs.{inRuns, runLengths, Apart};
 ghost use Rattle.rows.specs.Laid.{laid};
 ghost use Rattle.rows.specs.Asks.{Room};
 use super::copies::copy_ranks;
+use super::keeps::keep_run;
 use books::inner::clear_rows;
 use rows::Rank;
 use rows::Row;
@@ -40,6 +41,33 @@ pub fn lay_ranks_under_runs(
         sum += set;
         rank += held;
         done = past;
+        i += 2;
+    }
+    let left = len - done;
+    clear_rows(out, at, Row(done), left);
+    sum
+}
+
+// The rank mask in runs; self's rows lie in the output already, from bit at on. Of each run the rows from its first rank to its last stay, and all
+// else is cleared.
+pub fn keep_runs(runs: &[u32], len: u64, at: u64, out: &mut [u64]) -> u64
+    requires { ⌜ (len ≤ 1048576) × Room at len (now out) × Apart 0 (count (view at len (now out))) (now runs) ⌝ }
+    ensures { λ r. ⌜ (r ≡ count (compose (view at len (now (out .entry))) (inRuns (count (view at len (now (out .entry)))) (now (runs .entry)))))
+        × (now (out .exit) ≡ laid at (compose (view at len (now (out .entry)))
+        (inRuns (count (view at len (now (out .entry)))) (now (runs .entry)))) (now (out .entry))) ⌝ }
+{
+    let mut done: u64 = 0;
+    let mut rank: u64 = 0;
+    let mut sum: u64 = 0;
+    let mut i: usize = 0;
+    while i < runs.len() {
+        let first = runs[i] as u64;
+        let past = runs[i + 1] as u64;
+        let gap = first - rank;
+        let held = past - first;
+        done = keep_run(done, gap, held, len, at, out);
+        rank = past;
+        sum += held;
         i += 2;
     }
     let left = len - done;

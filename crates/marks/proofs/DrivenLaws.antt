@@ -97,7 +97,7 @@ module _ (s : List Bool) (place : Place) (rank : Rank) (h : Holds s place rank) 
 
 -- ---- a loop over ranks
 
-ascending-in : (b c d e : ℕ) (rs : List ℕ) → b ≤ c → d ≤ e → Ascending c d rs → Ascending b e rs
+pub ascending-in : (b c d e : ℕ) (rs : List ℕ) → b ≤ c → d ≤ e → Ascending c d rs → Ascending b e rs
 ascending-in b c d e [] h l a = tt
 ascending-in b c d e (r ∷ rs) h l a = (omega arith, omega arith, ascending-in (suc r) (suc r) d e rs (omega arith) l (a .2))
 

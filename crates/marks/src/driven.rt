@@ -11,7 +11,7 @@ ghost use Rattle.rows.specs.Words.{view};
 ghost use Rattle.rows.specs.Lists.{listed, Ascending, setRows, select};
 ghost use Rattle.rows.specs.Laid.{laid, marked};
 ghost use Rattle.rows.specs.Asks.{Room, InView};
-ghost use Rattle.marks.specs.Driven.{Walked, Holds};
+ghost use Rattle.marks.specs.Driven.{HasRows, Walked, Holds};
 use books::inner::mark_row;
 use books::inner::rank_chunk;
 use books::inner::self_chunk;
@@ -26,8 +26,9 @@ pub struct Place {
 }
 
 // From a place that is not past the rank on, the place whose chunk holds it.
-fn seek(words: &[u64], start: u64, len: u64, from: Place, rank: Rank) -> Place
-    requires { ⌜ InView start len (now words) × Walked (view start len (now words)) from × (from .passed .0 ≤ rank .0) × (rank .0 < count (view start len (now words))) ⌝ }
+pub fn seek(words: &[u64], start: u64, len: u64, from: Place, rank: Rank) -> Place
+    requires { ⌜ HasRows start len (now words) × Walked (view start len (now words)) from
+        × (from .passed .0 ≤ rank .0) × (rank .0 < count (view start len (now words))) ⌝ }
     ensures { λ r. ⌜ Holds (view start len (now (words .entry))) r rank ⌝ }
 {
     let mut place = from;
@@ -44,8 +45,8 @@ fn seek(words: &[u64], start: u64, len: u64, from: Place, rank: Rank) -> Place
 }
 
 // The row of a rank that the chunk at the place holds.
-fn row_in(words: &[u64], start: u64, len: u64, place: Place, rank: Rank) -> Row
-    requires { ⌜ InView start len (now words) × Holds (view start len (now words)) place rank ⌝ }
+pub fn row_in(words: &[u64], start: u64, len: u64, place: Place, rank: Rank) -> Row
+    requires { ⌜ HasRows start len (now words) × Holds (view start len (now words)) place rank ⌝ }
     ensures { λ r. ⌜ r .0 ≡ select (view start len (now (words .entry))) (rank .0) ⌝ }
 {
     let left = (rank.0 - place.passed.0) as u32;

@@ -1,19 +1,38 @@
 // The kernels of routes 4, 5 and 6, with one promise: the composition is laid from bit at on. That part of the output is cleared first, and the
 // rows are marked in it.
 ghost use mathlib.Core.Path.{_≡_};
-ghost use Prim.Native.Nat.{_+_, _*_, _≤_};
+ghost use Prim.Native.Nat.{_+_, _*_, _≤_, _<_};
 ghost use lib.ListN.{length, drop};
 ghost use denote.Ref.{now};
 ghost use Rattle.rows.specs.Rows.{count, compose};
 ghost use Rattle.rows.specs.Words.{bitsOfAll, view};
-ghost use Rattle.rows.specs.Lists.{listed, Ascending};
+ghost use Rattle.rows.specs.Lists.{listed, Ascending, select};
 ghost use Rattle.rows.specs.Laid.{laid};
 ghost use Rattle.rows.specs.Asks.{Room, InView};
+ghost use Rattle.marks.specs.Driven.{HasRows};
+use super::driven::Place;
 use super::driven::intersect_mask_driven_list;
 use super::driven::intersect_mask_driven_words;
+use super::driven::row_in;
+use super::driven::seek;
 use super::lists::intersect_by_rank_indices;
 use super::lists::intersect_indices_by_rank_bits;
 use laid::inner::clear;
+use rows::Rank;
+use rows::Row;
+
+// The row of a rank in rows that lie from any bit on. The walk begins at the first of them.
+pub fn row_of(words: &[u64], start: u64, len: u64, rank: Rank) -> Row
+    requires { ⌜ HasRows start len (now words) × (rank .0 < count (view start len (now words))) ⌝ }
+    ensures { λ r. ⌜ r .0 ≡ select (view start len (now (words .entry))) (rank .0) ⌝ }
+{
+    let from = Place {
+        done: Row(0),
+        passed: Rank(0),
+    };
+    let place = seek(words, start, len, from, rank);
+    row_in(words, start, len, place, rank)
+}
 
 // Route 4.
 pub fn lay_entry_at_rank(rows: &[u32], ranks: &[u32], len: u64, at: u64, out: &mut [u64])

@@ -28,10 +28,10 @@ within : (s : tie.Start) → s .args .place .done .0 < s .args .len
 within s =
     let a = s .args in
     let v = view (a .start) (a .len) (now (a .words)) in
-    omega (arith, place-in v (a .place) (a .rank) (s .pre .1), view-length (a .start) (a .len) (now (a .words)) (s .pre .0 .2))
+    omega (arith, place-in v (a .place) (a .rank) (s .pre .1), view-length (a .start) (a .len) (now (a .words)) (s .pre .0 .1))
 
 self-chunk-requires : tie.Need-self-chunk-requires
-self-chunk-requires c κs = (c .before .before .before .pre .0 .2, within (c .before .before .before))
+self-chunk-requires c κs = (c .before .before .before .pre .0 .1, within (c .before .before .before))
 
 select-bit-position-requires : tie.Need-select-bit-position-requires
 select-bit-position-requires c κs = search needs

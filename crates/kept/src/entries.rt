@@ -1,0 +1,74 @@
+// The row of a rank in runs: they are walked by their lengths to the run that holds the rank, and from its first row on the rows are counted off.
+ghost use mathlib.Core.Path.{_≡_};
+ghost use mathlib.Core.Bool.{true};
+ghost use mathlib.Core.List.{[], _∷_};
+ghost use Prim.Native.Nat.{_+_, _≤_, _<_};
+ghost use denote.Ref.{now};
+ghost use Rattle.rows.specs.Lists.{select};
+ghost use Rattle.rows.specs.Runs.{inRuns, runLengths, Apart};
+ghost use Rattle.rows.specs.Laid.{laid};
+ghost use Rattle.rows.specs.Asks.{Room};
+ghost use Rattle.kept.specs.Places.{Passed, Holds};
+use books::inner::mark_row;
+use rows::Rank;
+use rows::Row;
+
+// A place in the walk over runs: the number of the first run not passed, and the rank of its first row.
+pub struct Place {
+    pub run: usize,
+    pub passed: Rank,
+}
+
+// From a place that is not past the rank on, the place whose run holds it.
+fn seek_run(runs: &[u32], len: u64, from: Place, rank: Rank) -> Place
+    requires { ⌜ Apart 0 len (now runs) × (len ≤ 1048576) × Passed (now runs) from × (from .passed .0 ≤ rank .0) × (rank .0 < runLengths (now runs)) ⌝ }
+    ensures { λ r. ⌜ Holds (now (runs .entry)) r rank ⌝ }
+{
+    let mut run = from.run;
+    let mut passed = from.passed.0;
+    loop {
+        let i = run * 2;
+        let first = runs[i] as u64;
+        let past = runs[i + 1] as u64;
+        let next = passed + (past - first);
+        if rank.0 < next {
+            return Place {
+                run: run,
+                passed: Rank(passed),
+            };
+        }
+        run += 1;
+        passed = next;
+    }
+}
+
+// The row of a rank that the run at the place holds.
+fn row_in_run(runs: &[u32], len: u64, place: Place, rank: Rank) -> Row
+    requires { ⌜ Apart 0 len (now runs) × (len ≤ 1048576) × Holds (now runs) place rank ⌝ }
+    ensures { λ r. ⌜ r .0 ≡ select (inRuns len (now (runs .entry))) (rank .0) ⌝ }
+{
+    let i = place.run * 2;
+    let first = runs[i] as u64;
+    let row = first + (rank.0 - place.passed.0);
+    Row(row)
+}
+
+// The row of one rank marked, and the place where the walk stands then.
+pub fn mark_entry(
+    runs: &[u32],
+    len: u64,
+    from: Place,
+    rank: Rank,
+    at: u64,
+    out: &mut [u64],
+) -> Place
+    requires { ⌜ Apart 0 len (now runs) × (len ≤ 1048576) × Room at len (now out) × Passed (now runs) from
+        × (from .passed .0 ≤ rank .0) × (rank .0 < runLengths (now runs)) ⌝ }
+    ensures { λ r. ⌜ Passed (now (runs .entry)) r × (r .passed .0 ≤ rank .0)
+        × (now (out .exit) ≡ laid (at + select (inRuns len (now (runs .entry))) (rank .0)) (true ∷ []) (now (out .entry))) ⌝ }
+{
+    let place = seek_run(runs, len, from, rank);
+    let row = row_in_run(runs, len, place, rank);
+    mark_row(out, at, row);
+    place
+}
