@@ -55,14 +55,7 @@ fn row_in_run(runs: &[u32], len: u64, place: Place, rank: Rank) -> Row
 }
 
 // The row of one rank marked, and the place where the walk stands then.
-fn mark_entry(
-    runs: &[u32],
-    len: u64,
-    from: Place,
-    rank: Rank,
-    at: u64,
-    out: &mut [u64],
-) -> Place
+fn mark_entry(runs: &[u32], len: u64, from: Place, rank: Rank, at: u64, out: &mut [u64]) -> Place
     requires { ⌜ Apart 0 len (now runs) × (len ≤ 1048576) × Room at len (now out) × Passed (now runs) from
         × (from .passed .0 ≤ rank .0) × (rank .0 < runLengths (now runs)) ⌝ }
     ensures { λ r. ⌜ Passed (now (runs .entry)) r × (r .passed .0 ≤ rank .0)
