@@ -1,6 +1,6 @@
 -- A walk over runs: its place, and the run that holds a rank.
 -- Assumes nothing.
-use Prim.Native.Nat.{_+_, _-_, _*_, _≤_, _<_, ℕ}
+use Prim.Native.Nat.{ℕ, _+_, _-_, _*_, _≤_, _<_}
 use mathlib.Core.Path.{_≡_}
 use mathlib.Core.List.{List}
 use lib.ListN.{length, take, getD}

@@ -4,9 +4,10 @@ ghost use mathlib.Core.Bool.{true};
 ghost use mathlib.Core.List.{[], _∷_};
 ghost use Prim.Native.Nat.{_+_, _≤_, _<_};
 ghost use denote.Ref.{now};
-ghost use Rattle.rows.specs.Lists.{select};
+ghost use Rattle.rows.specs.Rows.{compose};
+ghost use Rattle.rows.specs.Lists.{listed, Ascending, setRows, select};
 ghost use Rattle.rows.specs.Runs.{inRuns, runLengths, Apart};
-ghost use Rattle.rows.specs.Laid.{laid};
+ghost use Rattle.rows.specs.Laid.{laid, marked};
 ghost use Rattle.rows.specs.Asks.{Room};
 ghost use Rattle.kept.specs.Places.{Passed, Holds};
 use books::inner::mark_row;
@@ -54,14 +55,7 @@ fn row_in_run(runs: &[u32], len: u64, place: Place, rank: Rank) -> Row
 }
 
 // The row of one rank marked, and the place where the walk stands then.
-pub fn mark_entry(
-    runs: &[u32],
-    len: u64,
-    from: Place,
-    rank: Rank,
-    at: u64,
-    out: &mut [u64],
-) -> Place
+fn mark_entry(runs: &[u32], len: u64, from: Place, rank: Rank, at: u64, out: &mut [u64]) -> Place
     requires { ⌜ Apart 0 len (now runs) × (len ≤ 1048576) × Room at len (now out) × Passed (now runs) from
         × (from .passed .0 ≤ rank .0) × (rank .0 < runLengths (now runs)) ⌝ }
     ensures { λ r. ⌜ Passed (now (runs .entry)) r × (r .passed .0 ≤ rank .0)
@@ -71,4 +65,22 @@ pub fn mark_entry(
     let row = row_in_run(runs, len, place, rank);
     mark_row(out, at, row);
     place
+}
+
+// Self's rows at the listed ranks, marked: row 0 of self at bit at.
+pub fn mark_entries(runs: &[u32], ranks: &[u32], len: u64, at: u64, out: &mut [u64])
+    requires { ⌜ Apart 0 len (now runs) × Ascending 0 (runLengths (now runs)) (now ranks) × (len ≤ 1048576) × Room at len (now out) ⌝ }
+    ensures { λ _. ⌜ now (out .exit) ≡ marked at (setRows 0 (compose (inRuns len (now (runs .entry)))
+        (listed (runLengths (now (runs .entry))) (now (ranks .entry))))) (now (out .entry)) ⌝ }
+{
+    let mut place = Place {
+        run: 0,
+        passed: Rank(0),
+    };
+    let mut i: usize = 0;
+    while i < ranks.len() {
+        let entry = ranks[i] as u64;
+        place = mark_entry(runs, len, place, Rank(entry), at, out);
+        i += 1;
+    }
 }

@@ -5,12 +5,15 @@ ghost use lib.ListN.{length, drop};
 ghost use denote.Ref.{now};
 ghost use Rattle.rows.specs.Rows.{count, compose};
 ghost use Rattle.rows.specs.Words.{bitsOfAll, view};
+ghost use Rattle.rows.specs.Lists.{listed, Ascending};
 ghost use Rattle.rows.specs.Runs.{inRuns, runLengths, Apart};
 ghost use Rattle.rows.specs.Laid.{laid};
 ghost use Rattle.rows.specs.Asks.{Room};
 use super::copies::copy_ranks;
+use super::entries::mark_entries;
 use super::keeps::keep_run;
 use books::inner::clear_rows;
+use laid::inner::clear;
 use rows::Rank;
 use rows::Row;
 
@@ -73,4 +76,16 @@ pub fn keep_runs(runs: &[u32], len: u64, at: u64, out: &mut [u64]) -> u64
     let left = len - done;
     clear_rows(out, at, Row(done), left);
     sum
+}
+
+// Self in runs, the rank mask a list: that part of the output is cleared, and the row of each listed rank is marked in it.
+pub fn lay_entries_in_runs(runs: &[u32], ranks: &[u32], len: u64, at: u64, out: &mut [u64]) -> u64
+    requires { ⌜ Apart 0 len (now runs) × Ascending 0 (runLengths (now runs)) (now ranks) × (len ≤ 1048576) × Room at len (now out) ⌝ }
+    ensures { λ r. ⌜ (r ≡ count (compose (inRuns len (now (runs .entry))) (listed (runLengths (now (runs .entry))) (now (ranks .entry)))))
+        × (now (out .exit) ≡ laid at (compose (inRuns len (now (runs .entry)))
+        (listed (runLengths (now (runs .entry))) (now (ranks .entry)))) (now (out .entry))) ⌝ }
+{
+    clear(out, at, len);
+    mark_entries(runs, ranks, len, at, out);
+    ranks.len() as u64
 }
