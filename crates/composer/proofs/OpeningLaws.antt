@@ -49,8 +49,8 @@ module _ (st : State) (p : Pair) where
   -- a feed that is accepted has both pieces accepted
   pub judged-counts : (room : ℕ) → judged st p room ≡ Fine → (checkedOf 1 (p .self) .count ≡ countOf (p .self)) × (checkedOf 2 (p .rank) .count ≡ countOf (p .rank))
   judged-counts room e =
-      let open = then-fine opening (first (lengths room)) (sym (judged-parts room) ∙ e) .0 in
-      both-counts (p .self) (p .rank) (then-fine (first (stateChecks st)) (first (bothChecks (p .self) (p .rank))) open .1)
+      let begun = then-fine opening (first (lengths room)) (sym (judged-parts room) ∙ e) .0 in
+      both-counts (p .self) (p .rank) (then-fine (first (stateChecks st)) (first (bothChecks (p .self) (p .rank))) begun .1)
 
   -- an operand whose checks refused nothing is within the limit
   pub fine-short : first (bothChecks (p .self) (p .rank)) ≡ Fine → long p ≤ limit

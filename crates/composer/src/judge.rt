@@ -43,7 +43,7 @@ fn judge_lengths(ranks: u64, set: u64, end: u64, room: u64) -> Verdict
 
 // The end is computed only where the state and the piece are within their limits: their sum does not wrap.
 fn judge_after(state: State, both: Judged, rows: u64, ranks: u64, room: u64) -> Verdict
-    requires { ⌜ both .verdict ≡ Fine → rows ≤ limit ⌝ }
+    requires { ⌜ (both .verdict ≡ Fine → rows ≤ limit) ⌝ }
     ensures { λ v. ⌜ v ≡ thereafter state both rows ranks room ⌝ }
 {
     let operands = both.verdict;

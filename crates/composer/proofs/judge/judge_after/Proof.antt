@@ -61,16 +61,23 @@ enum-told : tie.Need-enum-told
 enum-told c = search needs
 
 add-judge-lengths : tie.Need-add-judge-lengths
-add-judge-lengths c = record { fits = omega (arith, small c) }
+add-judge-lengths c = record { fits = omega (arith, small (c .before)) }
 
 judge-lengths-requires : tie.Need-judge-lengths-requires
 judge-lengths-requires c κs = search needs
 
 returns : tie.Need-returns
-returns c = ?
+returns c =
+    let o = refused (c .before) in
+    let s = start o in
+    let lengths = first (pieceChecks (s .args .ranks) (s .args .both .rows) (s .args .state .done .0 + s .args .rows) (s .args .room)) in
+    sym (ap (λ (v : Verdict). ifFine v lengths v) (sym (opened-told o) ∙ c .before .before2 .given .1))
 
 returns-2 : tie.Need-returns-2
-returns-2 c = ?
+returns-2 c =
+    let e = c .before .before in
+    let lengths = first (pieceChecks (s e .args .ranks) (s e .args .both .rows) (s e .args .state .done .0 + s e .args .rows) (s e .args .room)) in
+    c .judge-lengths .ensures ∙ sym (ap (λ (v : Verdict). ifFine v lengths v) (opened-fine e))
 
 pub judge-after-spec : {M : Type 1} → statement M
 judge-after-spec =

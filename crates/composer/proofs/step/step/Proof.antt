@@ -27,11 +27,8 @@ entry c = c .before .before .before
 abbrev start : tie.After-length-of → tie.Start
 start c = entry (c .before .before .before)
 
-abbrev measured : tie.After-count-of2 → tie.After-length-of
+abbrev measured : tie.After-document-factors → tie.After-length-of
 measured c = c .before .before
-
-abbrev counted : tie.After-document-factors → tie.After-count-of2
-counted c = c .before .before
 
 abbrev chosen : tie.After-lay-composition → tie.After-document-factors
 chosen c = c .before .before
@@ -46,25 +43,25 @@ module _ (s : tie.Start) where
   state = s .args .state
 
   abbrev pair : Pair
-  pair = pairOf (lent (s .args .s) (now (s .args .swords)) (now (s .args .srows))) (lent (s .args .r) (now (s .args .rwords)) (now (s .args .rrows)))
+  pair = pairOf (lent (s .args .s .form) (now (s .args .swords)) (now (s .args .srows))) (lent (s .args .r .form) (now (s .args .rwords)) (now (s .args .rrows)))
 
   takes : Accepts state pair (length (now (s .args .out)))
-  takes = feed-takes state pair (length (now (s .args .out))) (s .pre)
+  takes = feed-takes state pair (length (now (s .args .out))) (s .pre .0)
 
 -- ---- the numbers that are counted, in the words of the state after the pair
 
-module _ (c : tie.After-count-of2) where
+module _ (c : tie.After-length-of) where
   abbrev s : tie.Start
-  s = start (measured c)
+  s = start c
 
-  rows-counted : measured c .length-of .result ≡ length (rowsOf (pair s .self))
-  rows-counted = measured c .length-of .ensures ∙ sym (self-length (pair s) (takes s .matched))
+  rows-counted : c .length-of .result ≡ length (rowsOf (pair s .self))
+  rows-counted = c .length-of .ensures ∙ sym (self-length (pair s) (takes s .matched))
 
-  ranks-counted : c .before .count-of .result ≡ count (rowsOf (pair s .self))
-  ranks-counted = c .before .count-of .ensures ∙ sym (self-count (pair s) (takes s .matched))
+  ranks-counted : s .args .s .count ≡ count (rowsOf (pair s .self))
+  ranks-counted = s .pre .1 ∙ sym (self-count (pair s) (takes s .matched))
 
-  kept-counted : c .count-of2 .result ≡ count (kept (pair s))
-  kept-counted = c .count-of2 .ensures ∙ sym (kept-count (pair s) (takes s .matched))
+  kept-counted : s .args .r .count ≡ count (kept (pair s))
+  kept-counted = s .pre .2 ∙ sym (kept-count (pair s) (takes s .matched))
 
 moved-to : (c : tie.After-moved) → c .moved .result ≡ moved (state (s (c .before))) (pair (s (c .before)))
 moved-to c =
@@ -77,12 +74,6 @@ moved-to c =
 length-of-requires : tie.Need-length-of-requires
 length-of-requires c κs = search needs
 
-count-of-requires : tie.Need-count-of-requires
-count-of-requires c κs = search needs
-
-count-of-requires-2 : tie.Need-count-of-requires-2
-count-of-requires-2 c κs = search needs
-
 moved-requires : tie.Need-moved-requires
 moved-requires c κs =
     let w = moved-within (state (s c)) (pair (s c)) (length (now (s c .args .out))) (takes (s c)) in
@@ -93,8 +84,9 @@ document-factors-requires c κs = search needs
 
 lay-composition-requires : tie.Need-lay-composition-requires
 lay-composition-requires c κs =
-    let t = takes (s (counted (c .before))) in
-    (t .matched, (omega (arith, t .space), omega (arith, t .limited)))
+    let b = s (measured (c .before)) in
+    let t = takes b in
+    (t .matched, b .pre .1, b .pre .2, (omega (arith, t .space), omega (arith, t .limited)))
 
 same-length : tie.Need-same-length
 same-length c = search needs
@@ -103,7 +95,7 @@ returns : tie.Need-returns
 returns c =
     let l = laid-there c in
     let f = chosen l in
-    let p = pair (s (counted f)) in
+    let p = pair (s (measured f)) in
     let answer = l .lay-composition .ensures .0
     ∙ ap (λ (x : Factors). answered Fine (kept p) (routed x (p .self) (p .rank))) (f .document-factors .ensures) in
     ((λ i. record { answer = answer i; state = moved-to (f .before) i }), l .lay-composition .ensures .1)
@@ -113,8 +105,6 @@ step-spec =
     tie.close
     (tie.spec
     length-of-requires
-    count-of-requires
-    count-of-requires-2
     moved-requires
     document-factors-requires
     lay-composition-requires
