@@ -15,6 +15,8 @@ use Rattle.mask.proofs.to_words.Kinds as to-words-kinds
 use Rattle.mask.proofs.to_words.Reads as to-words
 use Rattle.mask.proofs.to_list.Kinds as to-list-kinds
 use Rattle.mask.proofs.to_list.Reads as to-list
+use Rattle.mask.proofs.to_runs.Kinds as to-runs-kinds
+use Rattle.mask.proofs.to_runs.Reads as to-runs
 use Rattle.bitops.proofs.and.Kinds as and-kinds
 use Rattle.bitops.proofs.and.Reads as and
 use Rattle.bitops.proofs.or.Kinds as or-kinds
@@ -42,6 +44,8 @@ use Rattle.probe.proofs.probe_to_words.Kinds as probe-to-words-kinds
 use Rattle.probe.proofs.probe_to_words.Reads as probe-to-words
 use Rattle.probe.proofs.probe_to_list.Kinds as probe-to-list-kinds
 use Rattle.probe.proofs.probe_to_list.Reads as probe-to-list
+use Rattle.probe.proofs.probe_to_runs.Kinds as probe-to-runs-kinds
+use Rattle.probe.proofs.probe_to_runs.Reads as probe-to-runs
 use Rattle.probe.proofs.probe_compose.Kinds as probe-compose-kinds
 use Rattle.probe.proofs.probe_compose.Reads as probe-compose
 use Rattle.probe.proofs.probe_set.Kinds as probe-set-kinds
@@ -65,6 +69,9 @@ mask-to-words-one κs a p x y v w hv hw = (hv .0 ∙ sym (hw .0), ap (λ (l : Li
 
 pub mask-to-list-one : OneAnswer 3 to-list-kinds.ps to-list-kinds.r to-list.Pre to-list.Post
 mask-to-list-one κs a p x y v w hv hw = (hv .0 ∙ sym (hw .0), ap (λ (l : List ℕ). (tt, (tt, (tt, (l, tt))))) (hv .1 ∙ sym (hw .1)))
+
+pub mask-to-runs-one : OneAnswer 3 to-runs-kinds.ps to-runs-kinds.r to-runs.Pre to-runs.Post
+mask-to-runs-one κs a p x y v w hv hw = (hv .0 ∙ sym (hw .0), ap (λ (l : List ℕ). (tt, (tt, (tt, (l, tt))))) (hv .1 ∙ sym (hw .1)))
 
 pub bitops-and-one : OneAnswer 5 and-kinds.ps and-kinds.r and.Pre and.Post
 bitops-and-one κs a p x y v w hv hw = (hv .0 ∙ sym (hw .0), ap (λ (l : List ℕ). (tt, (tt, (tt, (tt, (tt, (tt, (l, tt)))))))) (hv .1 ∙ sym (hw .1)))
@@ -104,6 +111,10 @@ probe-probe-to-words-one κs a p x y v w hv hw = (refl, ap (λ (m : Memory). (tt
 
 pub probe-probe-to-list-one : OneAnswer 5 probe-to-list-kinds.ps probe-to-list-kinds.r probe-to-list.Pre probe-to-list.Post
 probe-probe-to-list-one κs a p x y v w hv hw = (refl, ap (λ (m : Memory). (tt, (tt, (tt, (tt, (tt, (tt, (m .out, (m .answer .ans, (m .answer .den, tt)))))))))) (hv ∙ sym hw))
+
+pub probe-probe-to-runs-one : OneAnswer 5 probe-to-runs-kinds.ps probe-to-runs-kinds.r probe-to-runs.Pre probe-to-runs.Post
+probe-probe-to-runs-one κs a p x y v w hv hw =
+    (refl, ap (λ (m : Memory). (tt, (tt, (tt, (tt, (tt, (tt, (m .out, (m .answer .ans, (m .answer .den, tt)))))))))) (hv ∙ sym hw))
 
 pub probe-probe-compose-one : OneAnswer 7 probe-compose-kinds.ps probe-compose-kinds.r probe-compose.Pre probe-compose.Post
 probe-probe-compose-one κs a p x y v w hv hw = (refl, ap (λ (m : Memory). (tt, (tt, (tt, (tt, (tt, (tt, (tt, (tt, (tt, (tt, (tt, (tt, (m .out, (m .answer .ans, (m .answer .den, tt)))))))))))))))) (hv ∙ sym hw))

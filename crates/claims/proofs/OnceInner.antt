@@ -5,6 +5,7 @@ use mathlib.Core.Path.{sym, ap, _∙_, refl}
 use mathlib.Core.List.{List}
 use Prim.Native.Nat.{ℕ}
 use Rattle.claims.specs.OneAnswer.{OneAnswer}
+use Rattle.rows.specs.declared.Row.{Row}
 use Rattle.books.proofs.inner.self_chunk.Kinds as books-self-chunk-kinds
 use Rattle.books.proofs.inner.self_chunk.Reads as books-self-chunk
 use Rattle.books.proofs.inner.rank_chunk.Kinds as books-rank-chunk-kinds
@@ -81,12 +82,10 @@ use Rattle.operand.proofs.inner.forms.length_of.Kinds as operand-length-of-kind
 use Rattle.operand.proofs.inner.forms.length_of.Reads as operand-length-of
 use Rattle.operand.proofs.inner.forms.start_of.Kinds as operand-start-of-kinds
 use Rattle.operand.proofs.inner.forms.start_of.Reads as operand-start-of
-use Rattle.operand.proofs.inner.forms.count_of.Kinds as operand-count-of-kinds
-use Rattle.operand.proofs.inner.forms.count_of.Reads as operand-count-of
-use Rattle.operand.proofs.inner.forms.is_empty.Kinds as operand-is-empty-kinds
-use Rattle.operand.proofs.inner.forms.is_empty.Reads as operand-is-empty
-use Rattle.operand.proofs.inner.forms.is_full.Kinds as operand-is-full-kinds
-use Rattle.operand.proofs.inner.forms.is_full.Reads as operand-is-full
+use Rattle.operand.proofs.inner.counts.is_empty.Kinds as operand-is-empty-kinds
+use Rattle.operand.proofs.inner.counts.is_empty.Reads as operand-is-empty
+use Rattle.operand.proofs.inner.counts.is_full.Kinds as operand-is-full-kinds
+use Rattle.operand.proofs.inner.counts.is_full.Reads as operand-is-full
 use Rattle.operand.proofs.inner.chunks.chunk_of.Kinds as operand-chunk-of-kinds
 use Rattle.operand.proofs.inner.chunks.chunk_of.Reads as operand-chunk-of
 use Rattle.mask.proofs.inner.lay.lay_rows.Kinds as mask-lay-rows-kinds
@@ -143,6 +142,40 @@ use Rattle.intersect_by_rank.proofs.inner.judge.judge.Kinds as intersect-by-ran
 use Rattle.intersect_by_rank.proofs.inner.judge.judge.Reads as intersect-by-rank-judge
 use Rattle.laid.proofs.inner.copy_words.Kinds as laid-copy-words-kinds
 use Rattle.laid.proofs.inner.copy_words.Reads as laid-copy-words
+use Rattle.books.proofs.inner.row_bit.Kinds as books-row-bit-kinds
+use Rattle.books.proofs.inner.row_bit.Reads as books-row-bit
+use Rattle.books.proofs.inner.clear_rows.Kinds as books-clear-rows-kinds
+use Rattle.books.proofs.inner.clear_rows.Reads as books-clear-rows
+use Rattle.fills.proofs.inner.lay.lay_runs.Kinds as fills-lay-runs-kinds
+use Rattle.fills.proofs.inner.lay.lay_runs.Reads as fills-lay-runs
+use Rattle.fills.proofs.inner.list.list_runs.Kinds as fills-list-runs-kinds
+use Rattle.fills.proofs.inner.list.list_runs.Reads as fills-list-runs
+use Rattle.kept.proofs.inner.lay_ranks_under_runs.Kinds as ranks-under-runs-kinds
+use Rattle.kept.proofs.inner.lay_ranks_under_runs.Reads as ranks-under-runs
+use Rattle.kept.proofs.inner.keep_runs.Kinds as kept-keep-runs-kinds
+use Rattle.kept.proofs.inner.keep_runs.Reads as kept-keep-runs
+use Rattle.kept.proofs.inner.lay_entries_in_runs.Kinds as entries-in-runs-kinds
+use Rattle.kept.proofs.inner.lay_entries_in_runs.Reads as entries-in-runs
+use Rattle.laid.proofs.inner.lay_same.Kinds as laid-lay-same-kinds
+use Rattle.laid.proofs.inner.lay_same.Reads as laid-lay-same
+use Rattle.laid.proofs.inner.fill.Kinds as laid-fill-kinds
+use Rattle.laid.proofs.inner.fill.Reads as laid-fill
+use Rattle.marks.proofs.inner.row_of.Kinds as marks-row-of-kinds
+use Rattle.marks.proofs.inner.row_of.Reads as marks-row-of
+use Rattle.operand.proofs.inner.counts.tell.Kinds as operand-tell-kinds
+use Rattle.operand.proofs.inner.counts.tell.Reads as operand-tell
+use Rattle.operand.proofs.inner.forms.has_runs.Kinds as operand-has-runs-kinds
+use Rattle.operand.proofs.inner.forms.has_runs.Reads as operand-has-runs
+use Rattle.turns.proofs.inner.count_turns.Kinds as turns-count-turns-kinds
+use Rattle.turns.proofs.inner.count_turns.Reads as turns-count-turns
+use Rattle.turns.proofs.inner.list_chunk.Kinds as turns-list-chunk-kinds
+use Rattle.turns.proofs.inner.list_chunk.Reads as turns-list-chunk
+use Rattle.turns.proofs.inner.write_turns.Kinds as turns-write-turns-kinds
+use Rattle.turns.proofs.inner.write_turns.Reads as turns-write-turns
+use Rattle.turns.proofs.inner.count_list_turns.Kinds as count-list-turns-kinds
+use Rattle.turns.proofs.inner.count_list_turns.Reads as count-list-turns
+use Rattle.turns.proofs.inner.write_list_turns.Kinds as write-list-turns-kinds
+use Rattle.turns.proofs.inner.write_list_turns.Reads as write-list-turns
 
 pub books-self-chunk-one : OneAnswer 1 books-self-chunk-kinds.ps books-self-chunk-kinds.r books-self-chunk.Pre books-self-chunk.Post
 books-self-chunk-one κs a p x y v w hv hw = (hv ∙ sym hw, refl)
@@ -258,13 +291,10 @@ operand-length-of-one κs a p x y v w hv hw = (hv ∙ sym hw, refl)
 pub operand-start-of-one : OneAnswer 0 operand-start-of-kinds.ps operand-start-of-kinds.r operand-start-of.Pre operand-start-of.Post
 operand-start-of-one κs a p x y v w hv hw = (hv ∙ sym hw, refl)
 
-pub operand-count-of-one : OneAnswer 1 operand-count-of-kinds.ps operand-count-of-kinds.r operand-count-of.Pre operand-count-of.Post
-operand-count-of-one κs a p x y v w hv hw = (hv ∙ sym hw, refl)
-
-pub operand-is-empty-one : OneAnswer 1 operand-is-empty-kinds.ps operand-is-empty-kinds.r operand-is-empty.Pre operand-is-empty.Post
+pub operand-is-empty-one : OneAnswer 0 operand-is-empty-kinds.ps operand-is-empty-kinds.r operand-is-empty.Pre operand-is-empty.Post
 operand-is-empty-one κs a p x y v w hv hw = (hv ∙ sym hw, refl)
 
-pub operand-is-full-one : OneAnswer 1 operand-is-full-kinds.ps operand-is-full-kinds.r operand-is-full.Pre operand-is-full.Post
+pub operand-is-full-one : OneAnswer 0 operand-is-full-kinds.ps operand-is-full-kinds.r operand-is-full.Pre operand-is-full.Post
 operand-is-full-one κs a p x y v w hv hw = (hv ∙ sym hw, refl)
 
 pub operand-chunk-of-one : OneAnswer 1 operand-chunk-of-kinds.ps operand-chunk-of-kinds.r operand-chunk-of.Pre operand-chunk-of.Post
@@ -342,7 +372,7 @@ operand-has-row-numbers-one κs a p x y v w hv hw = (hv ∙ sym hw, refl)
 pub routes-number-one : OneAnswer 0 routes-number-kinds.ps routes-number-kinds.r routes-number.Pre routes-number.Post
 routes-number-one κs a p x y v w hv hw = (hv ∙ sym hw, refl)
 
-pub routes-choose-route-one : OneAnswer 2 routes-choose-route-kinds.ps routes-choose-route-kinds.r routes-choose-route.Pre routes-choose-route.Post
+pub routes-choose-route-one : OneAnswer 0 routes-choose-route-kinds.ps routes-choose-route-kinds.r routes-choose-route.Pre routes-choose-route.Post
 routes-choose-route-one κs a p x y v w hv hw = (hv ∙ sym hw, refl)
 
 pub intersect-by-rank-judge-one : OneAnswer 4 intersect-by-rank-judge-kinds.ps intersect-by-rank-judge-kinds.r intersect-by-rank-judge.Pre intersect-by-rank-judge.Post
@@ -350,3 +380,58 @@ intersect-by-rank-judge-one κs a p x y v w hv hw = (hv ∙ sym hw, refl)
 
 pub laid-copy-words-one : OneAnswer 2 laid-copy-words-kinds.ps laid-copy-words-kinds.r laid-copy-words.Pre laid-copy-words.Post
 laid-copy-words-one κs a p x y v w hv hw = (refl, ap (λ (l : List ℕ). (tt, (tt, (tt, (l, tt))))) (hv ∙ sym hw))
+
+pub books-row-bit-one : OneAnswer 0 books-row-bit-kinds.ps books-row-bit-kinds.r books-row-bit.Pre books-row-bit.Post
+books-row-bit-one κs a p x y v w hv hw = (hv ∙ sym hw, refl)
+
+pub books-clear-rows-one : OneAnswer 1 books-clear-rows-kinds.ps books-clear-rows-kinds.r books-clear-rows.Pre books-clear-rows.Post
+books-clear-rows-one κs a p x y v w hv hw = (refl, ap (λ (l : List ℕ). (l, (tt, (tt, (tt, tt))))) (hv ∙ sym hw))
+
+pub fills-lay-runs-one : OneAnswer 2 fills-lay-runs-kinds.ps fills-lay-runs-kinds.r fills-lay-runs.Pre fills-lay-runs.Post
+fills-lay-runs-one κs a p x y v w hv hw = (refl, ap (λ (l : List ℕ). (tt, (tt, (tt, (l, tt))))) (hv ∙ sym hw))
+
+pub fills-list-runs-one : OneAnswer 2 fills-list-runs-kinds.ps fills-list-runs-kinds.r fills-list-runs.Pre fills-list-runs.Post
+fills-list-runs-one κs a p x y v w hv hw = (refl, ap (λ (l : List ℕ). (tt, (tt, (l, tt)))) (hv ∙ sym hw))
+
+pub kept-lay-ranks-under-runs-one : OneAnswer 3 ranks-under-runs-kinds.ps ranks-under-runs-kinds.r ranks-under-runs.Pre ranks-under-runs.Post
+kept-lay-ranks-under-runs-one κs a p x y v w hv hw = (hv .0 ∙ sym (hw .0), ap (λ (l : List ℕ). (tt, (tt, (tt, (tt, (tt, (l, tt))))))) (hv .1 ∙ sym (hw .1)))
+
+pub kept-keep-runs-one : OneAnswer 2 kept-keep-runs-kinds.ps kept-keep-runs-kinds.r kept-keep-runs.Pre kept-keep-runs.Post
+kept-keep-runs-one κs a p x y v w hv hw = (hv .0 ∙ sym (hw .0), ap (λ (l : List ℕ). (tt, (tt, (tt, (l, tt))))) (hv .1 ∙ sym (hw .1)))
+
+pub kept-lay-entries-in-runs-one : OneAnswer 3 entries-in-runs-kinds.ps entries-in-runs-kinds.r entries-in-runs.Pre entries-in-runs.Post
+kept-lay-entries-in-runs-one κs a p x y v w hv hw = (hv .0 ∙ sym (hw .0), ap (λ (l : List ℕ). (tt, (tt, (tt, (tt, (l, tt)))))) (hv .1 ∙ sym (hw .1)))
+
+pub laid-lay-same-one : OneAnswer 1 laid-lay-same-kinds.ps laid-lay-same-kinds.r laid-lay-same.Pre laid-lay-same.Post
+laid-lay-same-one κs a p x y v w hv hw = (refl, ap (λ (l : List ℕ). (l, (tt, (tt, (tt, tt))))) (hv ∙ sym hw))
+
+pub laid-fill-one : OneAnswer 1 laid-fill-kinds.ps laid-fill-kinds.r laid-fill.Pre laid-fill.Post
+laid-fill-one κs a p x y v w hv hw = (refl, ap (λ (l : List ℕ). (l, (tt, (tt, tt)))) (hv ∙ sym hw))
+
+-- a row is its number
+abbrev rowOf : ℕ → Row
+rowOf n = record { 0 = n }
+
+pub marks-row-of-one : OneAnswer 1 marks-row-of-kinds.ps marks-row-of-kinds.r marks-row-of.Pre marks-row-of.Post
+marks-row-of-one κs a p x y v w hv hw = (ap rowOf (hv ∙ sym hw), refl)
+
+pub operand-tell-one : OneAnswer 0 operand-tell-kinds.ps operand-tell-kinds.r operand-tell.Pre operand-tell.Post
+operand-tell-one κs a p x y v w hv hw = (hv ∙ sym hw, refl)
+
+pub operand-has-runs-one : OneAnswer 0 operand-has-runs-kinds.ps operand-has-runs-kinds.r operand-has-runs.Pre operand-has-runs.Post
+operand-has-runs-one κs a p x y v w hv hw = (hv ∙ sym hw, refl)
+
+pub turns-count-turns-one : OneAnswer 1 turns-count-turns-kinds.ps turns-count-turns-kinds.r turns-count-turns.Pre turns-count-turns.Post
+turns-count-turns-one κs a p x y v w hv hw = (hv ∙ sym hw, refl)
+
+pub turns-list-chunk-one : OneAnswer 1 turns-list-chunk-kinds.ps turns-list-chunk-kinds.r turns-list-chunk.Pre turns-list-chunk.Post
+turns-list-chunk-one κs a p x y v w hv hw = (hv .0 ∙ sym (hw .0), ap (λ (l : List ℕ). (tt, (tt, (tt, (l, tt))))) (hv .1 ∙ sym (hw .1)))
+
+pub turns-write-turns-one : OneAnswer 2 turns-write-turns-kinds.ps turns-write-turns-kinds.r turns-write-turns.Pre turns-write-turns.Post
+turns-write-turns-one κs a p x y v w hv hw = (refl, ap (λ (l : List ℕ). (tt, (tt, (tt, (l, tt))))) (hv ∙ sym hw))
+
+pub turns-count-list-turns-one : OneAnswer 1 count-list-turns-kinds.ps count-list-turns-kinds.r count-list-turns.Pre count-list-turns.Post
+turns-count-list-turns-one κs a p x y v w hv hw = (hv ∙ sym hw, refl)
+
+pub turns-write-list-turns-one : OneAnswer 2 write-list-turns-kinds.ps write-list-turns-kinds.r write-list-turns.Pre write-list-turns.Post
+turns-write-list-turns-one κs a p x y v w hv hw = (refl, ap (λ (l : List ℕ). (tt, (tt, (l, tt)))) (hv ∙ sym hw))
