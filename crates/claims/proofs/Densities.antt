@@ -11,11 +11,12 @@ use Rattle.rows.proofs.RowLaws.{count-le-length}
 use Rattle.rules.specs.declared.Answer.{Answer}
 use Rattle.rules.specs.declared.Fed.{Fed}
 use Rattle.rules.specs.declared.State.{State}
+use Rattle.rules.specs.declared.Written.{Written}
 use Rattle.rules.specs.Operand.{Operand, rowsOf, lengthOf, Accepted}
 use Rattle.rules.specs.Stream.{Pair, long, kept}
 use Rattle.rules.proofs.OperandLaws.{accepted-length}
 use Rattle.rules.proofs.StreamLaws.{Accepts, kept-length}
-use Rattle.rules.proofs.Writes.{Writes, Lists}
+use Rattle.rules.proofs.Writes.{Writes, Lists, WritesRuns}
 use Rattle.rules.proofs.Densities.{Nearest, density-nearest}
 use Rattle.rules.proofs.Feeds.{Feeds}
 
@@ -33,6 +34,14 @@ pub listed-nearest : (o : Operand) {answer : Answer} {left out : List ℕ} → A
 listed-nearest o {answer} {left} {out} a w h =
     subst (Nearest (answer .summary .count) (lengthOf (o .form))) (sym (w .dense))
     (density-nearest (answer .summary .count) (lengthOf (o .form)) h (omega (arith, w .counted, count-le-length (rowsOf o), accepted-length o a)))
+
+-- a conversion to runs
+pub runs-nearest : (o : Operand) {told : Written} {left out : List ℕ} → Accepted o → WritesRuns (lengthOf (o .form)) (rowsOf o) told left out
+    → 0 < lengthOf (o .form) → Nearest (told .answer .summary .count) (lengthOf (o .form)) (told .answer .summary .density)
+runs-nearest o {told} {left} {out} a w h =
+    let counted = told .answer .summary .count in
+    subst (Nearest counted (lengthOf (o .form))) (sym (w .dense))
+    (density-nearest counted (lengthOf (o .form)) h (omega (arith, w .counted, count-le-length (rowsOf o), accepted-length o a)))
 
 -- a feed, of its piece
 pub fed-nearest : {st : State} {p : Pair} {room : ℕ} {gave : Fed} {left out : List ℕ} → Accepts st p room → Feeds st p gave left out → 0 < long p
