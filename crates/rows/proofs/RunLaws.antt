@@ -63,14 +63,14 @@ apart-rows b c e (f ∷ p ∷ ns) h k a =
     ap (λ (n : ℕ). tab b n has) whole
     ∙ tab-add b (f - b) ((p - f) + (e - p)) has
     ∙ ap₂ (λ (l m : List Bool). l ++ m)
-        (tab-all b (f - b) has false (λ i m n. held-below i f e (f ∷ p ∷ ns) (omega arith) (omega arith, a .1, a .2, a .3)))
-        (ap (λ (n : ℕ). tab n ((p - f) + (e - p)) has) first
-        ∙ tab-add f (p - f) (e - p) has
-        ∙ ap₂ (λ (l m : List Bool). l ++ m)
-            (tab-all f (p - f) has true (λ i m n. held-first i f p ns m (omega arith)))
-            (ap (λ (n : ℕ). tab n (e - p) has) past
-            ∙ tab-ext p (e - p) has (λ i. held i ns) (λ i m. held-past i f p ns m)
-            ∙ apart-rows p (suc p) e ns (omega arith) (omega arith) (a .3)))
+    (tab-all b (f - b) has false (λ i m n. held-below i f e (f ∷ p ∷ ns) (omega arith) (omega arith, a .1, a .2, a .3)))
+    (ap (λ (n : ℕ). tab n ((p - f) + (e - p)) has) first
+    ∙ tab-add f (p - f) (e - p) has
+    ∙ ap₂ (λ (l m : List Bool). l ++ m)
+    (tab-all f (p - f) has true (λ i m n. held-first i f p ns m (omega arith)))
+    (ap (λ (n : ℕ). tab n (e - p) has) past
+    ∙ tab-ext p (e - p) has (λ i. held i ns) (λ i m. held-past i f p ns m)
+    ∙ apart-rows p (suc p) e ns (omega arith) (omega arith) (a .3)))
     ∙ sym (append-assoc (replicate (f - b) false) (replicate (p - f) true) (runRows p e ns))
   where
     has : ℕ → Bool
@@ -219,7 +219,7 @@ mutual
       let one : suc b - b ≡ 1 = omega arith in
       append-assoc (replicate (f - c) false) (replicate (b - f) true) (runRows b e (turns false (suc b) s))
       ∙ ap (λ (l : List Bool). replicate (f - c) false ++ (replicate (b - f) true ++ l))
-          (outside-rows (suc b) b e s (omega arith) (omega arith) ∙ ap (λ (n : ℕ). replicate n false ++ s) one)
+      (outside-rows (suc b) b e s (omega arith) (omega arith) ∙ ap (λ (n : ℕ). replicate n false ++ s) one)
 
 pub rows-back : (s : List Bool) → inRuns (length s) (runsOf s) ≡ s
 rows-back s = in-runs (length s) (runsOf s) (runs-apart s) ∙ outside-rows 0 0 (length s) s (omega arith) (zero-add (length s))

@@ -112,12 +112,12 @@ module _ (w n x d : ℕ) (short : n ≤ w) (small : d < 2) where
   edge-bits =
       xor-bits n x (bitOr (x * 2 % 2 ^ w) d)
       ∙ ap (both differs (bitsOf n x))
-        (or-bits n (x * 2 % 2 ^ w) d
-        ∙ ap (λ (l : List Bool). both _||_ l (bitsOf n d)) (low-bits n w (x * 2) short)
-        ∙ sym (or-bits n (x * 2) d)
-        ∙ ap (bitsOf n) (or-shifted x 1 d small)
-        ∙ ap (λ (k : ℕ). bitsOf n (x * 2 + k)) (sym (digit-isOne d small))
-        ∙ moved-up n x (isOne d))
+      (or-bits n (x * 2 % 2 ^ w) d
+      ∙ ap (λ (l : List Bool). both _||_ l (bitsOf n d)) (low-bits n w (x * 2) short)
+      ∙ sym (or-bits n (x * 2) d)
+      ∙ ap (bitsOf n) (or-shifted x 1 d small)
+      ∙ ap (λ (k : ℕ). bitsOf n (x * 2 + k)) (sym (digit-isOne d small))
+      ∙ moved-up n x (isOne d))
       ∙ edges-both (isOne d) (bitsOf n x)
 
   pub edge-word : bitAnd (bitXor x (bitOr (x * 2 % 2 ^ w) d)) (2 ^ n - 1) ≡ wordOf (edges (isOne d) (bitsOf n x))

@@ -50,6 +50,6 @@ held-exactly i (first ∷ past ∷ ns) =
 pub runs-row : (o : Operand) (len : ℕ) → o .form ≡ Runs len → (i : ℕ) → i < len → (row o i ≡ true) ↔ Held i (o .numbers)
 runs-row o len e i h =
     let is : row o i ≡ held i (o .numbers) =
-        ap (λ (f : Form). getD (rowsBy f o) i false) e ∙ tab-at 0 len (λ k. held k (o .numbers)) i h ∙ ap (λ (k : ℕ). held k (o .numbers)) (zero-add i) in
+    ap (λ (f : Form). getD (rowsBy f o) i false) e ∙ tab-at 0 len (λ k. held k (o .numbers)) i h ∙ ap (λ (k : ℕ). held k (o .numbers)) (zero-add i) in
     let t = held-exactly i (o .numbers) in
     (λ q. t .0 (sym is ∙ q), λ q. is ∙ t .1 q)

@@ -122,7 +122,7 @@ two-written k past row out h =
 
 pub gap-written : (k past i : ℕ) (rs out : List ℕ) → i < length rs
     → splice (k + length (between past (getD rs i 0))) (splice k out (between past (getD rs i 0))) (gaps (getD rs i 0 + 1) (drop (i + 1) rs))
-      ≡ splice k out (gaps past (drop i rs))
+    ≡ splice k out (gaps past (drop i rs))
 gap-written k past i rs out h =
     splice-append k out (between past (getD rs i 0)) (gaps (getD rs i 0 + 1) (drop (i + 1) rs)) ∙ ap (splice k out) (sym (gaps-next past i rs h))
 

@@ -72,13 +72,13 @@ module _ (s : List Bool) (first : List ℕ) (row n k carry here found : ℕ) (ou
       let long : length done ≡ row = length-take-le row (edges false s) (omega (arith, edges-length false s)) in
       ap₂ (λ (o l : List ℕ). splice k o l) (so .rows) found-rows
       ∙ ap (λ (i : ℕ). splice i (splice 0 first (setRows 0 done)) (setRows row piece))
-        (so .counted .passed ∙ sym (zero-add (length (setRows 0 done)) ∙ rows-count 0 done))
+      (so .counted .passed ∙ sym (zero-add (length (setRows 0 done)) ∙ rows-count 0 done))
       ∙ splice-append 0 first (setRows 0 done) (setRows row piece)
       ∙ ap (splice 0 first)
-        (sym
-        (ap (setRows 0) (chunk-next row n (edges false s))
-        ∙ rows-append 0 done piece
-        ∙ ap (λ (i : ℕ). setRows 0 done ++ setRows i piece) (zero-add (length done) ∙ long)))
+      (sym
+      (ap (setRows 0) (chunk-next row n (edges false s))
+      ∙ rows-append 0 done piece
+      ∙ ap (λ (i : ℕ). setRows 0 done ++ setRows i piece) (zero-add (length done) ∙ long)))
 
   pub written-next : (k′ : ℕ) (out′ : List ℕ) → k′ ≡ k + count (bitsOf 64 found) → out′ ≡ splice k out (setRows row (bitsOf 64 found))
       → Written s first (row + n) k′ (here / 2 ^ (n - 1)) out′
@@ -109,8 +109,8 @@ module _ (s : List Bool) (first : List ℕ) (row k carry : ℕ) (out : List ℕ)
       let end : List ℕ = turns (lastOf false s) (0 + length s) [] in
       let count-is : k ≡ 0 + length done = so .counted .passed ∙ ap count every ∙ sym (zero-add (length done) ∙ rows-count 0 (edges false s)) in
       ap₂ (λ (o l : List ℕ). splice k o l)
-        (so .rows ∙ ap (λ (l : List Bool). splice 0 first (setRows 0 l)) every)
-        (ap₂ (λ (p : Bool) (i : ℕ). turns p i []) last (sym (zero-add (length s) ∙ all)))
+      (so .rows ∙ ap (λ (l : List Bool). splice 0 first (setRows 0 l)) every)
+      (ap₂ (λ (p : Bool) (i : ℕ). turns p i []) last (sym (zero-add (length s) ∙ all)))
       ∙ ap (λ (i : ℕ). splice i (splice 0 first done) end) count-is
       ∙ splice-append 0 first done end
       ∙ ap (splice 0 first) (sym (turns-whole false 0 s))

@@ -160,14 +160,7 @@ fn keeps_runs(route: Route, r: Form) -> bool
 }
 
 // The rank mask is runs: self is laid, in any form, and what each run of ranks has of it is kept.
-fn keep_ranks(
-    s: Form,
-    swords: &[u64],
-    srows: &[u32],
-    rruns: &[u32],
-    at: u64,
-    out: &mut [u64],
-)
+fn keep_ranks(s: Form, swords: &[u64], srows: &[u32], rruns: &[u32], at: u64, out: &mut [u64])
     requires { ⌜ Accepted (lent s (now swords) (now srows)) × Apart 0 (countOf (lent s (now swords) (now srows))) (now rruns) × Room at (lengthOf s) (now out) ⌝ }
     ensures { λ _. ⌜ now (out .exit) ≡ laid at (compose (rowsOf (lent s (now (swords .entry)) (now (srows .entry)))) (inRuns (countOf (lent s (now (swords .entry)) (now (srows .entry)))) (now (rruns .entry)))) (now (out .entry)) ⌝ }
 {

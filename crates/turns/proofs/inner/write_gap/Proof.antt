@@ -47,12 +47,11 @@ same-length c = search needs
 
 returns-2 : tie.Need-returns-2
 returns-2 c =
-    let a = c .before .args in
-    (
+    let a = c .before .args in (
       omega (arith, ap length (two c)),
       sym
-      (ap (splice (a .k) (now (a .out))) (two c)
-      ∙ two-written (a .k) (a .past) (a .row) (now (a .out)) (omega (arith, ap length (two c)))),
+          (ap (splice (a .k) (now (a .out))) (two c)
+          ∙ two-written (a .k) (a .past) (a .row) (now (a .out)) (omega (arith, ap length (two c)))),
     )
 
 pub write-gap-spec : {M : Type 1} → statement M

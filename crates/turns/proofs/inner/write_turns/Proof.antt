@@ -182,12 +182,13 @@ write-end-requires c κs =
     let h = last c in
     let l = h .loop in
     let end : l .row ≡ start h .args .len = omega (arith, long h, passed (c .before)) in
-    omega
-    (arith,
-    end-room (rows h) (first h) (l .row) (l .k) (l .carry) (l .out) (l .inv .1) (passed (c .before)),
-    ap (λ (r : ℕ). length (turns (isOne (l .carry)) r [])) end,
-    kept h,
-    start h .pre .1)
+    omega (
+      arith,
+      end-room (rows h) (first h) (l .row) (l .k) (l .carry) (l .out) (l .inv .1) (passed (c .before)),
+      ap (λ (r : ℕ). length (turns (isOne (l .carry)) r [])) end,
+      kept h,
+      start h .pre .1,
+    )
 
 same-length : tie.Need-same-length Inv-loop μ-loop
 same-length c =
