@@ -30,13 +30,13 @@ held-below i c e [] h a = refl
 held-below i c e (f ∷ []) h a = refl
 held-below i c e (f ∷ p ∷ ns) h a = rw (lt-leb f i (omega arith), held-below i (suc p) e ns (omega arith) (a .3))
 
--- those of the first run
-pub held-first : (i f p : ℕ) (ns : List ℕ) → f ≤ i → i < p → held i (f ∷ p ∷ ns) ≡ true
-held-first i f p ns h k = rw (le-leb f i h, lt-ltb i p k)
-
 -- past the first run those of the others
 pub held-past : (i f p : ℕ) (ns : List ℕ) → p ≤ i → held i (f ∷ p ∷ ns) ≡ held i ns
 held-past i f p ns h = rw (le-ltb i p h, and-false (leb f i))
+
+-- those of the first run
+pub held-first : (i f p : ℕ) (ns : List ℕ) → f ≤ i → i < p → held i (f ∷ p ∷ ns) ≡ true
+held-first i f p ns h k = rw (le-leb f i h, lt-ltb i p k)
 
 -- ---- tab: in two parts, and all the same
 
