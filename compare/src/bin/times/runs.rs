@@ -91,30 +91,29 @@ fn composition(
     beside: &'static str,
     bound: f64,
 ) {
-    let lent = |forms: [u64; 2]| (own.lent(forms[0], 0), ranks.lent(forms[1], 0));
-    let ((a, b), (c, d), (e, f)) = (lent(forms), lent(others), lent([WORDS, WORDS]));
-    let route = the_same(&a, &b);
-    the_same(&c, &d);
+    let lent = |forms: [u64; 2]| [own.lent(forms[0], 0), ranks.lent(forms[1], 0)];
+    let (pair, other, words) = (lent(forms), lent(others), lent([WORDS, WORDS]));
+    let route = the_same(&pair[0], &pair[1]);
+    the_same(&other[0], &other[1]);
     let call = format!("composition, route {route}");
-    table.add(
-        vec![call, described(own, forms[0]), described(ranks, forms[1])],
-        beside,
-        Some(bound),
-        time([&a, &b], [&c, &d], [&e, &f]),
-    );
+    let cells = vec![call, described(own, forms[0]), described(ranks, forms[1])];
+    table.add(cells, beside, Some(bound), time(&pair, &other, &words));
 }
 
-fn time([a, b]: [&Operand; 2], [c, d]: [&Operand; 2], [e, f]: [&Operand; 2]) -> Sides {
-    let out = vec![0; WORDS_OUT];
-    let (mut ours, mut other) = (LentComposition::new(a, b, &out), LentComposition::new(c, d, &out));
+fn time(pair: &[Operand; 2], other: &[Operand; 2], [own, ranks]: &[Operand; 2]) -> Sides {
+    let (mut ours, mut other) = (lent(pair), lent(other));
     let (mut first, mut second) = (|| seconds(|| ours.call()), || seconds(|| other.call()));
-    let (mut portable, mut bmi2) = (|| theirs_once(e, f, false), || theirs_once(e, f, true));
+    let (mut portable, mut bmi2) = (|| theirs_once(own, ranks, false), || theirs_once(own, ranks, true));
     let has_bmi2 = cpu::has_bmi2();
     let least = match has_bmi2 {
         true => least_of_each(COMPOSITIONS, &mut [&mut first, &mut second, &mut portable, &mut bmi2]),
         false => least_of_each(COMPOSITIONS, &mut [&mut first, &mut second, &mut portable]),
     };
     Sides { ours: least[0], beside: least[1], portable: Some(least[2]), bmi2: has_bmi2.then(|| least[3]) }
+}
+
+fn lent([a, b]: &[Operand; 2]) -> LentComposition<'_> {
+    LentComposition::new(a, b, &vec![0; WORDS_OUT])
 }
 
 // ---- conversions
@@ -124,23 +123,24 @@ fn conversions_to_words(table: &mut Table) {
     let none = Operand { form: NONE, length: LIMIT, start: 0, claimed: 0, words: Vec::new(), rows: Vec::new() };
     for runs in COUNTS {
         let rows = Rows::of_runs(LIMIT, runs, LONG, &mut random);
-        let bound = if runs < 1_000 { 2.0 } else { 4.0 };
+        let bound = Some(if runs < 1_000 { 2.0 } else { 4.0 });
         let a = rows.lent(RUNS, 0);
-        to_words_rightly(&a);
-        let out = RefCell::new(Lent::new(&vec![0; WORDS_OUT]));
-        let (mut ours, mut cleared) = (LentConversion::new(&a), LentConversion::new(&none));
-        let least = least_of_each(
-            CONVERSIONS,
-            &mut [
-                &mut || seconds(|| ours.to_words(&mut out.borrow_mut())),
-                &mut || seconds(|| clear(&mut out.borrow_mut())),
-                &mut || seconds(|| cleared.to_words(&mut out.borrow_mut())),
-            ],
-        );
+        let mut cleared = LentConversion::new(&none);
         let cells = vec!["to words".to_string(), described(&rows, RUNS), "-".to_string()];
-        table.add(cells.clone(), "clearing, memset", Some(bound), Sides::of_ours(least[0], least[1]));
-        table.add(cells, "clearing, to words of none", Some(bound), Sides::of_ours(least[0], least[2]));
+        table.add(cells.clone(), "clearing, memset", bound, to_words_beside(&a, clear));
+        table.add(cells, "clearing, to words of none", bound, to_words_beside(&a, |out| cleared.to_words(out)));
     }
+}
+
+/// Both write into the same output.
+fn to_words_beside(a: &Operand, mut other: impl FnMut(&mut Lent<u64>)) -> Sides {
+    to_words_rightly(a);
+    let out = RefCell::new(Lent::new(&vec![0; WORDS_OUT]));
+    let mut ours = LentConversion::new(a);
+    let mut first = || seconds(|| ours.to_words(&mut out.borrow_mut()));
+    let mut second = || seconds(|| other(&mut out.borrow_mut()));
+    let least = least_of_each(CONVERSIONS, &mut [&mut first, &mut second]);
+    Sides::of_ours(least[0], least[1])
 }
 
 fn to_words_rightly(a: &Operand) {
@@ -155,7 +155,10 @@ fn runs_of_one_row(table: &mut Table) {
     const BOUND: f64 = 2.0;
     let mut random = Random::new(1, "runs of one row");
     let rows = Rows::every_64th(LIMIT);
-    to_words_beside_list(table, &rows, BOUND);
+    let (a, b) = (rows.lent(RUNS, 0), rows.lent(LIST, 0));
+    let mut listed = LentConversion::new(&b);
+    let cells = vec!["to words".to_string(), described(&rows, RUNS), "-".to_string()];
+    table.add(cells, "the same as a list", Some(BOUND), to_words_beside(&a, |out| listed.to_words(out)));
     let ranks = Rows::scattered(rows.count(), 0.5, &mut random);
     composition(table, [&rows, &ranks], [RUNS, WORDS], [LIST, WORDS], "the same as a list", BOUND);
     let own = Rows::scattered(LIMIT, 0.5, &mut random);
@@ -163,23 +166,6 @@ fn runs_of_one_row(table: &mut Table) {
     composition(table, [&own, &ranks], [WORDS, RUNS], [WORDS, LIST], "the same as a list", BOUND);
     let ranks = Rows::every_64th(rows.count());
     composition(table, [&rows, &ranks], [RUNS, RUNS], [LIST, LIST], "the same as lists", BOUND);
-}
-
-fn to_words_beside_list(table: &mut Table, rows: &Rows, bound: f64) {
-    let (a, b) = (rows.lent(RUNS, 0), rows.lent(LIST, 0));
-    to_words_rightly(&a);
-    to_words_rightly(&b);
-    let out = RefCell::new(Lent::new(&vec![0; WORDS_OUT]));
-    let (mut ours, mut listed) = (LentConversion::new(&a), LentConversion::new(&b));
-    let least = least_of_each(
-        CONVERSIONS,
-        &mut [
-            &mut || seconds(|| ours.to_words(&mut out.borrow_mut())),
-            &mut || seconds(|| listed.to_words(&mut out.borrow_mut())),
-        ],
-    );
-    let cells = vec!["to words".to_string(), described(rows, RUNS), "-".to_string()];
-    table.add(cells, "the same as a list", Some(bound), Sides::of_ours(least[0], least[1]));
 }
 
 /// Beside the same words to a list, for want of another writer; no bound.
@@ -190,14 +176,13 @@ fn conversions_to_runs(table: &mut Table) {
     for rows in of_runs.iter().chain(&scattered) {
         let a = rows.lent(WORDS, 0);
         let numbers = rows.lent(RUNS, 0).rows;
-        let told = ours::to_runs(&a, &numbers).expect("a conversion");
+        let told = ours::to_runs(&a, &vec![0; numbers.len()]).expect("a conversion");
         assert!(told.answer.cells[REFUSAL] == 0 && told.out == numbers, "not the documents' runs");
         let (mut runs, mut list) = (Lent::new(&numbers), Lent::new(&vec![0; rows.count() as usize]));
         let (mut ours, mut listed) = (LentConversion::new(&a), LentConversion::new(&a));
-        let least = least_of_each(
-            COMPOSITIONS,
-            &mut [&mut || seconds(|| ours.to_runs(&mut runs)), &mut || seconds(|| listed.to_list(&mut list))],
-        );
+        let (mut first, mut second) =
+            (|| seconds(|| ours.to_runs(&mut runs)), || seconds(|| listed.to_list(&mut list)));
+        let least = least_of_each(COMPOSITIONS, &mut [&mut first, &mut second]);
         let of = format!("{} of {}", described(rows, WORDS), counted_runs(rows));
         let cells = vec!["to runs".to_string(), of, "-".to_string()];
         table.add(cells, "to a list", None, Sides::of_ours(least[0], least[1]));
