@@ -85,7 +85,8 @@ fn runs_seen(operand: &Operand) -> Vec<u32> {
     if fault("a last number without its second is passed over") && numbers.len() % 2 == 1 {
         numbers.pop();
     }
-    if fault("a run that ends at the length is refused") && numbers.last().map(|&past| past.into()) == Some(operand.length) {
+    let ends_at_the_length = numbers.last().map(|&past| past.into()) == Some(operand.length);
+    if fault("a run that ends at the length is refused") && ends_at_the_length {
         numbers.push(0);
     }
     numbers
@@ -170,7 +171,8 @@ pub unsafe fn probe_to_runs(
         let before = slice::from_raw_parts(out, nout);
         let mut expected = rules::to_runs(&a, before);
         let numbers = 2 * expected.answer.cells[WRITTEN] as usize;
-        if fault("a run at the end is left open") && expected.out[..numbers].last().map(|&past| past.into()) == Some(a_length) {
+        let past = expected.out[..numbers].last().map(|&past| past.into());
+        if fault("a run at the end is left open") && past == Some(a_length) {
             expected.out[numbers - 1] = before[numbers - 1];
         }
         if fault("runs are counted as numbers") {
@@ -209,8 +211,8 @@ pub unsafe fn probe_compose(
         }
         if fault("a rank run is laid from the row") && accepted && b_form == RUNS {
             let (own, ranks) = (rules::rows(&a), rules::rows(&b));
-            let by_row: Vec<bool> = own.iter().enumerate().map(|(i, &row)| row && i < ranks.len() && ranks[i]).collect();
-            lay(&mut expected.out, 0, &by_row);
+            let by_row = |row: usize| own[row] && ranks.get(row) == Some(&true);
+            lay(&mut expected.out, 0, &(0..own.len()).map(by_row).collect::<Vec<bool>>());
         }
         if fault("runs of self take the routes of words") && accepted && a_form == RUNS {
             let words = Operand { form: WORDS, ..a.clone() };
