@@ -3,19 +3,35 @@
 use std::path::{Path, PathBuf};
 use std::{env, fs, process};
 
+const FILES: [&str; 5] = ["lib.rs", "bitops.rs", "eq.rs", "intersect_by_rank/mod.rs", "intersect_by_rank/bmi2.rs"];
 const VARIABLE: &str = "VORTEX_MASK_SRC";
 const BESIDE_THE_CLONE: &str = "../../../shared/docs/src/src"; // from this package: compare/, the clone, beside it
 
 fn main() {
     println!("cargo::rerun-if-env-changed={VARIABLE}");
     let folder = source_folder();
+    let out = PathBuf::from(env::var_os("OUT_DIR").unwrap());
+    let on_arm = env::var("CARGO_CFG_TARGET_ARCH").unwrap() == "aarch64";
+    let copy = out.join("files");
+    if on_arm {
+        with_sve(&folder, &copy);
+    }
+    let place = |name| if on_arm { copy.join(name) } else { file(&folder, name) };
     let package = env::var("CARGO_PKG_NAME").unwrap();
     let line = match package.as_str() {
-        "vortex-mask" => format!("#[path = {:?}]\nmod whole;\n", file(&folder, "lib.rs")),
-        _ => format!("include!({:?});\n", file(&folder, "intersect_by_rank/mod.rs")),
+        "vortex-mask" => format!("#[path = {:?}]\nmod whole;\n", place("lib.rs")),
+        _ => format!("include!({:?});\n", place("intersect_by_rank/mod.rs")),
     };
-    let out = PathBuf::from(env::var_os("OUT_DIR").unwrap()).join("source.rs");
-    fs::write(out, line).unwrap();
+    fs::write(out.join("source.rs"), line).unwrap();
+}
+
+/// On Arm the crate names a file more, which we do not have: the files are copied beside one in its place.
+fn with_sve(folder: &Path, copy: &Path) {
+    fs::create_dir_all(copy.join("intersect_by_rank")).unwrap();
+    for name in FILES {
+        fs::write(copy.join(name), fs::read(file(folder, name)).unwrap()).unwrap();
+    }
+    fs::write(copy.join("intersect_by_rank/sve.rs"), include_str!("standins/sve.rs")).unwrap();
 }
 
 fn source_folder() -> PathBuf {

@@ -9,7 +9,7 @@
  * nothing at all, and out stays as it was too. Else every call, refused or not, writes all 16 cells and the density:
  *
  *    0  the refusal's number, 0 where there is none
- *    1  the operand that it names, 1 or 2, or 0 where it names none
+ *    1  the operand that it names, 1 or 2, or 0 where it names none; 14 names its operand
  *    2  the count of the result's set rows
  *    3  the route of a composition or of a feed, also of the composition that probe_program tells; else 0
  *    4  the word of a deposit or a rank read, the position of a select
@@ -17,15 +17,18 @@
  *    6  ranks    the state after a feed; where the feed is refused, the state as it was given
  *    7  kept    /
  *    8  to 14   0
- *   15  the bytes that probe_program wrote
+ *   15  a number: the runs that probe_to_runs wrote, the bytes that probe_program wrote
  *
  * and den's cell is the density. A cell of which a function does not speak is 0, and so are count, route, word, position
  * and density with a refusal. Cells of ans past the 16th, and of den past the first, stay as they were.
  *
- * An operand is eight parameters: its form (0 all, 1 none, 2 words, 3 list), its length in rows, the start bit and the
- * claimed count, which words alone use, the lent words, and the lent row numbers, which a list alone uses. A form that is
- * none of the four, in any operand of the call, also where the call ignores that operand, is told as 99 in cell 0 and 0 in
- * every other cell, density 0.0, and out stays as it was.
+ * An operand is eight parameters: its form (0 all, 1 none, 2 words, 3 list, 4 runs), its length in rows, the start bit and
+ * the claimed count, which words alone use, the lent words, and the lent row numbers, which a list and runs use. A form that
+ * is none of the five, in any operand of the call, also where the call ignores that operand, is told as 99 in cell 0 and 0
+ * in every other cell, density 0.0, and out stays as it was.
+ *
+ * Runs are lent as numbers in pairs, first row, row past the last, first row, row past the last, and so on; a length is of
+ * numbers, so twice the number of runs. An odd number of numbers is 14: the last run has no row past its last.
  */
 #ifndef BOLTAMBER_PROBE_H
 #define BOLTAMBER_PROBE_H
@@ -55,6 +58,10 @@ void probe_rank_read(const uint64_t *words, size_t nwords, uint64_t start, uint6
 /* Any form to words, and any form to a list of its set rows. */
 void probe_to_words(PROBE_OPERAND(a), uint64_t *out, size_t nout, PROBE_ANSWER);
 void probe_to_list(PROBE_OPERAND(a), uint32_t *out, size_t nout, PROBE_ANSWER);
+
+/* Any form to the only runs that the mask has. nout is of numbers: 8 where it is less than twice the number of runs. Numbers
+ * past the runs stay as they were. Cell 2 counts rows, cell 15 runs. */
+void probe_to_runs(PROBE_OPERAND(a), uint32_t *out, size_t nout, PROBE_ANSWER);
 
 /* Composition by rank: a is self, and b the rank mask. */
 void probe_compose(PROBE_OPERAND(a), PROBE_OPERAND(b), uint64_t *out, size_t nout, PROBE_ANSWER);

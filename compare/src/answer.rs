@@ -47,9 +47,9 @@ impl Answer {
         self
     }
 
-    /// The bytes that the program wrote.
-    pub fn with_written(mut self, bytes: u64) -> Self {
-        self.cells[WRITTEN] = bytes;
+    /// The bytes that the program wrote, or the runs that a conversion to runs wrote.
+    pub fn with_written(mut self, written: u64) -> Self {
+        self.cells[WRITTEN] = written;
         self
     }
 
@@ -64,6 +64,6 @@ impl fmt::Debug for Answer {
             write!(f, "{name} {cell}, ")?;
         }
         write!(f, "the rest {:?}, ", &self.cells[8..WRITTEN])?;
-        write!(f, "bytes written {}, density {:?}", self.cells[WRITTEN], f64::from_bits(self.density))
+        write!(f, "bytes or runs written {}, density {:?}", self.cells[WRITTEN], f64::from_bits(self.density))
     }
 }

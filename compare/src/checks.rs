@@ -24,15 +24,15 @@ pub fn same_answer(what: &str, told: Answer, expected: Answer) -> Outcome {
     }
 }
 
-/// By document 01: the answer, and every element of the output, written or not.
+/// By the documents: the answer, and every element of the output, written or not.
 pub fn by_the_rules<T: PartialEq + Debug>(told: &Told<T>, expected: &Expected<T>) -> Outcome {
-    same_answer("the answer against document 01", told.answer, expected.answer)?;
+    same_answer("the answer against the documents", told.answer, expected.answer)?;
     let differing = (0..told.out.len()).find(|&i| told.out[i] != expected.out[i]);
     match differing {
         None => Ok(()),
         Some(i) => {
             let (told, expected) = (&told.out[i], &expected.out[i]);
-            Err(format!("output element {i} against document 01: ours {told:?}, expected {expected:?}"))
+            Err(format!("output element {i} against the documents: ours {told:?}, expected {expected:?}"))
         }
     }
 }

@@ -5,20 +5,24 @@ use vortex_mask_inside::private;
 use crate::answer::{COUNT, ROUTE};
 use crate::checks::{Outcome, asked, by_the_crate, by_the_rules, same, with_input};
 use crate::given::Given;
-use crate::operand::{Operand, count, fitting_form, lend, length_around_words, random_rows};
+use crate::operand::{CARRIERS, Operand, RUNS, count, fitting_form, lend, length_around_words, random_rows};
 use crate::ours::Told;
 use crate::random::Random;
 use crate::rules::LIMIT;
 use crate::tally::{Progress, Tally};
 use crate::{ours, rules, theirs};
 
-/// How often each route was told, from 0 to 10, and how often the crate went each of its own ways.
+/// How often each route was told, from 0 to 10, how often each mix of self's form and the rank mask's came, and how often
+/// the crate went each of its own ways.
 #[derive(Default)]
 pub struct Seen {
     routes: [u64; 11],
+    mixes: [[u64; FORMS]; FORMS],
     paths: [u64; theirs::PATHS.len()],
     by_kernel: u64,
 }
+
+const FORMS: usize = RUNS as usize + 1;
 
 impl Seen {
     pub fn cases(&self) -> u64 {
@@ -26,6 +30,10 @@ impl Seen {
     }
 
     fn tell(&self, tally: &mut Tally) {
+        let runs = RUNS as usize;
+        tally.add("  of self in runs", self.mixes[runs].iter().sum());
+        tally.add("  of a rank mask in runs", self.mixes.iter().map(|by_ranks| by_ranks[runs]).sum());
+        tally.add("  of both in runs", self.mixes[runs][runs]);
         tally.add_each("  of route", &self.routes);
         for (name, &cases) in theirs::PATHS.iter().zip(&self.paths) {
             tally.add(&format!("  the crate's own way: {name}"), cases);
@@ -46,7 +54,10 @@ impl Seen {
         if let Some(missing) = self.paths.iter().position(|&cases| cases == 0) {
             return Err(format!("the crate never went by {}", theirs::PATHS[missing]));
         }
-        Ok(())
+        match self.mixes.as_flattened().iter().all(|&cases| cases > 0) {
+            true => Ok(()),
+            false => Err(format!("a mix of forms never came, self's by the rank mask's: {:?}", self.mixes)),
+        }
     }
 }
 
@@ -95,7 +106,7 @@ pub fn blocks(cases: u64, seed: u64, tally: &mut Tally) -> Outcome {
 pub fn random_pair(length: u64, random: &mut Random) -> (Operand, Operand) {
     let own = random_rows(length, random);
     let ranks = random_rows(count(&own), random);
-    let (own_form, rank_form) = (fitting_form(&own, true, random), fitting_form(&ranks, true, random));
+    let (own_form, rank_form) = (fitting_form(&own, &CARRIERS, random), fitting_form(&ranks, &CARRIERS, random));
     (lend(&own, own_form, random), lend(&ranks, rank_form, random))
 }
 
@@ -129,6 +140,7 @@ fn one_composition(
         seen.by_kernel += 1;
     }
     seen.routes[told.answer.cells[ROUTE] as usize] += 1;
+    seen.mixes[a.form as usize][b.form as usize] += 1;
     Ok(())
 }
 

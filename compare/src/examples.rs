@@ -1,9 +1,9 @@
-//! Document 01's examples, and inputs at the edges of its rules, each with its answer written out here. `rules` is held to
-//! them too, so that it is not the judge of itself.
+//! Document 01's examples, and inputs at the edges of its rules and of document 02's runs, each with its answer written out
+//! here. `rules` is held to them too, so that it is not the judge of itself.
 use crate::answer::Answer;
 use crate::checks::{Outcome, same_answer};
 use crate::lent::Lent;
-use crate::operand::{ALL, LIST, NONE, Operand, WORDS};
+use crate::operand::{ALL, LIST, NONE, Operand, RUNS, WORDS};
 use crate::ours::Told;
 use crate::probe::{boltamber_deposit, boltamber_select};
 use crate::rules::{Expected, LIMIT};
@@ -15,11 +15,14 @@ pub fn run(tally: &mut Tally) -> Outcome {
     deposits(&mut examples)?;
     selects_and_reads(&mut examples)?;
     conversions(&mut examples)?;
+    runs_converted(&mut examples)?;
+    conversions_to_runs(&mut examples)?;
     compositions(&mut examples)?;
+    compositions_with_runs(&mut examples)?;
     set_operations(&mut examples)?;
     feeds(&mut examples)?;
     programs(&mut examples)?;
-    tally.add("document 01's examples and its edges, answers written out", examples.held);
+    tally.add("document 01's examples, its edges and those of runs, answers written out", examples.held);
     Ok(())
 }
 
@@ -57,6 +60,30 @@ impl Examples {
 
     fn to_words(&mut self, name: &str, a: &Operand, out: &[u64], expected: Answer, first: u64) -> Outcome {
         self.call(name, &ours::to_words(a, out)?, &rules::to_words(a, out), expected, first)
+    }
+
+    /// The whole output is told.
+    fn to_list(&mut self, name: &str, a: &Operand, out: &[u32], expected: Answer, after: &[u32]) -> Outcome {
+        self.numbers(name, &ours::to_list(a, out)?, &rules::to_list(a, out), expected, after)
+    }
+
+    fn to_runs(&mut self, name: &str, a: &Operand, out: &[u32], expected: Answer, after: &[u32]) -> Outcome {
+        self.numbers(name, &ours::to_runs(a, out)?, &rules::to_runs(a, out), expected, after)
+    }
+
+    fn numbers(
+        &mut self,
+        name: &str,
+        told: &Told<u32>,
+        by_rules: &Expected<u32>,
+        expected: Answer,
+        after: &[u32],
+    ) -> Outcome {
+        self.word(name, told.answer, by_rules.answer, expected)?;
+        match told.out == after && by_rules.out == after {
+            true => Ok(()),
+            false => Err(format!("{name}: the output is {:?}, it should be {after:?}", told.out)),
+        }
     }
 
     fn set(&mut self, name: &str, which: u64, a: &Operand, b: &Operand, expected: Answer, first: u64) -> Outcome {
@@ -114,6 +141,11 @@ fn words(start: u64, length: u64, claimed: u64, words: &[u64]) -> Operand {
 
 fn list(length: u64, rows: &[u32]) -> Operand {
     Operand { rows: rows.to_vec(), ..operand(LIST, length) }
+}
+
+/// Pairs of first row and row past the last.
+fn runs(length: u64, numbers: &[u32]) -> Operand {
+    Operand { rows: numbers.to_vec(), ..operand(RUNS, length) }
 }
 
 fn deposits(examples: &mut Examples) -> Outcome {
@@ -185,7 +217,56 @@ fn conversions(examples: &mut Examples) -> Outcome {
     examples.to_words("claimed above the length", &words(0, 3, 4, &[15]), &out, refused(4), JUNK)?;
     examples.to_words("bits past the view", &words(1, 3, 3, &[0x1f]), &out, Answer::summary(3, 3, 0), 7)?;
     examples.to_words("start 64", &words(64, 0, 0, &[0, 0]), &out, refused(2), JUNK)?;
-    examples.to_words("form 4", &operand(4, 0), &out, Answer::refused(99, 0), JUNK)
+    examples.to_words("form 5", &operand(5, 0), &out, Answer::refused(99, 0), JUNK)
+}
+
+fn runs_converted(examples: &mut Examples) -> Outcome {
+    let (out, refused) = ([JUNK, JUNK], Answer::refused(14, 1));
+    let told = Answer::summary;
+    examples.to_words("two runs", &runs(8, &[2, 4, 5, 6]), &out, told(3, 8, 0), 0x2c)?;
+    examples.to_words("no runs", &runs(10, &[]), &out, told(0, 10, 0), 0)?;
+    examples.to_words("no runs of no rows", &runs(0, &[]), &[], told(0, 0, 0), 0)?;
+    examples.to_words("a run to the length", &runs(10, &[0, 10]), &out, told(10, 10, 0), 0x3ff)?;
+    examples.to_words("a run over two words", &runs(70, &[60, 70]), &out, told(10, 70, 0), 0xf << 60)?;
+    examples.to_words("a row between two runs", &runs(4, &[0, 1, 2, 4]), &out, told(3, 4, 0), 0xd)?;
+    examples.to_words("touching runs", &runs(4, &[0, 1, 1, 4]), &out, refused, JUNK)?;
+    examples.to_words("runs that meet", &runs(8, &[0, 3, 2, 5]), &out, refused, JUNK)?;
+    examples.to_words("the same run twice", &runs(8, &[2, 3, 2, 3]), &out, refused, JUNK)?;
+    examples.to_words("falling runs", &runs(8, &[4, 6, 0, 2]), &out, refused, JUNK)?;
+    examples.to_words("an empty run", &runs(10, &[3, 3]), &out, refused, JUNK)?;
+    examples.to_words("a run backwards", &runs(10, &[3, 2]), &out, refused, JUNK)?;
+    examples.to_words("one row past the length", &runs(10, &[0, 11]), &out, refused, JUNK)?;
+    examples.to_words("an empty run at the length", &runs(10, &[10, 10]), &out, refused, JUNK)?;
+    examples.to_words("length 0 with a run", &runs(0, &[0, 1]), &out, refused, JUNK)?;
+    examples.to_words("one number", &runs(10, &[3]), &out, refused, JUNK)?;
+    examples.to_words("three numbers", &runs(10, &[0, 2, 5]), &out, refused, JUNK)?;
+    examples.to_words("the largest numbers", &runs(10, &[u32::MAX, u32::MAX]), &out, refused, JUNK)?;
+    examples.to_words("1 before 14", &runs(LIMIT + 1, &[3, 3]), &out, Answer::refused(1, 1), JUNK)?;
+    examples.to_words("14 before 8", &runs(10, &[3, 3]), &[], refused, 0)?;
+    examples.to_words("one word too few", &runs(70, &[60, 70]), &[JUNK], Answer::refused(8, 0), JUNK)?;
+    examples.to_list("runs as a list", &runs(8, &[2, 4, 5, 6]), &[99; 4], told(3, 8, 0), &[2, 3, 5, 99])?;
+    examples.to_list("too few for the rows", &runs(8, &[2, 4, 5, 6]), &[7; 2], Answer::refused(8, 0), &[7; 2])?;
+    examples.to_list("touching runs", &runs(4, &[0, 1, 1, 4]), &[7; 4], refused, &[7; 4])
+}
+
+fn conversions_to_runs(examples: &mut Examples) -> Outcome {
+    let told = |count, length, runs| Answer::summary(count, length, 0).with_written(runs);
+    let three = words(0, 8, 5, &[0xd6]);
+    examples.to_runs("E11's self", &three, &[7; 8], told(5, 8, 3), &[1, 3, 4, 5, 6, 8, 7, 7])?;
+    examples.to_runs("just room", &three, &[7; 6], told(5, 8, 3), &[1, 3, 4, 5, 6, 8])?;
+    examples.to_runs("half a run too few", &three, &[7; 5], Answer::refused(8, 0), &[7; 5])?;
+    examples.to_runs("all", &all(70), &[7; 2], told(70, 70, 1), &[0, 70])?;
+    examples.to_runs("all, no room", &all(70), &[], Answer::refused(8, 0), &[])?;
+    examples.to_runs("all of no rows", &all(0), &[7], told(0, 0, 0), &[7])?;
+    examples.to_runs("none", &none(5), &[], told(0, 5, 0), &[])?;
+    examples.to_runs("over a word", &words(60, 10, 10, &[u64::MAX; 2]), &[7; 2], told(10, 10, 1), &[0, 10])?;
+    examples.to_runs("two whole words", &words(0, 128, 128, &[u64::MAX; 2]), &[7; 2], told(128, 128, 1), &[0, 128])?;
+    examples.to_runs("a list", &list(10, &[3, 4, 5, 9]), &[7; 4], told(4, 10, 2), &[3, 6, 9, 10])?;
+    examples.to_runs("runs", &runs(10, &[3, 6, 9, 10]), &[7; 5], told(4, 10, 2), &[3, 6, 9, 10, 7])?;
+    examples.to_runs("the limit", &all(LIMIT), &[7; 2], told(LIMIT, LIMIT, 1), &[0, 1_048_576])?;
+    examples.to_runs("touching runs", &runs(4, &[0, 1, 1, 4]), &[7; 4], Answer::refused(14, 1), &[7; 4])?;
+    examples.to_runs("an equal entry", &list(10, &[3, 3]), &[7; 4], Answer::refused(5, 1), &[7; 4])?;
+    examples.to_runs("form 5", &operand(5, 0), &[7; 4], Answer::refused(99, 0), &[7; 4])
 }
 
 fn compositions(examples: &mut Examples) -> Outcome {
@@ -236,6 +317,31 @@ fn compositions(examples: &mut Examples) -> Outcome {
     examples.compose("16 x 3 < 64", &words(0, 64, 3, &[7]), &words(0, 3, 1, &[4]), &out, Answer::summary(1, 64, 10), 4)
 }
 
+/// E11's masks as runs, and the routes that runs take as a list.
+fn compositions_with_runs(examples: &mut Examples) -> Outcome {
+    let out = [JUNK, JUNK];
+    let (told, refused) = (Answer::summary, Answer::refused);
+    let (own, ranks) = (words(0, 8, 5, &[0xd6]), words(0, 5, 2, &[9]));
+    let (own_runs, rank_runs) = (runs(8, &[1, 3, 4, 5, 6, 8]), runs(5, &[0, 1, 3, 4]));
+    examples.compose("both runs", &own_runs, &rank_runs, &out, told(2, 8, 4), 0x42)?;
+    examples.compose("self runs, rank list", &own_runs, &list(5, &[0, 3]), &out, told(2, 8, 4), 0x42)?;
+    examples.compose("self list, rank runs", &list(8, &[1, 2, 4, 6, 7]), &rank_runs, &out, told(2, 8, 4), 0x42)?;
+    examples.compose("self runs, rank words", &own_runs, &ranks, &out, told(2, 8, 5), 0x42)?;
+    examples.compose("self words, rank runs", &own, &rank_runs, &out, told(2, 8, 7), 0x42)?;
+    examples.compose("self runs, full", &runs(2, &[0, 2]), &none(2), &out, told(0, 2, 1), 0)?;
+    examples.compose("rank runs, full", &own, &runs(5, &[0, 5]), &out, told(5, 8, 2), 0xd6)?;
+    examples.compose("rank mask of no runs", &own_runs, &runs(5, &[]), &out, told(0, 8, 3), 0)?;
+    examples.compose("self of no runs", &runs(8, &[]), &runs(0, &[]), &out, told(0, 8, 3), 0)?;
+    examples.compose("both of no rows", &runs(0, &[]), &runs(0, &[]), &[], told(0, 0, 3), 0)?;
+    let many = words(0, 64, 33, &[0x1_ffff_ffff]);
+    examples.compose("32 x 1 < 33", &many, &runs(33, &[3, 4]), &out, told(1, 64, 6), 8)?;
+    examples.compose("16 x 3 < 64", &words(0, 64, 3, &[7]), &runs(3, &[2, 3]), &out, told(1, 64, 8), 4)?;
+    examples.compose("14 of self", &runs(9, &[1, 1]), &list(9, &[1, 1]), &out, refused(14, 1), JUNK)?;
+    examples.compose("14 of the rank mask, 7 too", &all(1), &runs(9, &[1, 1]), &out, refused(14, 2), JUNK)?;
+    examples.compose("7", &own_runs, &runs(4, &[0, 4]), &out, refused(7, 0), JUNK)?;
+    examples.compose("no word of output", &own_runs, &rank_runs, &[], refused(8, 0), 0)
+}
+
 fn set_operations(examples: &mut Examples) -> Outcome {
     let refused = Answer::refused;
     examples.set("and of all and all", 0, &all(1), &all(1), Answer::summary(1, 1, 0), 1)?;
@@ -251,6 +357,10 @@ fn set_operations(examples: &mut Examples) -> Outcome {
     )?;
     examples.set("12 of the second", 2, &all(1), &list(1, &[]), refused(12, 2), JUNK)?;
     examples.set("not ignores its second", 3, &none(3), &list(LIMIT + 1, &[5, 5]), Answer::summary(3, 3, 0), 7)?;
+    examples.set("and of runs", 0, &runs(1, &[0, 1]), &all(1), refused(12, 1), JUNK)?;
+    examples.set("12 before 1 of runs", 1, &runs(LIMIT + 1, &[]), &all(1), refused(12, 1), JUNK)?;
+    examples.set("12 of the second, bad runs", 2, &all(1), &runs(1, &[1, 1]), refused(12, 2), JUNK)?;
+    examples.set("not of bad runs", 3, &runs(1, &[0]), &all(1), refused(12, 1), JUNK)?;
     examples.set("not of a list", 3, &list(1, &[]), &all(1), refused(12, 1), JUNK)?;
     examples.set("not, and a second of no form", 3, &none(3), &operand(9, 0), refused(99, 0), JUNK)
 }
@@ -272,6 +382,18 @@ fn feeds(examples: &mut Examples) -> Outcome {
         piece(1, 4, 9).with_state([8, 5, 2]),
         whole,
     )?;
+    examples.feed(
+        "E12, the second piece as runs",
+        [4, 2, 1],
+        &runs(4, &[0, 1, 2, 4]),
+        &runs(3, &[1, 2]),
+        &[half_way],
+        piece(1, 4, 4).with_state([8, 5, 2]),
+        whole,
+    )?;
+    let touching = runs(4, &[0, 2, 2, 4]);
+    examples.feed("touching runs", [4, 2, 1], &touching, &all(4), &[JUNK], refused(14, 1, [4, 2, 1]), JUNK)?;
+    examples.feed("10 before 14", [1, 2, 0], &touching, &all(4), &[JUNK], refused(10, 0, [1, 2, 0]), JUNK)?;
     let limit = [LIMIT, 0, 0];
     examples.feed("kept over ranks", [5, 1, 2], &all(0), &all(0), &[JUNK], refused(10, 0, [5, 1, 2]), JUNK)?;
     examples.feed("10 before 1", [1, 2, 0], &all(u64::MAX), &all(0), &[JUNK], refused(10, 0, [1, 2, 0]), JUNK)?;
@@ -298,7 +420,7 @@ fn feeds(examples: &mut Examples) -> Outcome {
         piece(0, 3, 3).with_state([7, 2, 1]),
         !0x70,
     )?;
-    examples.feed("no such form", [4, 2, 1], &operand(4, 0), &all(0), &[JUNK], Answer::refused(99, 0), JUNK)
+    examples.feed("no such form", [4, 2, 1], &operand(5, 0), &all(0), &[JUNK], Answer::refused(99, 0), JUNK)
 }
 
 fn programs(examples: &mut Examples) -> Outcome {

@@ -1,7 +1,9 @@
 //! Feeds: a composition cut into pieces, with refused feeds between, against the composition whole.
 use crate::answer::{COUNT, REFUSAL};
 use crate::checks::{Outcome, asked, by_the_rules, same, with_input};
-use crate::operand::{Operand, WORDS, count, fitting_form, lay, lend, length_around_words, random_rows};
+use crate::operand::{
+    CARRIERS, Operand, RUNS, WORDS, count, fitting_form, lay, lend, length_around_words, random_rows,
+};
 use crate::random::Random;
 use crate::rules::LIMIT;
 use crate::tally::{Progress, Tally};
@@ -10,6 +12,7 @@ use crate::{ours, rules, theirs};
 #[derive(Default)]
 struct Fed {
     pieces: u64,
+    with_runs: u64,
     refused: u64,
 }
 
@@ -47,6 +50,7 @@ pub fn blocks(cases: u64, seed: u64, tally: &mut Tally) -> Outcome {
 
 fn tell(fed: &Fed, tally: &mut Tally) {
     tally.add("  feeds accepted", fed.pieces);
+    tally.add("  of these, self or rank mask in runs", fed.with_runs);
     tally.add("  refused feeds between them, which must change nothing", fed.refused);
 }
 
@@ -83,6 +87,7 @@ fn feed_piece(stream: &mut Stream, longest: u64, fed: &mut Fed, random: &mut Ran
         .map_err(|why| with_input(why, &format!("feed at {:?}", stream.state), &[&a, &b], &stream.out))?;
     stream.state = answer.state();
     fed.pieces += 1;
+    fed.with_runs += u64::from(a.form == RUNS || b.form == RUNS);
     Ok(answer.cells[COUNT])
 }
 
@@ -118,7 +123,7 @@ fn next_piece(stream: &Stream, longest: u64, random: &mut Random) -> (Operand, O
 }
 
 fn piece(rows: &[bool], random: &mut Random) -> Operand {
-    let form = fitting_form(rows, true, random);
+    let form = fitting_form(rows, &CARRIERS, random);
     lend(rows, form, random)
 }
 

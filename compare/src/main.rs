@@ -106,6 +106,7 @@ fn first_half(plan: &Plan, seed: u64, tally: &mut Tally) -> Outcome {
     small::compositions(plan.small, seed, tally)?;
     small::set_operations(plan.small / 2, seed, tally)?;
     small::conversions(plan.small, seed, tally)?;
+    small::lists_of_runs(plan.small, tally)?;
     small::programs(plan.small, seed, tally)?;
     compositions::run(plan.compositions, seed, tally)?;
     sets::set_operations(plan.sets, seed, tally)?;

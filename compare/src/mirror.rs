@@ -4,9 +4,9 @@
 use std::slice;
 use std::sync::LazyLock;
 
-use crate::answer::{Answer, COUNT, ROUTE};
+use crate::answer::{Answer, COUNT, ROUTE, WRITTEN};
 use crate::given::Given;
-use crate::operand::{LIST, Operand, WORDS};
+use crate::operand::{LIST, Operand, RUNS, WORDS, lay};
 use crate::rules::{self, Expected};
 
 static FAULT: LazyLock<String> = LazyLock::new(|| std::env::var("COMPARE_FAULT").unwrap_or_default());
@@ -63,12 +63,33 @@ unsafe fn operand(
     if fault("equal list entries pass") && form == LIST {
         operand.rows.dedup();
     }
+    if form == RUNS {
+        operand.rows = runs_seen(&operand);
+    }
     if fault("claimed count is not looked at") && form == WORDS && start < 64 && length < rules::LIMIT {
         if (nwords as u64) * 64 >= start + length {
             operand.claimed = rules::set_count(&operand);
         }
     }
     operand
+}
+
+/// The runs as a mirror with one of these faults sees them.
+fn runs_seen(operand: &Operand) -> Vec<u32> {
+    let mut numbers = operand.rows.clone();
+    if fault("touching runs are taken") {
+        while let Some(i) = (1..numbers.len().saturating_sub(1)).step_by(2).find(|&i| numbers[i] == numbers[i + 1]) {
+            numbers.drain(i..=i + 1); // the two become one
+        }
+    }
+    if fault("a last number without its second is passed over") && numbers.len() % 2 == 1 {
+        numbers.pop();
+    }
+    let ends_at_the_length = numbers.last().map(|&past| past.into()) == Some(operand.length);
+    if fault("a run that ends at the length is refused") && ends_at_the_length {
+        numbers.push(0);
+    }
+    numbers
 }
 
 pub unsafe fn probe_deposit(
@@ -137,6 +158,30 @@ pub unsafe fn probe_to_list(
     }
 }
 
+pub unsafe fn probe_to_runs(
+    a_form: u64, a_length: u64, a_start: u64, a_claimed: u64,
+    a_words: *const u64, a_nwords: usize, a_rows: *const u32, a_nrows: usize,
+    out: *mut u32, nout: usize, ans: *mut u64, nans: usize, den: *mut f64, nden: usize,
+) {
+    if nans < 16 || nden < 1 {
+        return;
+    }
+    unsafe {
+        let a = operand(a_form, a_length, a_start, a_claimed, a_words, a_nwords, a_rows, a_nrows);
+        let before = slice::from_raw_parts(out, nout);
+        let mut expected = rules::to_runs(&a, before);
+        let numbers = 2 * expected.answer.cells[WRITTEN] as usize;
+        let past = expected.out[..numbers].last().map(|&past| past.into());
+        if fault("a run at the end is left open") && past == Some(a_length) {
+            expected.out[numbers - 1] = before[numbers - 1];
+        }
+        if fault("runs are counted as numbers") {
+            expected.answer.cells[WRITTEN] = numbers as u64;
+        }
+        written(expected, out, nout, ans, den);
+    }
+}
+
 pub unsafe fn probe_compose(
     a_form: u64, a_length: u64, a_start: u64, a_claimed: u64,
     a_words: *const u64, a_nwords: usize, a_rows: *const u32, a_nrows: usize,
@@ -164,6 +209,15 @@ pub unsafe fn probe_compose(
         if fault("route 10 told as 9") && expected.answer.cells[ROUTE] == 10 {
             expected.answer.cells[ROUTE] = 9;
         }
+        if fault("a rank run is laid from the row") && accepted && b_form == RUNS {
+            let (own, ranks) = (rules::rows(&a), rules::rows(&b));
+            let by_row = |row: usize| own[row] && ranks.get(row) == Some(&true);
+            lay(&mut expected.out, 0, &(0..own.len()).map(by_row).collect::<Vec<bool>>());
+        }
+        if fault("runs of self take the routes of words") && accepted && a_form == RUNS {
+            let words = Operand { form: WORDS, ..a.clone() };
+            expected.answer.cells[ROUTE] = rules::route(&words, &rules::rows(&a), &b, &rules::rows(&b));
+        }
         if fault("count of self") && accepted {
             expected.answer.cells[COUNT] = b_length;
         }
@@ -189,10 +243,14 @@ pub unsafe fn probe_set(
         let a = operand(a_form, a_length, a_start, a_claimed, a_words, a_nwords, a_rows, a_nrows);
         let b = operand(b_form, b_length, b_start, b_claimed, b_words, b_nwords, b_rows, b_nrows);
         let before = slice::from_raw_parts(out, nout);
-        let expected = match fault("and-not exchanged") && which == 2 {
+        let mut expected = match fault("and-not exchanged") && which == 2 {
             true => rules::set(2, &b, &a, before),
             false => rules::set(which, &a, &b, before),
         };
+        if fault("a set operation looks into runs") && expected.answer.cells[0] == 12 && a_form == RUNS {
+            let number = rules::to_words(&a, &[]).answer.cells[0];
+            expected.answer.cells[0] = if number == 14 { 14 } else { 12 };
+        }
         written(expected, out, nout, ans, den);
     }
 }

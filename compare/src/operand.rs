@@ -7,6 +7,10 @@ pub const ALL: u64 = 0;
 pub const NONE: u64 = 1;
 pub const WORDS: u64 = 2;
 pub const LIST: u64 = 3;
+pub const RUNS: u64 = 4;
+
+/// The forms that can carry any rows.
+pub const CARRIERS: [u64; 3] = [WORDS, LIST, RUNS];
 
 /// The numbers and slices of one operand. What its form doesn't use is filled too: it must be ignored.
 #[derive(Clone)]
@@ -26,6 +30,7 @@ impl fmt::Debug for Operand {
             NONE => "none".to_string(),
             WORDS => "words".to_string(),
             LIST => "list".to_string(),
+            RUNS => "runs".to_string(),
             other => format!("form {other}"),
         };
         write!(f, "{form} length {} start {} claimed {}", self.length, self.start, self.claimed)?;
@@ -75,6 +80,9 @@ pub fn lend_at(start: u64, rows: &[bool], form: u64, random: &mut Random) -> Ope
     if form == LIST {
         operand.rows = set_rows(rows);
     }
+    if form == RUNS {
+        operand.rows = runs_of(rows);
+    }
     operand
 }
 
@@ -101,8 +109,15 @@ pub fn set_rows(rows: &[bool]) -> Vec<u32> {
     (0..rows.len()).filter(|&i| rows[i]).map(|i| i as u32).collect()
 }
 
-/// A form that can carry these rows; words and lists more often than all and none.
-pub fn fitting_form(rows: &[bool], lists: bool, random: &mut Random) -> u64 {
+/// The only runs that the mask has, in pairs: first row, row past the last.
+pub fn runs_of(rows: &[bool]) -> Vec<u32> {
+    let set = |row: usize| rows.get(row).copied().unwrap_or(false);
+    let edge = |row: &usize| set(*row) != (*row > 0 && set(*row - 1));
+    (0..=rows.len()).filter(edge).map(|row| row as u32).collect()
+}
+
+/// A form that can carry these rows: one of `carriers`, or, where the rows are so, all or none.
+pub fn fitting_form(rows: &[bool], carriers: &[u64], random: &mut Random) -> u64 {
     let set = count(rows);
     if set == 0 && random.one_in(2) {
         return NONE;
@@ -110,14 +125,26 @@ pub fn fitting_form(rows: &[bool], lists: bool, random: &mut Random) -> u64 {
     if set == rows.len() as u64 && random.one_in(2) {
         return ALL;
     }
-    if lists { random.pick(&[WORDS, LIST]) } else { WORDS }
+    match carriers {
+        [only] => *only,
+        _ => random.pick(carriers),
+    }
 }
 
 const DENSITIES: [f64; 18] =
     [0.0, 0.001, 0.005, 0.01, 0.015, 0.02, 0.03, 0.035, 0.05, 0.06, 0.065, 0.1, 0.25, 0.5, 0.75, 0.9, 0.99, 1.0];
 
-/// Rows of one of several makes: scattered at a density, an exact count at the tables' bounds, runs.
+/// Rows of one of several makes: a few long runs, or one of `recorded_rows`.
 pub fn random_rows(length: u64, random: &mut Random) -> Vec<bool> {
+    match random.below(4) {
+        0 => few_runs(length, random),
+        _ => recorded_rows(length, random),
+    }
+}
+
+/// Scattered at a density, an exact count at the tables' bounds, many short runs. The recorded files hang on these makes, byte
+/// for byte, so another make does not come in here.
+pub fn recorded_rows(length: u64, random: &mut Random) -> Vec<bool> {
     match random.below(8) {
         0..=3 => scattered(length, random.pick(&DENSITIES), random),
         4 => {
@@ -129,7 +156,7 @@ pub fn random_rows(length: u64, random: &mut Random) -> Vec<bool> {
             let wanted = (bound + random.below(3)).saturating_sub(1).min(length);
             exactly(length, wanted, random)
         }
-        _ => runs(length, random),
+        _ => short_runs(length, random),
     }
 }
 
@@ -148,7 +175,7 @@ pub fn exactly(length: u64, wanted: u64, random: &mut Random) -> Vec<bool> {
     rows
 }
 
-fn runs(length: u64, random: &mut Random) -> Vec<bool> {
+fn short_runs(length: u64, random: &mut Random) -> Vec<bool> {
     let longest = random.between(1, 200);
     let mut rows = Vec::with_capacity(length as usize);
     let mut set = random.one_in(2);
@@ -158,6 +185,31 @@ fn runs(length: u64, random: &mut Random) -> Vec<bool> {
         set = !set;
     }
     rows
+}
+
+/// Up to five runs, each as long as it comes: a leak that lasts for weeks.
+fn few_runs(length: u64, random: &mut Random) -> Vec<bool> {
+    let edges = random.between(1, 10);
+    let mut edges: Vec<u64> = (0..edges).map(|_| random_edge(length, random)).collect();
+    edges.sort();
+    let mut set = random.one_in(2);
+    let mut rows = Vec::with_capacity(length as usize);
+    for edge in edges.into_iter().chain([length]) {
+        rows.resize(edge as usize, set);
+        set = !set;
+    }
+    rows
+}
+
+/// Where a run begins or ends: every other time at, or one beside, a multiple of 64.
+fn random_edge(length: u64, random: &mut Random) -> u64 {
+    let edge = random.below(length + 1);
+    match random.below(6) {
+        0 => edge / 64 * 64,
+        1 => (edge / 64 * 64 + 1).min(length),
+        2 => (edge / 64 * 64).saturating_sub(1),
+        _ => edge,
+    }
 }
 
 /// A length at, or up to two beside, a multiple of 64; seldom below 62.

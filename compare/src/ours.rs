@@ -69,6 +69,21 @@ pub fn to_list(a: &Operand, out: &[u32]) -> Result<Told<u32>, String> {
     ended(&[&lent], &out, &answer)
 }
 
+pub fn to_runs(a: &Operand, out: &[u32]) -> Result<Told<u32>, String> {
+    let (mut lent, mut out) = (LentOperand::new(a), Lent::new(out));
+    let mut answer = AnswerMemory::new();
+    let (ans, den) = (answer.cells(), answer.density());
+    // SAFETY: as above.
+    unsafe {
+        probe::probe_to_runs(
+            a.form, a.length, a.start, a.claimed,
+            lent.words.pointer(), lent.words.len(), lent.rows.pointer(), lent.rows.len(),
+            out.pointer(), out.len(), ans, NANS, den, NDEN,
+        );
+    }
+    ended(&[&lent], &out, &answer)
+}
+
 /// A composition's memory, lent once, so that the call alone can be timed.
 pub struct LentComposition<'a> {
     operands: [&'a Operand; 2],

@@ -38,6 +38,10 @@ mod proved {
             a_form: u64, a_length: u64, a_start: u64, a_claimed: u64,
             a_words: *const u64, a_nwords: usize, a_rows: *const u32, a_nrows: usize,
             out: *mut u32, nout: usize, ans: *mut u64, nans: usize, den: *mut f64, nden: usize);
+        pub fn probe_to_runs(
+            a_form: u64, a_length: u64, a_start: u64, a_claimed: u64,
+            a_words: *const u64, a_nwords: usize, a_rows: *const u32, a_nrows: usize,
+            out: *mut u32, nout: usize, ans: *mut u64, nans: usize, den: *mut f64, nden: usize);
         pub fn probe_compose(
             a_form: u64, a_length: u64, a_start: u64, a_claimed: u64,
             a_words: *const u64, a_nwords: usize, a_rows: *const u32, a_nrows: usize,

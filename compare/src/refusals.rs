@@ -1,21 +1,24 @@
-//! Refused inputs: calls that are spoilt in up to three ways, against document 01's table. The crate has no such answers,
+//! Refused inputs: calls that are spoilt in up to three ways, against the documents' table. The crate has no such answers,
 //! so it is not asked here.
 use crate::answer::{Answer, OPERAND, REFUSAL};
 use crate::checks::{Outcome, by_the_rules, with_input};
 use crate::compositions::random_pair;
-use crate::operand::{LIST, Operand, WORDS, fitting_form, lend, random_rows};
+use crate::operand::{ALL, CARRIERS, NONE, Operand, RUNS, WORDS, fitting_form, lend, random_rows};
 use crate::ours::Told;
 use crate::random::Random;
 use crate::rules::{Expected, LIMIT, UNKNOWN_FORM};
+use crate::sets::as_numbers;
 use crate::tally::{Progress, Tally};
 use crate::{ours, rules};
 
-const CALLS: [&str; 5] = ["composition", "set operation", "conversion to words", "conversion to a list", "feed"];
+const CALLS: [&str; 6] =
+    ["composition", "set operation", "conversion to words", "conversion to a list", "conversion to runs", "feed"];
+const UNKNOWN: usize = 15; // stands for 99
 
-/// How often each refusal was told, by call and by the operand named; the last of the refusals stands for 99.
+/// How often each refusal was told, by call and by the operand named.
 #[derive(Default)]
 struct Seen {
-    times: [[[u64; 3]; 14]; CALLS.len()],
+    times: [[[u64; 3]; UNKNOWN + 1]; CALLS.len()],
     several_held: u64,
 }
 
@@ -30,7 +33,7 @@ impl Seen {
         let answer = &refused.answer;
         self.several_held += u64::from(refused.held > 1);
         let number = match answer.cells[REFUSAL] {
-            UNKNOWN_FORM => 13,
+            UNKNOWN_FORM => UNKNOWN,
             number => number as usize,
         };
         self.times[call][number][answer.cells[OPERAND] as usize] += 1;
@@ -48,6 +51,7 @@ pub fn run(cases: u64, seed: u64, tally: &mut Tally) -> Outcome {
             1 => spoilt_set(&mut random)?,
             2 => spoilt_to_words(&mut random)?,
             3 => spoilt_to_list(&mut random)?,
+            4 => spoilt_to_runs(&mut random)?,
             _ => spoilt_feed(&mut random)?,
         };
         seen.note(call, &refused);
@@ -59,8 +63,8 @@ pub fn run(cases: u64, seed: u64, tally: &mut Tally) -> Outcome {
 }
 
 fn tell(seen: &Seen, cases: u64, tally: &mut Tally) {
-    tally.add("spoilt calls against document 01's table, all lent memory looked at", cases);
-    tally.add("  of these, more than one of 1 to 6 and 12 held, and the first had to be told", seen.several_held);
+    tally.add("spoilt calls against the documents' table, all lent memory looked at", cases);
+    tally.add("  of these, more than one of 1 to 6, 12 and 14 held, and the first had to be told", seen.several_held);
     for (name, by_number) in CALLS.iter().zip(&seen.times) {
         for (number, by_operand) in by_number.iter().enumerate() {
             for (operand, &times) in by_operand.iter().enumerate() {
@@ -75,7 +79,7 @@ fn tell(seen: &Seen, cases: u64, tally: &mut Tally) {
 fn told_refusal(call: &str, number: usize, operand: usize) -> String {
     let refusal = match number {
         0 => "accepted".to_string(),
-        13 => "unknown form, 99".to_string(),
+        UNKNOWN => "unknown form, 99".to_string(),
         number => format!("refusal {number}"),
     };
     match operand {
@@ -84,7 +88,7 @@ fn told_refusal(call: &str, number: usize, operand: usize) -> String {
     }
 }
 
-/// Numbers and operands that the calls must have told, from document 01's table.
+/// Numbers and operands that the calls must have told, from the documents' table.
 fn every_refusal_occurred(seen: &Seen) -> Outcome {
     let by_operand = |call: usize, numbers: &[usize], operands: &[usize]| {
         let missing = |&number: &usize| operands.iter().any(|&operand| seen.times[call][number][operand] == 0);
@@ -93,16 +97,16 @@ fn every_refusal_occurred(seen: &Seen) -> Outcome {
             Some(number) => Err(format!("no {} told refusal {number} for each of operands {operands:?}", CALLS[call])),
         }
     };
-    by_operand(0, &[1, 2, 3, 4, 5, 6], &[1, 2])?;
-    by_operand(0, &[0, 7, 8, 13], &[0])?;
+    by_operand(0, &[1, 2, 3, 4, 5, 6, 14], &[1, 2])?;
+    by_operand(0, &[0, 7, 8, UNKNOWN], &[0])?;
     by_operand(1, &[1, 2, 3, 4, 12], &[1, 2])?;
-    by_operand(1, &[0, 7, 8, 13], &[0])?;
-    by_operand(2, &[1, 2, 3, 4, 5, 6], &[1])?;
-    by_operand(2, &[0, 8, 13], &[0])?;
-    by_operand(3, &[1, 2, 3, 4, 5, 6], &[1])?;
-    by_operand(3, &[0, 8, 13], &[0])?;
-    by_operand(4, &[1, 2, 3, 4, 5, 6], &[1, 2])?;
-    by_operand(4, &[0, 7, 8, 10, 11, 13], &[0])
+    by_operand(1, &[0, 7, 8, UNKNOWN], &[0])?;
+    for conversion in 2..=4 {
+        by_operand(conversion, &[1, 2, 3, 4, 5, 6, 14], &[1])?;
+        by_operand(conversion, &[0, 8, UNKNOWN], &[0])?;
+    }
+    by_operand(5, &[1, 2, 3, 4, 5, 6, 14], &[1, 2])?;
+    by_operand(5, &[0, 7, 8, 10, 11, UNKNOWN], &[0])
 }
 
 // ---- the calls
@@ -153,12 +157,27 @@ fn spoilt_to_list(random: &mut Random) -> Outcome<Refused> {
     spoil_up_to(2, &mut a, random);
     let room = if random.one_in(3) { random.below(40) } else { length + random.below(3) };
     let filling = random.words(room);
-    let out: Vec<u32> = filling.iter().map(|&filling| filling as u32).collect();
+    let out = as_numbers(&filling);
     let compared = || {
         let told = ours::to_list(&a, &out)?;
         check(&told, &rules::to_list(&a, &out))
     };
     let answer = compared().map_err(|why| with_input(why, "to list", &[&a], &filling))?;
+    Ok(Refused { answer, held: held(&[&a], false) })
+}
+
+fn spoilt_to_runs(random: &mut Random) -> Outcome<Refused> {
+    let length = small_length(random);
+    let mut a = any_operand(length, 2, random);
+    spoil_up_to(2, &mut a, random);
+    let room = if random.one_in(3) { random.below(12) } else { length.min(200) + random.below(3) };
+    let filling = random.words(room);
+    let out = as_numbers(&filling);
+    let compared = || {
+        let told = ours::to_runs(&a, &out)?;
+        check(&told, &rules::to_runs(&a, &out))
+    };
+    let answer = compared().map_err(|why| with_input(why, "to runs", &[&a], &filling))?;
     Ok(Refused { answer, held: held(&[&a], false) })
 }
 
@@ -201,13 +220,13 @@ fn small_pair(random: &mut Random) -> (Operand, Operand) {
     random_pair(length, random)
 }
 
-/// A list once in `lists` times, where the rows don't call for all or none.
+/// Once in `lists` times it may be a list or runs, where the rows don't call for all or none.
 fn any_operand(length: u64, lists: u64, random: &mut Random) -> Operand {
     let rows = random_rows(length.min(200), random);
-    let with_list = random.one_in(lists);
-    let form = fitting_form(&rows, with_list, random);
+    let carriers: &[u64] = if random.one_in(lists) { &CARRIERS } else { &[WORDS] };
+    let form = fitting_form(&rows, carriers, random);
     let mut operand = lend(&rows, form, random);
-    if form != WORDS && form != LIST {
+    if form == ALL || form == NONE {
         operand.length = length;
     }
     operand
@@ -265,6 +284,7 @@ fn spoil(operand: &mut Operand, random: &mut Random) {
         5 => operand.words.truncate(operand.words.len().saturating_sub(1 + random.below(3) as usize)),
         6 => operand.claimed = operand.claimed.wrapping_add(random.pick(&[1, 2, u64::MAX])),
         7 => operand.claimed = random.pick(&[0, operand.length, u64::MAX, 1 << 32]),
+        8..=10 if operand.form == RUNS => spoil_runs(operand, random),
         8..=10 => spoil_list(operand, random),
         _ => spoil_form(operand, random),
     }
@@ -288,9 +308,33 @@ fn spoil_list(operand: &mut Operand, random: &mut Random) {
     }
 }
 
+/// One run is made empty, or touches or meets the one before it, or passes the length; or there is one number more or less.
+/// Now and then what comes out is a list of runs all the same.
+fn spoil_runs(operand: &mut Operand, random: &mut Random) {
+    let (length, runs) = (operand.length as u32, &mut operand.rows);
+    if runs.len() < 2 {
+        runs.extend([random.below(4) as u32, random.below(4) as u32]);
+        return;
+    }
+    let place = 2 * random.below(runs.len() as u64 / 2) as usize;
+    let last = runs.len() - 1;
+    match random.below(10) {
+        0 => runs[place + 1] = runs[place],
+        1 => runs.swap(place, place + 1),
+        2 => runs[place] = runs[place.saturating_sub(1)],
+        3 => runs[place] = runs[place.saturating_sub(1)].saturating_sub(1),
+        4 => runs[last] = length,
+        5 => runs[last] = length.wrapping_add(1),
+        6 => drop(runs.remove(place)),
+        7 => runs.push(length),
+        8 => runs.extend_from_within(place..place + 2),
+        _ => runs[place + random.below(2) as usize] = random.next() as u32,
+    }
+}
+
 fn spoil_form(operand: &mut Operand, random: &mut Random) {
     operand.form = match random.below(3) {
-        0 => random.pick(&[4, 5, 99, 256, 1 << 32, u64::MAX]),
-        _ => random.below(4),
+        0 => random.pick(&[RUNS + 1, RUNS + 2, 99, 256, 1 << 32, u64::MAX]),
+        _ => random.below(RUNS + 1),
     };
 }

@@ -1,7 +1,7 @@
-//! Document 01 written out plainly, row by row: the refusal table with its order, the route table, and what is written.
-//! It shares nothing with the Rust crate or the proved code.
+//! Document 01, and document 02's runs, written out plainly, row by row: the refusal table with its order, the route table,
+//! and what is written. It shares nothing with the Rust crate or the proved code.
 use crate::answer::Answer;
-use crate::operand::{ALL, LIST, NONE, Operand, WORDS, count, in_words, lay, set_rows};
+use crate::operand::{ALL, LIST, NONE, Operand, RUNS, WORDS, count, in_words, lay, runs_of, set_rows};
 
 pub const LIMIT: u64 = 1_048_576;
 pub const UNKNOWN_FORM: u64 = 99;
@@ -72,7 +72,7 @@ pub fn rank_read(words: &[u64], start: u64, offset: u64) -> Answer {
 
 /// 0 where the operand passes.
 fn operand_refusal(operand: &Operand, in_set_operation: bool) -> u64 {
-    if in_set_operation && operand.form == LIST {
+    if in_set_operation && has_row_numbers(operand) {
         return 12;
     }
     if operand.length > LIMIT {
@@ -81,8 +81,14 @@ fn operand_refusal(operand: &Operand, in_set_operation: bool) -> u64 {
     match operand.form {
         WORDS => words_refusal(operand),
         LIST => list_refusal(operand),
+        RUNS => runs_refusal(operand),
         _ => 0,
     }
+}
+
+/// Runs count as a list in the set operations and in the route table.
+fn has_row_numbers(operand: &Operand) -> bool {
+    [LIST, RUNS].contains(&operand.form)
 }
 
 fn words_refusal(operand: &Operand) -> u64 {
@@ -109,6 +115,21 @@ fn list_refusal(operand: &Operand) -> u64 {
     }
 }
 
+fn runs_refusal(operand: &Operand) -> u64 {
+    let mut lowest = 0; // first row that the next run may have: one row past each run is not set
+    for run in operand.rows.chunks(2) {
+        let &[first, past] = run else {
+            return 14;
+        };
+        let [first, past] = [first, past].map(u64::from);
+        if first < lowest || past <= first || past > operand.length {
+            return 14;
+        }
+        lowest = past + 1;
+    }
+    0
+}
+
 /// How many lines of the refusal table hold of an operand taken alone, whatever the order; 4 where it is plain to see.
 pub fn refusals_that_hold(operand: &Operand, in_set_operation: bool) -> u64 {
     let is_words = operand.form == WORDS;
@@ -117,13 +138,14 @@ pub fn refusals_that_hold(operand: &Operand, in_set_operation: bool) -> u64 {
     let ascending = operand.rows.windows(2).all(|pair| pair[0] < pair[1]);
     let last_too_far = operand.rows.last().is_some_and(|&last| u64::from(last) >= operand.length);
     let lines = [
-        is_list && in_set_operation,
+        has_row_numbers(operand) && in_set_operation,
         operand.length > LIMIT,
         is_words && operand.start > 63,
         is_words && (operand.words.len() as u128) < needed,
         is_words && operand.claimed > operand.length,
         is_list && !ascending,
         is_list && ascending && last_too_far,
+        operand.form == RUNS && runs_refusal(operand) != 0,
     ];
     lines.iter().filter(|&&holds| holds).count() as u64
 }
@@ -138,10 +160,17 @@ pub fn rows(operand: &Operand) -> Vec<bool> {
             let bit = |position: usize| operand.words[position / 64] >> (position % 64) & 1 == 1;
             (0..length).map(|row| bit(operand.start as usize + row)).collect()
         }
-        _ => {
+        LIST => {
             let mut rows = vec![false; length];
             for &row in &operand.rows {
                 rows[row as usize] = true;
+            }
+            rows
+        }
+        _ => {
+            let mut rows = vec![false; length];
+            for run in operand.rows.chunks(2) {
+                rows[run[0] as usize..run[1] as usize].fill(true);
             }
             rows
         }
@@ -154,7 +183,7 @@ pub fn set_count(operand: &Operand) -> u64 {
 }
 
 fn unknown_form(operand: &Operand) -> bool {
-    ![ALL, NONE, WORDS, LIST].contains(&operand.form)
+    ![ALL, NONE, WORDS, LIST, RUNS].contains(&operand.form)
 }
 
 /// The refusal and the operand that it names, 0 and 0 where both pass.
@@ -183,6 +212,24 @@ pub fn to_words(a: &Operand, out: &[u64]) -> Expected<u64> {
 }
 
 pub fn to_list(a: &Operand, out: &[u32]) -> Expected<u32> {
+    to_numbers(a, out, set_rows, |list| Answer::summary(list.len() as u64, a.length, 0))
+}
+
+/// The count is of rows, and the number written of runs.
+pub fn to_runs(a: &Operand, out: &[u32]) -> Expected<u32> {
+    to_numbers(a, out, runs_of, |runs| {
+        let rows = runs.chunks(2).map(|run| u64::from(run[1] - run[0])).sum();
+        Answer::summary(rows, a.length, 0).with_written(runs.len() as u64 / 2)
+    })
+}
+
+/// The numbers that `told` makes of the mask's rows, from the output's front on; later numbers as they were.
+fn to_numbers(
+    a: &Operand,
+    out: &[u32],
+    told: impl Fn(&[bool]) -> Vec<u32>,
+    answer: impl Fn(&[u32]) -> Answer,
+) -> Expected<u32> {
     if unknown_form(a) {
         return refused(UNKNOWN_FORM, 0, out);
     }
@@ -190,13 +237,13 @@ pub fn to_list(a: &Operand, out: &[u32]) -> Expected<u32> {
     if number != 0 {
         return refused(number, 1, out);
     }
-    let list = set_rows(&rows(a));
-    if out.len() < list.len() {
+    let numbers = told(&rows(a));
+    if out.len() < numbers.len() {
         return refused(8, 0, out);
     }
     let mut after = out.to_vec();
-    after[..list.len()].copy_from_slice(&list);
-    Expected { answer: Answer::summary(list.len() as u64, a.length, 0), out: after }
+    after[..numbers.len()].copy_from_slice(&numbers);
+    Expected { answer: answer(&numbers), out: after }
 }
 
 pub fn set(which: u64, a: &Operand, b: &Operand, out: &[u64]) -> Expected<u64> {
@@ -286,18 +333,18 @@ pub fn route(a: &Operand, own: &[bool], b: &Operand, ranks: &[bool]) -> u64 {
         return 3;
     }
     let loop_form = 16 * own_count < own_length;
-    match (a.form, b.form) {
-        (LIST, LIST) => 4,
-        (LIST, _) => 5,
-        (_, _) if 32 * rank_count < rank_length => 6,
-        (_, LIST) => {
+    match (has_row_numbers(a), has_row_numbers(b)) {
+        (true, true) => 4,
+        (true, false) => 5,
+        (false, _) if 32 * rank_count < rank_length => 6,
+        (false, true) => {
             if loop_form {
                 8
             } else {
                 7
             }
         }
-        (_, _) => {
+        (false, false) => {
             if loop_form {
                 10
             } else {

@@ -6,7 +6,7 @@ use vortex_mask_inside::private;
 
 use crate::checks::{Outcome, asked};
 use crate::given::Given;
-use crate::operand::{NONE, Operand, WORDS, count, fitting_form, lend, lend_at, random_rows};
+use crate::operand::{LIST, NONE, Operand, WORDS, count, fitting_form, lend, lend_at, recorded_rows};
 use crate::random::Random;
 use crate::words::{mask_word, random_offset, source_word};
 use crate::{rules, telling, theirs};
@@ -21,6 +21,8 @@ const READS: u64 = 350;
 const LONG_ONE_IN: u64 = 25; // a mask of some thousand rows
 
 const COMPOSITION: u64 = 5; // and, or, and-not and not are 1 to 4
+
+const CARRIERS: [u64; 2] = [WORDS, LIST]; // runs are ours, and not the crate's
 
 type Case = Vec<String>;
 
@@ -100,9 +102,9 @@ impl Starts {
 /// Pairs are made until one takes the route.
 fn pair_of_route(route: u64, length: u64, starts: [u64; 2], random: &mut Random) -> (Operand, Operand) {
     loop {
-        let own = random_rows(length, random);
-        let ranks = random_rows(count(&own), random);
-        let (own_form, rank_form) = (fitting_form(&own, true, random), fitting_form(&ranks, true, random));
+        let own = recorded_rows(length, random);
+        let ranks = recorded_rows(count(&own), random);
+        let (own_form, rank_form) = (fitting_form(&own, &CARRIERS, random), fitting_form(&ranks, &CARRIERS, random));
         let (a, b) = (lend_at(starts[0], &own, own_form, random), lend_at(starts[1], &ranks, rank_form, random));
         if rules::route(&a, &own, &b, &ranks) == route {
             return (a, b);
@@ -126,8 +128,8 @@ fn set_operation(case: u64, random: &mut Random) -> Outcome<Case> {
 }
 
 fn operand_without_list(length: u64, random: &mut Random) -> Operand {
-    let rows = random_rows(length, random);
-    let form = fitting_form(&rows, false, random);
+    let rows = recorded_rows(length, random);
+    let form = fitting_form(&rows, &[WORDS], random);
     lend(&rows, form, random)
 }
 
@@ -159,8 +161,8 @@ pub fn conversions() -> Outcome<String> {
     let mut cases = Vec::new();
     for case in 0..CONVERSIONS {
         let length = sample_length(case, &mut random);
-        let rows = random_rows(length, &mut random);
-        let form = fitting_form(&rows, true, &mut random);
+        let rows = recorded_rows(length, &mut random);
+        let form = fitting_form(&rows, &CARRIERS, &mut random);
         let a = lend(&rows, form, &mut random);
         cases.push(match case % 2 {
             0 => to_words(&a, &mut random)?,

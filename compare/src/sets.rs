@@ -1,7 +1,7 @@
 //! Set operations and conversions: against the crate's bitops and masks, and against document 01.
-use crate::answer::COUNT;
+use crate::answer::{COUNT, WRITTEN};
 use crate::checks::{Outcome, asked, by_the_crate, by_the_rules, same, with_input};
-use crate::operand::{Operand, fitting_form, lend, length_around_words, random_rows};
+use crate::operand::{CARRIERS, Operand, WORDS, fitting_form, lend, length_around_words, random_rows, runs_of};
 use crate::random::Random;
 use crate::tally::{Progress, Tally};
 use crate::{ours, rules, theirs};
@@ -31,7 +31,7 @@ pub fn set_operations(cases: u64, seed: u64, tally: &mut Tally) -> Outcome {
 
 fn operand_without_list(length: u64, random: &mut Random) -> Operand {
     let rows = random_rows(length, random);
-    let form = fitting_form(&rows, false, random);
+    let form = fitting_form(&rows, &[WORDS], random);
     lend(&rows, form, random)
 }
 
@@ -62,7 +62,7 @@ pub fn conversions(cases: u64, seed: u64, tally: &mut Tally) -> Outcome {
     for _ in 0..cases {
         let length = length_around_words(&mut random);
         let rows = random_rows(length, &mut random);
-        let form = fitting_form(&rows, true, &mut random);
+        let form = fitting_form(&rows, &CARRIERS, &mut random);
         let a = lend(&rows, form, &mut random);
         convert_both(&a, &mut random)?;
         of_length_0 += u64::from(length == 0);
@@ -72,12 +72,14 @@ pub fn conversions(cases: u64, seed: u64, tally: &mut Tally) -> Outcome {
     tally.add("conversions to words against the crate's masks", cases);
     tally.add("  of length 0: their density left out against the crate", of_length_0);
     tally.add("conversions to a list against the crate's masks", cases);
+    tally.add("conversions to runs against the crate's slices, which the stand-in finds", cases);
     Ok(())
 }
 
 pub fn convert_both(a: &Operand, random: &mut Random) -> Outcome {
     one_to_words(a, &output(a.length.div_ceil(64), random))?;
-    one_to_list(a, &output(rules::set_count(a), random))
+    one_to_list(a, &output(rules::set_count(a), random))?;
+    one_to_runs(a, &output(runs_of(&rules::rows(a)).len() as u64, random))
 }
 
 fn one_to_words(a: &Operand, out: &[u64]) -> Outcome {
@@ -91,7 +93,7 @@ fn one_to_words(a: &Operand, out: &[u64]) -> Outcome {
 }
 
 fn one_to_list(a: &Operand, filling: &[u64]) -> Outcome {
-    let out: Vec<u32> = filling.iter().map(|&filling| filling as u32).collect();
+    let out = as_numbers(filling);
     let compared = || {
         let told = ours::to_list(a, &out)?;
         by_the_rules(&told, &rules::to_list(a, &out))?;
@@ -99,4 +101,19 @@ fn one_to_list(a: &Operand, filling: &[u64]) -> Outcome {
         same("the crate's list", &told.out[..told.answer.cells[COUNT] as usize], &listed[..])
     };
     compared().map_err(|why| with_input(why, "to list", &[a], filling))
+}
+
+fn one_to_runs(a: &Operand, filling: &[u64]) -> Outcome {
+    let out = as_numbers(filling);
+    let compared = || {
+        let told = ours::to_runs(a, &out)?;
+        by_the_rules(&told, &rules::to_runs(a, &out))?;
+        let sliced = asked(|| theirs::sliced(&theirs::mask(a)))?;
+        same("the crate's slices", &told.out[..2 * told.answer.cells[WRITTEN] as usize], &sliced[..])
+    };
+    compared().map_err(|why| with_input(why, "to runs", &[a], filling))
+}
+
+pub fn as_numbers(filling: &[u64]) -> Vec<u32> {
+    filling.iter().map(|&filling| filling as u32).collect()
 }

@@ -4,7 +4,7 @@ use vortex_buffer::BitBuffer;
 use vortex_mask::{AllOr, Mask};
 
 use crate::given::Given;
-use crate::operand::{ALL, NONE, Operand, WORDS};
+use crate::operand::{ALL, LIST, NONE, Operand, WORDS};
 
 pub fn mask(operand: &Operand) -> Mask {
     let length = operand.length as usize;
@@ -12,8 +12,13 @@ pub fn mask(operand: &Operand) -> Mask {
         ALL => Mask::new_true(length),
         NONE => Mask::new_false(length),
         WORDS => Mask::from_buffer(BitBuffer::from_words(&operand.words, operand.start as usize, length)),
-        _ => Mask::from_indices(length, operand.rows.iter().map(|&row| row as usize)),
+        LIST => Mask::from_indices(length, operand.rows.iter().map(|&row| row as usize)),
+        _ => Mask::from_slices(length, slices(&operand.rows)),
     }
+}
+
+fn slices(numbers: &[u32]) -> Vec<(usize, usize)> {
+    numbers.chunks(2).map(|run| (run[0] as usize, run[1] as usize)).collect()
 }
 
 /// The mask's index list is built now, so that it counts as cached in what follows.
@@ -92,5 +97,14 @@ pub fn listed(mask: &Mask) -> Vec<u32> {
         AllOr::All => (0..mask.len() as u32).collect(),
         AllOr::None => Vec::new(),
         AllOr::Some(indices) => indices.iter().map(|&index| index as u32).collect(),
+    }
+}
+
+/// The mask's slices as numbers in pairs: all is one of them, but none at length 0.
+pub fn sliced(mask: &Mask) -> Vec<u32> {
+    match mask.slices() {
+        AllOr::All if mask.len() > 0 => vec![0, mask.len() as u32],
+        AllOr::All | AllOr::None => Vec::new(),
+        AllOr::Some(slices) => slices.iter().flat_map(|&(first, past)| [first as u32, past as u32]).collect(),
     }
 }

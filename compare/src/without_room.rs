@@ -7,7 +7,7 @@ use crate::probe;
 use crate::random::Random;
 use crate::tally::{Progress, Tally};
 
-const CALLS: u64 = 9;
+const CALLS: u64 = 10;
 const LINES: &[u8] = b"self=01101011\nrank=10010\n";
 
 /// Cells and densities lent, of which at least one is too few.
@@ -41,7 +41,7 @@ struct Memory {
     a: LentOperand,
     b: LentOperand,
     out: Lent<u64>,
-    list: Lent<u32>,
+    numbers: Lent<u32>,
     lines: Lent<u8>,
     text: Lent<u8>,
     answer: AnswerMemory,
@@ -53,7 +53,7 @@ impl Memory {
             a: LentOperand::new(a),
             b: LentOperand::new(b),
             out: Lent::new(out),
-            list: Lent::new(&[7; 200]),
+            numbers: Lent::new(&[7; 200]),
             lines: Lent::new(LINES),
             text: Lent::new(&[7; 100]),
             answer: AnswerMemory::new(),
@@ -64,7 +64,7 @@ impl Memory {
         self.a.check(1)?;
         self.b.check(2)?;
         let of_the_program = self.lines.unchanged() && self.text.unchanged();
-        match of_the_program && self.out.unchanged() && self.list.unchanged() && self.answer.unchanged() {
+        match of_the_program && self.out.unchanged() && self.numbers.unchanged() && self.answer.unchanged() {
             true => Ok(()),
             false => Err("without room for the answer, something was written".to_string()),
         }
@@ -89,17 +89,20 @@ impl Memory {
                     out, nout, ans, nans, den, nden),
                 4 => probe::probe_to_list(
                     a.form, a.length, a.start, a.claimed, a_words, a_nwords, a_rows, a_nrows,
-                    self.list.pointer(), self.list.len(), ans, nans, den, nden),
-                5 => probe::probe_compose(
+                    self.numbers.pointer(), self.numbers.len(), ans, nans, den, nden),
+                5 => probe::probe_to_runs(
+                    a.form, a.length, a.start, a.claimed, a_words, a_nwords, a_rows, a_nrows,
+                    self.numbers.pointer(), self.numbers.len(), ans, nans, den, nden),
+                6 => probe::probe_compose(
                     a.form, a.length, a.start, a.claimed, a_words, a_nwords, a_rows, a_nrows,
                     b.form, b.length, b.start, b.claimed, b_words, b_nwords, b_rows, b_nrows,
                     out, nout, ans, nans, den, nden),
-                6 => probe::probe_set(
+                7 => probe::probe_set(
                     3,
                     a.form, a.length, a.start, a.claimed, a_words, a_nwords, a_rows, a_nrows,
                     b.form, b.length, b.start, b.claimed, b_words, b_nwords, b_rows, b_nrows,
                     out, nout, ans, nans, den, nden),
-                7 => probe::probe_program(
+                8 => probe::probe_program(
                     self.lines.pointer(), self.lines.len(), self.text.pointer(), self.text.len(),
                     ans, nans, den, nden),
                 _ => probe::probe_feed(

@@ -29,6 +29,7 @@ pub mod private {
     }
 
     /// `Bmi2`: only where the CPU has it.
+    #[cfg(target_arch = "x86_64")]
     pub fn bmi2_deposit(source: u64, mask: u64) -> Option<u64> {
         ::switched_std::cpu::has_bmi2().then(|| bmi2::Bmi2::deposit_bits(source, mask, mask.count_ones() as usize))
     }
@@ -40,6 +41,7 @@ pub mod private {
     }
 
     /// `Bmi2`'s select: only where the CPU has it; the rank must be below the word's count.
+    #[cfg(target_arch = "x86_64")]
     pub fn bmi2_select(word: u64, rank: usize) -> Option<usize> {
         ::switched_std::cpu::has_bmi2().then(|| bmi2::Bmi2::select_bit_position(word, rank))
     }
@@ -77,6 +79,7 @@ pub mod private {
     }
 
     /// The BMI2 kernels; none where the CPU lacks it.
+    #[cfg(target_arch = "x86_64")]
     pub fn bmi2_kernels(own: &BitBuffer, ranks: &BitBuffer) -> Vec<Kernel> {
         if !::switched_std::cpu::has_bmi2() {
             return Vec::new();
@@ -95,5 +98,21 @@ pub mod private {
             kernel("rank indices, BMI2", indices),
             kernel("mask-driven, BMI2", driven),
         ]
+    }
+
+    // Another CPU has no BMI2.
+    #[cfg(not(target_arch = "x86_64"))]
+    pub fn bmi2_deposit(_source: u64, _mask: u64) -> Option<u64> {
+        None
+    }
+
+    #[cfg(not(target_arch = "x86_64"))]
+    pub fn bmi2_select(_word: u64, _rank: usize) -> Option<usize> {
+        None
+    }
+
+    #[cfg(not(target_arch = "x86_64"))]
+    pub fn bmi2_kernels(_own: &BitBuffer, _ranks: &BitBuffer) -> Vec<Kernel> {
+        Vec::new()
     }
 }

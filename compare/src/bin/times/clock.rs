@@ -17,23 +17,35 @@ impl Times {
         self.with(self, |one, _| one * factor)
     }
 
-    /// Of each side the lesser.
-    pub fn least(self, other: Times) -> Times {
-        self.with(other, f64::min)
-    }
-
     pub fn plus(self, more: Times) -> Times {
         self.with(more, |one, other| one + other)
     }
+}
 
-    fn with(self, other: Times, both: impl Fn(f64, f64) -> f64) -> Times {
-        let if_timed = |one: Option<f64>, other: Option<f64>| one.zip(other).map(|(one, other)| both(one, other));
-        Times {
-            ours: both(self.ours, other.ours),
-            portable: both(self.portable, other.portable),
-            bmi2: if_timed(self.bmi2, other.bmi2),
-            making: if_timed(self.making, other.making),
-        }
+impl Kept for Times {
+    fn sides(self) -> [Option<f64>; 4] {
+        [Some(self.ours), Some(self.portable), self.bmi2, self.making]
+    }
+
+    fn of([ours, portable, bmi2, making]: [Option<f64>; 4]) -> Times {
+        Times { ours: ours.expect("ours"), portable: portable.expect("portable"), bmi2, making }
+    }
+}
+
+/// The times of a line, which can be kept from run to run: up to four sides, none where a side was not timed.
+pub trait Kept: Copy {
+    fn sides(self) -> [Option<f64>; 4];
+
+    fn of(sides: [Option<f64>; 4]) -> Self;
+
+    fn with(self, other: Self, both: impl Fn(f64, f64) -> f64) -> Self {
+        let (one, other) = (self.sides(), other.sides());
+        Self::of(std::array::from_fn(|side| one[side].zip(other[side]).map(|(one, other)| both(one, other))))
+    }
+
+    /// Of each side the lesser.
+    fn least(self, other: Self) -> Self {
+        self.with(other, f64::min)
     }
 }
 
@@ -50,6 +62,17 @@ pub fn best_of(turns: usize, ours: Turn, portable: Turn, mut bmi2: Option<Turn>,
     };
     let first = all();
     (1..turns).fold(first, |best, _| best.least(all()))
+}
+
+/// The least seconds of each side, which go turn by turn too.
+pub fn least_of_each(turns: usize, sides: &mut [Turn]) -> Vec<f64> {
+    let mut least = vec![f64::INFINITY; sides.len()];
+    for _ in 0..turns {
+        for (least, side) in least.iter_mut().zip(sides.iter_mut()) {
+            *least = least.min(side());
+        }
+    }
+    least
 }
 
 /// The seconds of one call. What it gives is dropped off the clock.

@@ -112,7 +112,7 @@ pub fn time(turns: usize, a: &Operand, b: &Operand) -> Times {
 }
 
 /// Masks made anew for each turn, since the crate keeps index lists that it built.
-fn theirs_once(a: &Operand, b: &Operand, bmi2: bool) -> f64 {
+pub fn theirs_once(a: &Operand, b: &Operand, bmi2: bool) -> f64 {
     cpu::allow_bmi2(bmi2);
     let (a, b) = (theirs::mask(a), theirs::mask(b));
     seconds(|| a.intersect_by_rank(&b))

@@ -1,12 +1,16 @@
 //! How long ours takes beside the Rust crate: tables on the terminal and in SPEED.md, and a plot, speed.svg. Ours is
 //! called through probe with all its checks; the crate stands on this workspace's buffers. Words: FOLDER PLACE EARLIER,
-//! the folder to write to, what the program runs on, and a file that keeps the best times from run to run.
+//! the folder to write to, what the program runs on, and a file that keeps the best times from run to run. With --runs in
+//! place of the folder, the section of runs alone, to standard output.
 mod clock;
 mod compositions;
+mod conversions;
 mod earlier;
 mod masks;
 mod operations;
 mod plot;
+mod runs;
+mod runs_table;
 mod table;
 mod words;
 mod year;
@@ -14,6 +18,8 @@ mod year;
 use std::path::Path;
 use std::{env, fs, process};
 
+use clock::Kept;
+use runs_table::Table;
 use table::Part;
 
 fn main() {
@@ -23,13 +29,31 @@ fn main() {
             stop("three words are needed: the folder to write to, what it runs on, and a file for the best times")
         }
     };
+    let earlier = Path::new(&earlier);
+    if folder == "--runs" {
+        print!("{}", section_of_runs(&place, earlier));
+        return;
+    }
     println!("on {place}; the best of several turns of each");
     let mut parts = timed();
-    if let Err(why) = earlier::best_with_earlier(&mut parts, Path::new(&earlier)) {
-        stop(&format!("{earlier}: {why}"));
-    }
-    write(&folder, "SPEED.md", &told(&place, &parts));
+    best(parts.iter_mut().flat_map(|part| &mut part.lines).map(|line| &mut line.times).collect(), earlier);
+    let runs = section_of_runs(&place, earlier);
+    write(&folder, "SPEED.md", &told(&place, &parts, &runs));
     write(&folder, "speed.svg", &plot::drawing(&place, &parts));
+}
+
+/// Its times are kept in a file of their own.
+fn section_of_runs(place: &str, earlier: &Path) -> String {
+    let mut table = Table::default();
+    runs::fill(&mut table);
+    best(table.sides(), &earlier.with_extension("runs"));
+    format!("## Runs\n\n{}\n{}", RUNS.replace("PLACE", place), table.markdown())
+}
+
+fn best<T: Kept>(lines: Vec<&mut T>, earlier: &Path) {
+    if let Err(why) = earlier::best_with_earlier(lines, earlier) {
+        stop(&format!("{}: {why}", earlier.display()));
+    }
 }
 
 fn stop(why: &str) -> ! {
@@ -89,9 +113,20 @@ const YEAR: &str = "\
 324,979,200 rows in 310 blocks of at most 1,048,576, made one at a time; the best of each block's turns is added up.
 ";
 
-fn told(place: &str, parts: &[Part]) -> String {
+const RUNS: &str = "\
+Masks that are a few long runs, lent as runs: blocks of 1,048,576 rows, timed on PLACE. `compare/run --times-of-runs` times this section
+alone. The runs are of about the same length, at random places, and half of the rows are in them, but for short ones as a rank mask, in which a
+hundredth of the ranks are, and runs of one row, which are every 64th row.
+
+The bounds: a composition takes at most as long as with the same masks in words; a conversion to words at most twice the time of clearing the
+output for 1 and 52 runs, and four times for 1,000; runs of one row each at most twice the time of the same rows as a list. Clearing is the C
+library's memset of the same 131,072 bytes, and ours of none. A line over its bound is marked. The crate, where it has the call, gets the words of both
+masks, made before the clock starts. To runs has no bound: beside it is the same call to a list.
+";
+
+fn told(place: &str, parts: &[Part], runs: &str) -> String {
     let tables: Vec<String> = parts.iter().map(Part::markdown).collect();
-    format!("{}\n{}", HEAD.replace("PLACE", place), tables.join("\n"))
+    format!("{}\n{}\n{runs}", HEAD.replace("PLACE", place), tables.join("\n"))
 }
 
 const HEAD: &str = "\

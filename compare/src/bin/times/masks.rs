@@ -1,5 +1,5 @@
 //! Masks of a million rows, made by words: row by row would take longer than what is timed.
-use compare::operand::{LIST, Operand, WORDS};
+use compare::operand::{LIST, Operand, RUNS, WORDS};
 use compare::random::Random;
 
 /// Rows as words, row 0 at bit 0 of the first; clear past the length.
@@ -18,11 +18,29 @@ impl Rows {
         Rows { length, words }
     }
 
+    /// So many runs of about the same length, one in each of as many equal parts of the rows, at a random place of it that
+    /// leaves the part's last row out.
+    pub fn of_runs(length: u64, runs: u64, density: f64, random: &mut Random) -> Self {
+        let mut words = vec![0; length.div_ceil(64) as usize];
+        for part in 0..runs {
+            let (first, end) = (length * part / runs, length * (part + 1) / runs);
+            let rows = ((density * (end - first) as f64) as u64).max(1);
+            let place = first + random.below(end - first - rows);
+            set_range(&mut words, place, place + rows);
+        }
+        Rows { length, words }
+    }
+
+    /// Row 0, 64, 128 and so on.
+    pub fn every_64th(length: u64) -> Self {
+        Rows { length, words: vec![1; length.div_ceil(64) as usize] }
+    }
+
     pub fn count(&self) -> u64 {
         self.words.iter().map(|word| u64::from(word.count_ones())).sum()
     }
 
-    /// As words from bit `start` on, as a list, or as all or none, which need rows that are so.
+    /// As words from bit `start` on, as a list, as runs, or as all or none, which need rows that are so.
     pub fn lent(&self, form: u64, start: u64) -> Operand {
         let mut operand =
             Operand { form, length: self.length, start: 0, claimed: 0, words: Vec::new(), rows: Vec::new() };
@@ -33,6 +51,9 @@ impl Rows {
         }
         if form == LIST {
             operand.rows = self.listed();
+        }
+        if form == RUNS {
+            operand.rows = self.in_runs();
         }
         operand
     }
@@ -49,15 +70,38 @@ impl Rows {
     }
 
     fn listed(&self) -> Vec<u32> {
-        let mut rows = Vec::with_capacity(self.count() as usize);
-        for (i, &word) in self.words.iter().enumerate() {
-            let mut rest = word;
-            while rest != 0 {
-                rows.push(64 * i as u32 + rest.trailing_zeros());
-                rest &= rest - 1;
-            }
+        set_rows(self.words.iter().copied())
+    }
+
+    /// A row that differs from the one before it begins a run, or is past its last row.
+    fn in_runs(&self) -> Vec<u32> {
+        let before = |i: usize| i.checked_sub(1).map_or(0, |i| self.words[i] >> 63);
+        let mut numbers = set_rows(self.words.iter().enumerate().map(|(i, &word)| word ^ (word << 1 | before(i))));
+        if numbers.len() % 2 == 1 {
+            numbers.push(self.length as u32); // the last run ends with the last word
         }
-        rows
+        numbers
+    }
+}
+
+fn set_rows(words: impl Iterator<Item = u64>) -> Vec<u32> {
+    let mut rows = Vec::new();
+    for (i, word) in words.enumerate() {
+        let mut rest = word;
+        while rest != 0 {
+            rows.push(64 * i as u32 + rest.trailing_zeros());
+            rest &= rest - 1;
+        }
+    }
+    rows
+}
+
+/// Whole words at once: a run may have a million rows.
+fn set_range(words: &mut [u64], first: u64, past: u64) {
+    for i in first / 64..past.div_ceil(64) {
+        let from = first.saturating_sub(64 * i).min(63);
+        let to = (past - 64 * i).min(64);
+        words[i as usize] |= u64::MAX >> (64 - (to - from)) << from;
     }
 }
 

@@ -82,12 +82,12 @@ fn alignment(column: usize, columns: usize) -> &'static str {
     if column < columns { "---" } else { "--:" }
 }
 
-fn ratio(value: f64) -> String {
+pub fn ratio(value: f64) -> String {
     if value >= 99.995 { format!("{value:.0}") } else { format!("{value:.2}") }
 }
 
 /// Three digits that count.
-fn number(value: f64) -> String {
+pub fn number(value: f64) -> String {
     match value {
         v if v >= 99.95 => format!("{v:.0}"),
         v if v >= 9.995 => format!("{v:.1}"),
