@@ -28,6 +28,8 @@ from masks import (
     RUNS,
     SMALL_LENGTHS,
     TOP,
+    WEEKS_LENGTH,
+    WEEKS_RESULT,
     WORDS,
     Dice,
     Operand,
@@ -36,6 +38,7 @@ from masks import (
     as_words,
     density_of,
     flat_operand,
+    held_by,
     in_view,
     list_operand,
     mask_of,
@@ -369,6 +372,12 @@ def rooms_of_runs(dice):
     return cases
 
 
+def weeks(dice):
+    """The result of examples/weeks, from words to its three runs."""
+    mask = held_by(runs_in(WEEKS_RESULT), WEEKS_LENGTH)
+    return [Case(TO_RUNS, Operand(WORDS, len(mask), 0, sum(mask), as_words(mask)), ones(TO_RUNS, 7))]
+
+
 def more_than_one_refusal(dice):
     """The first in the order of the table is the answer."""
     nowhere = []
@@ -500,11 +509,12 @@ def all_cases():
     cases += runs_at_words_edges(dice)
     cases += runs_of_one_row(dice)
     cases += rooms_of_runs(dice)
+    cases += weeks(dice)
     cases += more_than_one_refusal(dice)
     cases += at_the_limit_to_words(dice)
     cases += at_the_limit_to_list(dice)
     cases += at_the_limit_to_runs(dice)
-    cases += random_cases(dice, 69)
+    cases += random_cases(dice, 68)
     return cases
 
 

@@ -15,7 +15,7 @@ weeks      a text to read, and no input of the program, with its answer in it: o
 import os
 import sys
 
-from masks import RUNS, Operand, as_runs, as_words, density_of, mask_of, refusal_of, runs_in
+from masks import RUNS, WEEKS_RANK, WEEKS_RESULT, WEEKS_SELF, Operand, as_runs, as_words, density_of, mask_of, refusal_of, runs_in
 from pairs import composition, route_of
 from texts import answer_to, said
 
@@ -110,6 +110,8 @@ def weeks():
     over = [held_in_year(sample) > OVER for sample in range(YEAR)]
     released = [RELEASE[0] <= sample < RELEASE[1] for sample in range(YEAR) if over[sample]]
     result = composition(over, released)
+    # The recorded cases have these numbers too.
+    assert [as_runs(mask) for mask in (over, released, result)] == [WEEKS_SELF, WEEKS_RANK, WEEKS_RESULT]
 
     def note_of(first, past):
         ranks = f"ranks {sum(over[:first]):,} to {sum(over[:past]) - 1:,}"

@@ -23,6 +23,13 @@ class Operand:
         self.words, self.rows = list(words), list(rows)
 
 
+# The numbers of examples/weeks: one node over 52 weeks, its runs of leaks, the ranks in release 7's time, and the rows that these are.
+WEEKS_LENGTH = 52416
+WEEKS_SELF = [7038, 11088, 20142, 23616, 33246, 41328]
+WEEKS_RANK = [2034, 10566]
+WEEKS_RESULT = [9072, 11088, 20142, 23616, 33246, 36288]
+
+
 # What documents 01 and 02 say.
 
 

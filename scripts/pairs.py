@@ -32,6 +32,10 @@ from masks import (
     RUNS,
     SMALL_LENGTHS,
     TOP,
+    WEEKS_LENGTH,
+    WEEKS_RANK,
+    WEEKS_RESULT,
+    WEEKS_SELF,
     WORDS,
     Dice,
     Operand,
@@ -667,12 +671,21 @@ def bits(text):
     return [character == "1" for character in text]
 
 
+def weeks():
+    """examples/weeks: one run of ranks that is three runs of rows."""
+    leaks = Operand(RUNS, WEEKS_LENGTH, rows=WEEKS_SELF)
+    case = Case(COMPOSITION, leaks, Operand(RUNS, count_of(leaks), rows=WEEKS_RANK), [FULL] * 820)
+    result = held_by(runs_in(WEEKS_RESULT), WEEKS_LENGTH)
+    assert answer_to(case) == Answer(0, 0, sum(result), 4, density_of(result), as_words(result) + [FULL])
+    return case
+
+
 def examples(dice):
-    """E11, the program's masks, both as words; and both masks of length 0."""
+    """E11, the program's masks, both as words; both masks of length 0; and a node's weeks."""
     a, b = (Operand(WORDS, len(mask), 0, sum(mask), as_words(mask)) for mask in (bits("01101011"), bits("10010")))
     program = Case(COMPOSITION, a, b, [FULL])
     assert answer_to(program) == Answer(0, 0, 2, 9, 2 / 8, as_words(bits("01000010")))
-    cases = [program]
+    cases = [program, weeks()]
     for form in FORMS:
         for rank_form in FORMS:
             cases.append(Case(COMPOSITION, Operand(form, 0), Operand(rank_form, 0), []))
