@@ -1,5 +1,5 @@
 #!/usr/bin/env python3
-"""Writes recorded streams of the composer, with the answers that document 01 gives.
+"""Writes recorded streams of the composer, with the answers that documents 01 and 02 give.
 
     scripts/feeds.py FILE
 
@@ -8,9 +8,9 @@ masks.py says how the file is told. A case is two lines and ten for each feed:
     how many feeds
     the output slice before
     given done ranks kept            given 0: the state that the feed before gave back, fresh at first; 1: these three
-    form length start claimed        self's piece; form: 0 all, 1 none, 2 words, 3 list
+    form length start claimed        self's piece; form: 0 all, 1 none, 2 words, 3 list, 4 runs
     its lent words
-    its lent rows
+    its lent rows, of runs their numbers in pairs
     form length start claimed        the rank mask's piece
     its lent words
     its lent rows
@@ -31,31 +31,38 @@ from masks import (
     LIMIT,
     LIST,
     NONE,
+    RUNS,
+    TOP,
     WORDS,
     Dice,
     Operand,
     as_words,
     density_of,
+    held_by,
     in_view,
     mask_of,
     numbers,
     refusal_of,
+    runs_in,
     told,
     told_answer,
     words_for,
     write_cases,
 )
 from pairs import (
+    FORMS,
     STARTS,
     bad_operands,
     bits,
     composition,
     exactly,
     lines_of_operand,
+    more_bad_runs,
     operand_in,
     output,
     rising,
     route_of,
+    routes_of,
     viewed,
 )
 
@@ -73,7 +80,7 @@ FRESH = State(0, 0, 0)
 NO_ROWS = Operand(NONE, 0)
 
 
-# What document 01 says.
+# What documents 01 and 02 say.
 
 
 def refusal_to(state, feed, room):
@@ -165,7 +172,7 @@ def lines_of(case_and_answers):
 
 def forms_of(mask):
     """The forms that can hold the mask."""
-    forms = [WORDS, LIST]
+    forms = [WORDS, LIST, RUNS]
     if all(mask):
         forms.append(ALL)
     if not any(mask):
@@ -205,8 +212,9 @@ def whole_and_pieces(dice, self_mask, rank_mask, cuts, forms=()):
 
 def random_masks(dice, length):
     """A self mask and a rank mask as long as its count."""
-    self_mask = dice.mask(length, dice.among([0, 1, 8, 8, 12, 16]))
-    return self_mask, dice.mask(sum(self_mask), dice.among([0, 8, 8, 12, 16]))
+    self_mask = dice.among([dice.mask(length, dice.among([0, 1, 8, 8, 12, 16])), dice.turning(length, 50)])
+    count = sum(self_mask)
+    return self_mask, dice.among([dice.mask(count, dice.among([0, 8, 8, 12, 16])), dice.turning(count, 50)])
 
 
 def case_in(room, *streams):
@@ -234,20 +242,20 @@ def examples(dice):
 
 def every_cut_of_short_masks(dice):
     """In two pieces. Every mix of forms comes up again and again; the room is exact, or a word more."""
-    mixes = [(form, rank_form) for form in (WORDS, LIST, ALL, NONE) for rank_form in (WORDS, LIST, ALL, NONE)]
+    mixes = [(form, rank_form) for form in FORMS for rank_form in FORMS]
     cases = []
     for more in (0, 1):
         for length in range(13):
             for cut in range(length + 1):
                 at = len(cases)
-                forms = [mixes[at % 16], mixes[(at // 16 + 5 * at) % 16]]
+                forms = [mixes[at % 25], mixes[(at // 25 + 7 * at) % 25]]
                 masks = shaped_for(dice, forms, (cut, length - cut))
                 cases.append(case_in(words_for(length) + more, whole_and_pieces(dice, *masks, [cut], forms)))
     return cases
 
 
 def shaped_for(dice, forms, lengths):
-    """Masks whose pieces can have these forms: all ones for all, none for none, anything for words and lists."""
+    """Masks whose pieces can have these forms: all ones for all, none for none, anything for words, lists and runs."""
     self_mask, rank_mask = [], []
     for (form, rank_form), length in zip(forms, lengths):
         mask = shaped(dice, form, length)
@@ -299,8 +307,35 @@ def cuts_around_words(dice):
     return cases
 
 
-def masks_on(dice, route):
-    """Masks and forms of a piece that takes this route."""
+def cuts_through_runs(dice):
+    """Three runs, cut in two inside a run, at its ends and between; the ranks, in one run or two, are then cut so too."""
+    self_mask = held_by(runs_in([5, 70, 80, 200, 210, 211]), 220)
+    count = sum(self_mask)
+    cases = []
+    for cut in (4, 5, 6, 63, 64, 65, 69, 70, 71, 75, 79, 80, 81, 127, 128, 129, 199, 200, 205, 210, 211):
+        for ranks in ([0, count], [3, 68, 70, 180], [60, 64, 66, count]):
+            form = FORMS[len(cases) % 5]
+            forms = [(RUNS, RUNS), (RUNS, form), (form, RUNS)][len(cases) // 5 % 3 :]
+            stream = whole_and_pieces(dice, self_mask, held_by(runs_in(ranks), count), [cut], forms)
+            cases.append(case_in(words_for(220) + cut % 2, stream))
+    return cases
+
+
+def one_run_in_many_pieces(dice):
+    """One run over all, and one that begins in the first piece and ends in the last, in pieces that a run fills, or nearly."""
+    cases = []
+    for first, past in ((0, 200), (3, 197)):
+        self_mask = held_by([(first, past)], 200)
+        rank_mask = held_by([(1, past - first - 1)], past - first)
+        for cuts in ([64, 128], [1, 63, 65], [50, 50, 100, 150], [10, 20, 30, 190]):
+            stream = whole_and_pieces(dice, self_mask, rank_mask, cuts, [(RUNS, RUNS)])
+            cases.append(case_in(words_for(200), stream))
+    return cases
+
+
+def masks_on(dice, route, number):
+    """Masks and forms of a piece that takes this route; those forms in turn that count as a list."""
+    form, rank_form = [(LIST, LIST), (RUNS, RUNS), (LIST, RUNS), (RUNS, LIST)][number % 4]
     length = 300 + dice.below(400)
     sparse, dense = exactly(dice, length, length // 16 - 1), dice.mask(length, 8)
     half = dice.mask(sum(dense), 8)
@@ -310,11 +345,11 @@ def masks_on(dice, route):
         1: ([True] * length, dice.mask(length, 8), None, None),
         2: (dense, [True] * sum(dense), None, None),
         3: (dense, [False] * sum(dense), None, None),
-        4: (dense, half, LIST, LIST),
-        5: (dense, half, LIST, WORDS),
-        6: (dense, few, WORDS, dice.among([WORDS, LIST])),
-        7: (dense, half, WORDS, LIST),
-        8: (sparse, some, WORDS, LIST),
+        4: (dense, half, form, rank_form),
+        5: (dense, half, form, WORDS),
+        6: (dense, few, WORDS, (WORDS, LIST, RUNS)[number % 3]),
+        7: (dense, half, WORDS, rank_form),
+        8: (sparse, some, WORDS, rank_form),
         9: (dense, half, WORDS, WORDS),
         10: (sparse, some, WORDS, WORDS),
     }
@@ -342,13 +377,14 @@ def stream_of(dice, parts):
 
 def streams_on_every_route(dice):
     cases = []
-    for _ in range(5):
-        stream = stream_of(dice, [masks_on(dice, route) for route in shuffled(dice, range(1, 11))])
+    for number in range(5):
+        stream = stream_of(dice, [masks_on(dice, route, number) for route in shuffled(dice, range(1, 11))])
         cases.append(case_in(words_for(len(stream.rows)) + dice.below(2), stream))
     return cases
 
 
-# Streams of 1,048,576 rows: words that are all alike, or that rise, or a rank mask of two plain halves, so that few runs tell them.
+# Streams of 1,048,576 rows: words that are all alike, or that rise, or a rank mask of two plain halves, so that few stretches tell
+# them.
 
 
 def alike(pattern, start, length):
@@ -367,7 +403,7 @@ def broken(dice, length, start):
 
 
 def some_listed(count):
-    """A run of ranks, in the middle."""
+    """The ranks in the middle."""
     size = min(count // 2 + 1, 4096)
     return Operand(LIST, count, rows=range(count // 4, count // 4 + size))
 
@@ -395,11 +431,37 @@ def long_pair(dice, route, done, length):
     return pairs[route]
 
 
-def long_stream(dice, routes, lengths):
+def long_pair_in_runs(dice, route, done, length):
+    """The same of routes 1 to 8, with runs wherever the route allows them."""
+    two = alike(0x0000400000000002, dice.below(64), length)
+    four = alike(0x8001100000400001, dice.below(64), length)
+    rise = risen(done, dice.below(4), length)
+    parts = Operand(RUNS, length, rows=[7, length // 3, length // 3 + 65, length - 1])
+    count = sum(mask_of(parts))
+    few = Operand(RUNS, rise.claimed, rows=[0, 2, rise.claimed // 3, rise.claimed // 3 + 7])
+    pairs = {
+        1: (Operand(RUNS, length, rows=[0, length]), some_in_runs(length)),
+        2: (parts, Operand(RUNS, count, rows=[0, count])),
+        3: (parts, Operand(RUNS, count)),
+        4: (parts, some_in_runs(count)),
+        5: (parts, broken(dice, count, dice.below(64))),
+        6: (rise, few),
+        7: (four, some_in_runs(four.claimed)),
+        8: (two, some_in_runs(two.claimed)),
+    }
+    return pairs[route]
+
+
+def some_in_runs(count):
+    """All but a few ranks, in three runs."""
+    return Operand(RUNS, count, rows=[1, count // 3, count // 3 + 1, count // 2 + 9, count // 2 + 70, count])
+
+
+def long_stream(dice, routes, lengths, pair_on):
     feeds = []
     done = 0
     for route, length in zip(routes, lengths):
-        pair = (NO_ROWS, NO_ROWS) if length == 0 else long_pair(dice, route, done, length)
+        pair = (NO_ROWS, NO_ROWS) if length == 0 else pair_on(dice, route, done, length)
         feeds.append(Feed(None, *pair))
         done += length
     self_mask = [row for feed in feeds for row in mask_of(feed.self)]
@@ -409,12 +471,14 @@ def long_stream(dice, routes, lengths):
 
 def streams_of_the_limit(dice):
     cases = []
-    for routes in (shuffled(dice, range(1, 11)), shuffled(dice, list(range(1, 11)) + [3, 9, 10, 4, 7]), [10, 9, 5, 8, 6]):
+    mixed = [shuffled(dice, range(1, 11)), shuffled(dice, list(range(1, 11)) + [3, 9, 10, 4, 7]), [10, 9, 5, 8, 6]]
+    in_runs = shuffled(dice, range(1, 9))
+    for routes, pair_on in [(routes, long_pair) for routes in mixed] + [(in_runs, long_pair_in_runs)]:
         least = 20000
         spare = LIMIT - least * len(routes)
         cuts = [0] + sorted(dice.below(spare + 1) for _ in routes[1:]) + [spare]
         lengths = [least + b - a for a, b in zip(cuts, cuts[1:])]
-        stream = long_stream(dice, routes + [3], lengths + [0])
+        stream = long_stream(dice, routes + [3], lengths + [0], pair_on)
         # A row more is refused; the piece of no rows after it is not.
         feeds = stream.feeds[:-1] + [Feed(None, Operand(NONE, 1), NO_ROWS), stream.feeds[-1]]
         cases.append(case_in(words_for(LIMIT) + len(cases) % 2, stream._replace(feeds=feeds)))
@@ -486,7 +550,7 @@ def refused_states(dice):
 
 def refused_operands(dice):
     cases = []
-    for operand in 2 * bad_operands(dice):
+    for operand in 2 * bad_operands(dice) + more_bad_runs():
         right = right_feed(dice, 40)
         bad = [(Feed(None, operand, right.rank), refusal_of(operand)), (Feed(None, right.self, operand), refusal_of(operand))]
         cases.append(interrupted(dice, bad))
@@ -522,7 +586,7 @@ def too_little_room(dice):
     """8: a piece that ends in the word past the output; one that ends with the output is accepted before it."""
     cases = []
     for room in (0, 1, 2, 3):
-        for form in (WORDS, LIST):
+        for form in (WORDS, LIST, RUNS):
             self_mask, rank_mask = random_masks(dice, 64 * room + 1)
             cuts = [dice.below(64 * room + 1), 64 * room]
             stream = whole_and_pieces(dice, self_mask, rank_mask, cuts, [(form, None), (form, None)])
@@ -550,6 +614,8 @@ def orders(dice):
     ones, none = Operand(ALL, 10), Operand(NONE, 10)
     no_order, past = Operand(LIST, 10, rows=[3, 3]), Operand(LIST, 10, rows=[3, 10])
     wrong = Operand(WORDS, 10, 3, 2**64 - 1, [FULL])
+    touching, unpaired = Operand(RUNS, 10, rows=[3, 5, 5, 7]), Operand(RUNS, 10, rows=[3])
+    run = Operand(RUNS, 10, rows=[0, 10])
     feeds = [
         (Feed(bad_state, ones, none), (10, 0)),
         (Feed(bad_state, no_order, past), (10, 0)),
@@ -567,6 +633,18 @@ def orders(dice):
         (Feed(near, ones, Operand(ALL, 9)), (7, 0)),
         (Feed(State(LIMIT, 0, 0), ones, Operand(NONE, 11)), (7, 0)),
         (Feed(None, Operand(ALL, 300), Operand(ALL, 299)), (7, 0)),
+        (Feed(bad_state, touching, unpaired), (10, 0)),
+        (Feed(None, touching, no_order), (14, 1)),
+        (Feed(near, unpaired, touching), (14, 1)),
+        (Feed(None, past, touching), (6, 1)),
+        (Feed(None, Operand(RUNS, LIMIT + 1, rows=[5, 5]), touching), (1, 1)),
+        (Feed(near, ones, no_order), (5, 2)),
+        (Feed(near, ones, touching), (14, 2)),
+        (Feed(None, ones, Operand(RUNS, 9, rows=[3, TOP])), (14, 2)),
+        (Feed(None, run, Operand(RUNS, 10, rows=[0, 11])), (14, 2)),
+        (Feed(near, run, Operand(RUNS, 9, rows=[0, 9])), (7, 0)),
+        (Feed(near, run, Operand(RUNS, 10, rows=[2, 4])), (11, 0)),
+        (Feed(State(120, 0, 0), run, run), (8, 0)),
         (Feed(near, ones, none), (11, 0)),
         (Feed(near, Operand(NONE, 5), NO_ROWS), (8, 0)),
         (Feed(State(70, 0, 0), Operand(NONE, 59), NO_ROWS), (8, 0)),
@@ -613,11 +691,12 @@ def states_handed_again(dice):
 def pieces_of_no_rows(dice):
     """In every form, from many states; ceil(done/64) words are wanted for them too."""
     cases = []
-    flat = [Operand(ALL, 0), Operand(NONE, 0), Operand(WORDS, 0, 0, 0, []), Operand(WORDS, 0, 63, 0, [FULL]), Operand(LIST, 0)]
+    flat = [Operand(ALL, 0), Operand(NONE, 0), Operand(WORDS, 0, 0, 0, []), Operand(WORDS, 0, 63, 0, [FULL])]
+    flat += [Operand(LIST, 0), Operand(RUNS, 0)]
     for number, done in enumerate((0, 1, 63, 64, 65, 128, 1000, LIMIT - 1, LIMIT)):
         given = State(done, done, done // 3)
         for room in sorted({words_for(done), max(words_for(done) - 1, 0), words_for(done) + 1}):
-            feeds = [Feed(given, flat[(number + i) % 5], flat[(number + room + 2 * i) % 5]) for i in range(3)]
+            feeds = [Feed(given, flat[(number + i) % 6], flat[(number + room + 2 * i) % 6]) for i in range(3)]
             cases.append(case_in(room, Stream(given, [], feeds)))
     return cases
 
@@ -644,6 +723,8 @@ def all_cases(dice):
     cases += three_pieces_of_short_masks(dice)
     cases += random_cuts_of_long_masks(dice)
     cases += cuts_around_words(dice)
+    cases += cuts_through_runs(dice)
+    cases += one_run_in_many_pieces(dice)
     cases += streams_on_every_route(dice)
     cases += streams_of_the_limit(dice)
     cases += refused_states(dice)
@@ -660,24 +741,48 @@ def all_cases(dice):
     return cases
 
 
+def hold_mixes(accepted):
+    """Every mix of forms comes up, and takes every route that it can take; runs of many rows take each of 1 to 8."""
+    mixes = Counter((one.feed.self.form, one.feed.rank.form) for one in accepted)
+    assert len(mixes) == 25 and min(mixes.values()) >= 5, mixes
+    taken = {(one.feed.self.form, one.feed.rank.form, one.answer.route) for one in accepted}
+    able = {(form, rank_form, route) for form in FORMS for rank_form in FORMS for route in routes_of(form, rank_form)}
+    assert taken == able, taken ^ able
+    large = [one for one in accepted if one.feed.self.length > 10000]
+    in_runs = {one.answer.route for one in large if RUNS in (one.feed.self.form, one.feed.rank.form)}
+    assert in_runs == set(range(1, 9)), in_runs
+
+
+def hold_states(case, answers):
+    """A refused feed hands back the state that it was given, and changes nothing."""
+    state, after = FRESH, case.before
+    for one in answers:
+        given = state if one.feed.given is None else one.feed.given
+        assert one.answer.refusal == 0 or (one.state, one.after) == (given, after)
+        assert one.answer.refusal == 10 or one.state.kept <= one.state.ranks <= one.state.done <= LIMIT
+        state, after = one.state, one.after
+
+
 def hold(answered):
     """Every route is taken, also in streams of 1,048,576 rows, and every refusal is told for each operand that it can name."""
     feeds = [one for _, answers in answered for one in answers]
-    routes = Counter(one.answer.route for one in feeds if one.answer.refusal == 0)
-    large = Counter(one.answer.route for one in feeds if one.answer.refusal == 0 and one.feed.self.length > 10000)
-    mixes = Counter((one.feed.self.form, one.feed.rank.form) for one in feeds if one.answer.refusal == 0)
+    accepted = [one for one in feeds if one.answer.refusal == 0]
+    routes = Counter(one.answer.route for one in accepted)
+    large = Counter(one.answer.route for one in accepted if one.feed.self.length > 10000)
     refusals = Counter((one.answer.refusal, one.answer.operand) for one in feeds)
     for route in range(1, 11):
         assert routes[route] >= 5 and large[route] >= 1, route
-    assert len(mixes) == 16 and min(mixes.values()) >= 5, mixes
+    hold_mixes(accepted)
     for operand in (1, 2):
-        for number in range(1, 7):
+        for number in (1, 2, 3, 4, 5, 6, 14):
             assert refusals[number, operand] >= 5, (number, operand)
     for number in (0, 7, 8, 10, 11):
         assert refusals[number, 0] >= 5, number
+    for case, answers in answered:
+        hold_states(case, answers)
     for one in feeds:
-        assert one.answer.refusal == 10 or one.state.kept <= one.state.ranks <= one.state.done <= LIMIT
-    return routes, refusals
+        # What crates/recorded has room for.
+        assert max(len(one.feed.self.rows), len(one.feed.rank.rows)) <= 4100
 
 
 def main():

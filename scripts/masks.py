@@ -4,25 +4,33 @@ slices are told; and makers of operands.
 A mask is a plain list of bools here, row 0 first. The random numbers come from a generator of this file's own, so that the
 same files are written each time.
 
-A file is a text of hex numbers. It begins with the number of cases. A slice is told as a number of runs, then
-`count first step` for each: first, first + step, .. modulo 2^64.
+A file is a text of hex numbers. It begins with the number of cases. A slice is told as a number of stretches, then
+`count first step` for each: first, first + step, .. modulo 2^64. A run is a run of rows, and nothing else.
 """
 
 LIMIT = 1048576
-ALL, NONE, WORDS, LIST = 0, 1, 2, 3
+ALL, NONE, WORDS, LIST, RUNS = 0, 1, 2, 3, 4
 FULL = 2**64 - 1
+TOP = 2**32 - 1
 SMALL_LENGTHS = [0, 1, 63, 64, 65, 127, 128, 129]
 
 
 class Operand:
-    """Only words have a start and a claimed count."""
+    """Only words have a start and a claimed count. Runs lie where a list has its rows: first row, row past the last, first row, .."""
 
     def __init__(self, form, length, start=0, claimed=0, words=(), rows=()):
         self.form, self.length, self.start, self.claimed = form, length, start, claimed
         self.words, self.rows = list(words), list(rows)
 
 
-# What document 01 says.
+# The numbers of examples/weeks: one node over 52 weeks, its runs of leaks, the ranks in release 7's time, and the rows that these are.
+WEEKS_LENGTH = 52416
+WEEKS_SELF = [7038, 11088, 20142, 23616, 33246, 41328]
+WEEKS_RANK = [2034, 10566]
+WEEKS_RESULT = [9072, 11088, 20142, 23616, 33246, 36288]
+
+
+# What documents 01 and 02 say.
 
 
 def words_for(bits):
@@ -54,6 +62,25 @@ def refusal_of_list(operand):
     return 0
 
 
+def runs_in(rows):
+    """First row and row past the last of each run; a number without its pair is left out."""
+    return list(zip(rows[0::2], rows[1::2]))
+
+
+def refusal_of_runs(operand):
+    """A number without its pair, an empty run, one that overlaps or touches the run before it, one past the length."""
+    if len(operand.rows) % 2 == 1:
+        return 14
+    runs = runs_in(operand.rows)
+    for first, past in runs:
+        if past <= first or past > operand.length:
+            return 14
+    for (_, past_before), (first, _) in zip(runs, runs[1:]):
+        if first <= past_before:
+            return 14
+    return 0
+
+
 def refusal_of(operand):
     if operand.length > LIMIT:
         return 1
@@ -61,7 +88,18 @@ def refusal_of(operand):
         return refusal_of_words(operand)
     if operand.form == LIST:
         return refusal_of_list(operand)
+    if operand.form == RUNS:
+        return refusal_of_runs(operand)
     return 0
+
+
+def held_by(runs, length):
+    """A row is set if a run holds it: first <= row < past."""
+    mask = [False] * length
+    for first, past in runs:
+        for row in range(first, past):
+            mask[row] = True
+    return mask
 
 
 def mask_of(operand):
@@ -72,6 +110,8 @@ def mask_of(operand):
         return [False] * operand.length
     if operand.form == WORDS:
         return in_view(operand.words, operand.start, operand.length)
+    if operand.form == RUNS:
+        return held_by(runs_in(operand.rows), operand.length)
     listed = set(operand.rows)
     return [row in listed for row in range(operand.length)]
 
@@ -86,6 +126,11 @@ def as_list(mask):
     return [row for row, is_set in enumerate(mask) if is_set]
 
 
+def as_runs(mask):
+    """The rows at which the mask turns, to set and back in turn: a run's first row, its row past the last, and so on."""
+    return [row for row, (before, here) in enumerate(zip([False] + mask, mask + [False])) if before != here]
+
+
 def density_of(mask):
     return sum(mask) / len(mask) if mask else 0.0
 
@@ -93,9 +138,9 @@ def density_of(mask):
 # The file.
 
 
-def runs_of(elements):
-    """Each run as long as it can be, from the front on."""
-    runs = []
+def stretches_of(elements):
+    """Each stretch as long as it can be, from the front on."""
+    stretches = []
     at = 0
     while at < len(elements):
         step = 0
@@ -104,9 +149,9 @@ def runs_of(elements):
             step = (elements[end] - elements[at]) % 2**64
         while end < len(elements) and (elements[end] - elements[end - 1]) % 2**64 == step:
             end += 1
-        runs.append((end - at, elements[at], step))
+        stretches.append((end - at, elements[at], step))
         at = end
-    return runs
+    return stretches
 
 
 def numbers(*values):
@@ -114,8 +159,8 @@ def numbers(*values):
 
 
 def told(elements):
-    runs = runs_of(elements)
-    return " ".join([numbers(len(runs))] + [numbers(*run) for run in runs])
+    stretches = stretches_of(elements)
+    return " ".join([numbers(len(stretches))] + [numbers(*stretch) for stretch in stretches])
 
 
 def told_answer(refusal, operand, count, route, density):
@@ -162,6 +207,15 @@ class Dice:
     def mask(self, length, sixteenths):
         return [self.below(16) < sixteenths for _ in range(length)]
 
+    def turning(self, length, longest):
+        """A mask of runs and gaps of up to so many rows each."""
+        mask = []
+        is_set = self.below(2) == 0
+        while len(mask) < length:
+            mask += [is_set] * (1 + self.below(longest))
+            is_set = not is_set
+        return mask[:length]
+
 
 def lent(mask, start, outside):
     """As many words as `outside` has: the mask from bit `start` on, and the bits of `outside` around it."""
@@ -181,12 +235,36 @@ def list_operand(dice, mask):
     return Operand(LIST, len(mask), words=dice.words(dice.below(3)), rows=as_list(mask))
 
 
+def runs_operand(dice, mask):
+    return Operand(RUNS, len(mask), words=dice.words(dice.below(3)), rows=as_runs(mask))
+
+
 def flat_operand(dice, form, length):
     return Operand(form, length, words=dice.words(dice.below(3)), rows=dice.rows(dice.below(3)))
 
 
+def spoilt_runs(dice, operand):
+    """One fault: runs that touch, an empty run, a number without its pair, a run past the length, a number near 2^32."""
+    rows = operand.rows
+    run = 2 * dice.below(len(rows) // 2)
+    fault = dice.below(6)
+    if fault == 0 and run > 0:
+        rows[run] = rows[run - 1]
+    if fault == 1:
+        rows[run + 1] = rows[run]
+    if fault == 2:
+        rows.pop(run + dice.below(2))
+    if fault == 3:
+        rows[-1] = operand.length + 1
+    if fault == 4:
+        operand.length = rows[-1] - 1
+    if fault == 5:
+        rows[run + dice.below(2)] = TOP - dice.below(2)
+    return operand
+
+
 def spoilt(dice, operand):
-    """Now and then a wrong count, a word too few, or two rows out of order."""
+    """Now and then a wrong count, a word too few, two rows out of order, or a fault of runs."""
     fault = dice.below(12)
     if fault == 0 and operand.form == WORDS:
         operand.claimed = (operand.claimed + dice.among([1, -1, operand.length, 2**40])) % 2**64
@@ -197,15 +275,19 @@ def spoilt(dice, operand):
         operand.rows[at] = operand.rows[at + 1] + dice.below(2)
     if fault == 3 and operand.form == LIST:
         operand.length = dice.below(operand.length + 1)
+    if fault < 4 and operand.form == RUNS and operand.rows:
+        return spoilt_runs(dice, operand)
     return operand
 
 
 def random_operand(dice):
     length = dice.among([dice.below(70), dice.below(200), dice.below(600)])
-    form = dice.among([ALL, NONE, WORDS, WORDS, WORDS, LIST, LIST])
+    form = dice.among([ALL, NONE, WORDS, WORDS, WORDS, LIST, LIST, RUNS, RUNS])
     if form in (ALL, NONE):
         return flat_operand(dice, form, length)
     mask = dice.mask(length, dice.among([0, 1, 1, 4, 8, 15, 16]))
     if form == WORDS:
         return words_operand(dice, mask, dice.below(64))
-    return list_operand(dice, mask)
+    if form == LIST:
+        return list_operand(dice, mask)
+    return runs_operand(dice, dice.among([mask, dice.turning(length, 5), dice.turning(length, 150)]))

@@ -1,14 +1,14 @@
 #!/usr/bin/env python3
-"""Writes recorded cases of the set operations and of composition, with the answers that document 01 gives.
+"""Writes recorded cases of the set operations and of composition, with the answers that documents 01 and 02 give.
 
     scripts/pairs.py FILE
 
 masks.py says how the file is told. A case is ten lines:
 
     operation                        1 and, 2 or, 3 and-not, 4 not, 5 composition
-    form length start claimed        the first operand, self in a composition; form: 0 all, 1 none, 2 words, 3 list
+    form length start claimed        the first operand, self in a composition; form: 0 all, 1 none, 2 words, 3 list, 4 runs
     its lent words
-    its lent rows
+    its lent rows, of runs their numbers in pairs
     form length start claimed        the second operand, the rank mask in a composition
     its lent words
     its lent rows
@@ -21,6 +21,7 @@ Not has one operand: the second is told as none of length 0 then.
 
 import sys
 from collections import Counter, namedtuple
+from itertools import combinations
 
 from masks import (
     ALL,
@@ -28,19 +29,28 @@ from masks import (
     LIMIT,
     LIST,
     NONE,
+    RUNS,
     SMALL_LENGTHS,
+    TOP,
+    WEEKS_LENGTH,
+    WEEKS_RANK,
+    WEEKS_RESULT,
+    WEEKS_SELF,
     WORDS,
     Dice,
     Operand,
     as_words,
     density_of,
     flat_operand,
+    held_by,
     in_view,
     list_operand,
     mask_of,
     numbers,
     random_operand,
     refusal_of,
+    runs_in,
+    runs_operand,
     spoilt,
     told,
     told_answer,
@@ -51,7 +61,7 @@ from masks import (
 
 AND, OR, AND_NOT, NOT, COMPOSITION = 1, 2, 3, 4, 5
 OF_TWO = (AND, OR, AND_NOT)
-FORMS = (ALL, NONE, WORDS, LIST)
+FORMS = (ALL, NONE, WORDS, LIST, RUNS)
 STARTS = (0, 1, 17, 63)
 LENGTHS = SMALL_LENGTHS + [600]
 
@@ -59,11 +69,16 @@ Case = namedtuple("Case", "operation first second before")
 Answer = namedtuple("Answer", "refusal operand count route density after")
 
 
-# What document 01 says.
+# What documents 01 and 02 say.
+
+
+def counts_as_list(form):
+    """For the route table, and for the set operations."""
+    return form in (LIST, RUNS)
 
 
 def refusal_in(operation, operand):
-    if operation != COMPOSITION and operand.form == LIST:
+    if operation != COMPOSITION and counts_as_list(operand.form):
         return 12
     return refusal_of(operand)
 
@@ -108,12 +123,12 @@ def route_of(forms, self_mask, rank_mask):
         return 2
     if not any(self_mask) or not any(rank_mask):
         return 3
-    if forms[0] == LIST:
-        return 4 if forms[1] == LIST else 5
+    if counts_as_list(forms[0]):
+        return 4 if counts_as_list(forms[1]) else 5
     if 32 * sum(rank_mask) < len(rank_mask):
         return 6
     by_the_loop_form = 16 * sum(self_mask) < len(self_mask)
-    if forms[1] == LIST:
+    if counts_as_list(forms[1]):
         return 8 if by_the_loop_form else 7
     return 10 if by_the_loop_form else 9
 
@@ -192,12 +207,21 @@ def exactly(dice, length, count):
     return mask
 
 
+def mask_in(dice, form, length, sixteenths):
+    """So many rows of sixteen set; for runs, where it is about half, fewer and longer runs than chance makes."""
+    if form == RUNS and sixteenths == 8:
+        return dice.turning(length, 30)
+    return dice.mask(length, sixteenths)
+
+
 def operand_in(dice, form, mask, start):
     """The mask in this form; all and none take its length alone."""
     if form == WORDS:
         return words_operand(dice, mask, start)
     if form == LIST:
         return list_operand(dice, mask)
+    if form == RUNS:
+        return runs_operand(dice, mask)
     return flat_operand(dice, form, len(mask))
 
 
@@ -268,14 +292,23 @@ def bad_operands(dice):
         Operand(LIST, 10, rows=[12, 11]),
         Operand(LIST, 10, rows=[3, 10]),
         Operand(LIST, 0, rows=[0]),
+        Operand(RUNS, LIMIT + 1, rows=[5, 5]),
+        Operand(RUNS, 10, rows=[3, 5, 5, 7]),
+        Operand(RUNS, 10, rows=[3, 5, 7]),
+        Operand(RUNS, 0, rows=[0, 1]),
     ]
+
+
+def more_bad_runs():
+    """Empty, falling, past the length, near 2^32."""
+    return [Operand(RUNS, 10, rows=rows) for rows in ([3, 3], [7, 9, 1, 3], [3, 11], [TOP - 1, TOP], [1, 3, TOP, 5])]
 
 
 def set_operations_refused(dice):
     """The other operand is right, and as long where that is possible."""
     cases = []
     for operation in OF_TWO + (NOT,):
-        for bad in bad_operands(dice) + [Operand(LIST, 10, rows=[3, 9])]:
+        for bad in bad_operands(dice) + more_bad_runs()[:2] + [Operand(form, 10, rows=[3, 9]) for form in (LIST, RUNS)]:
             right = flat_operand(dice, dice.among([ALL, NONE]), min(bad.length, 100))
             cases.append(Case(operation, bad, right if operation != NOT else unused(), output(dice, 2)))
             if operation != NOT:
@@ -284,11 +317,12 @@ def set_operations_refused(dice):
 
 
 def two_bad_operands(dice, operations):
-    """The first operand's refusal is the answer. Nowhere to write, so that 8 holds too."""
+    """The first operand's refusal is the answer. Nowhere to write, so that 8 holds too. Of those with runs every second one."""
     cases = []
     for i, first in enumerate(bad_operands(dice)):
         for j, second in enumerate(bad_operands(dice)):
-            cases.append(Case(operations[(i + j) % len(operations)], first, second, []))
+            if RUNS not in (first.form, second.form) or (i + j) % 2 == 0:
+                cases.append(Case(operations[(i + j) % len(operations)], first, second, []))
     return cases
 
 
@@ -317,7 +351,7 @@ def rooms_of_set_operations(dice):
 
 
 def rising(size):
-    """Words that rise by an even step differ only in their middle bits, also when they are shifted: few runs."""
+    """Words that rise by an even step differ only in their middle bits, also when they are shifted: few stretches."""
     return [0x5A3C000000000F00 + 0x12345678 * i for i in range(size)]
 
 
@@ -348,7 +382,7 @@ def random_set_operations(dice, how_many):
     cases = []
     while len(cases) < how_many:
         first, second = random_operand(dice), random_operand(dice)
-        if first.form == LIST or second.form == LIST:
+        if counts_as_list(first.form) or counts_as_list(second.form):
             continue
         if second.length != first.length and dice.below(10) > 0:
             mask = dice.mask(first.length, dice.among([0, 1, 8, 15, 16]))
@@ -373,7 +407,7 @@ def set_operations(dice):
 
 def rank_operand(dice, first, form, sixteenths, start):
     """A rank mask as long as self's count."""
-    return operand_in(dice, form, dice.mask(count_of(first), sixteenths), start)
+    return operand_in(dice, form, mask_in(dice, form, count_of(first), sixteenths), start)
 
 
 def compositions_at_small_lengths(dice):
@@ -381,7 +415,7 @@ def compositions_at_small_lengths(dice):
     for length in LENGTHS:
         for form in FORMS:
             for rank_form in FORMS:
-                a = operand_in(dice, form, dice.mask(length, dice.among([1, 8, 12])), dice.among(STARTS))
+                a = operand_in(dice, form, mask_in(dice, form, length, dice.among([1, 8, 12])), dice.among(STARTS))
                 b = rank_operand(dice, a, rank_form, 8, dice.among(STARTS))
                 cases.append(case_of(dice, COMPOSITION, a, b, dice.among([0, 0, 1])))
     return cases
@@ -400,11 +434,11 @@ def compositions_at_every_start(dice):
 
 def full_and_empty_compositions(dice):
     """By count, in every form."""
-    kinds = [(ALL, 0), (NONE, 0)] + [(form, sixteenths) for form in (WORDS, LIST) for sixteenths in (0, 8, 16)]
+    kinds = [(ALL, 0), (NONE, 0)] + [(form, sixteenths) for form in (WORDS, LIST, RUNS) for sixteenths in (0, 8, 16)]
     cases = []
     for form, x in kinds:
         for rank_form, y in kinds:
-            a = operand_in(dice, form, dice.mask(dice.among([64, 100]), x), dice.among(STARTS))
+            a = operand_in(dice, form, mask_in(dice, form, dice.among([64, 100]), x), dice.among(STARTS))
             cases.append(case_of(dice, COMPOSITION, a, rank_operand(dice, a, rank_form, y, dice.among(STARTS))))
     return cases
 
@@ -414,7 +448,7 @@ def around_a_sixteenth(dice):
     cases = []
     for length in (159, 160, 161):
         for count in (9, 10, 11):
-            for form in (WORDS, LIST):
+            for form in (WORDS, LIST, RUNS):
                 a = words_operand(dice, exactly(dice, length, count), dice.among(STARTS))
                 b = operand_in(dice, form, exactly(dice, count, 4), dice.among(STARTS))
                 cases.append(case_of(dice, COMPOSITION, a, b))
@@ -426,7 +460,7 @@ def around_a_thirty_second(dice):
     cases = []
     for length in (63, 64, 65):
         for count in (1, 2, 3):
-            for form in (WORDS, LIST):
+            for form in (WORDS, LIST, RUNS):
                 for rows in (200, 1100):
                     a = words_operand(dice, exactly(dice, rows, length), dice.among(STARTS))
                     b = operand_in(dice, form, exactly(dice, length, count), dice.among(STARTS))
@@ -437,11 +471,14 @@ def around_a_thirty_second(dice):
 def compositions_refused(dice):
     """The other operand is right, in every form."""
     cases = []
-    for form in FORMS:
-        for bad in bad_operands(dice):
-            right = operand_in(dice, form, dice.mask(70, 8), dice.among(STARTS))
+    for form, bad_runs in zip(FORMS, more_bad_runs()):
+        for bad in bad_operands(dice) + [bad_runs]:
+            right = operand_in(dice, form, mask_in(dice, form, 70, 8), dice.among(STARTS))
             cases.append(Case(COMPOSITION, bad, right, output(dice, 2)))
             cases.append(Case(COMPOSITION, right, bad, output(dice, 2)))
+        # Past the rank mask's length, and not past self's.
+        past = Operand(RUNS, count_of(right), rows=[0, count_of(right) + 1])
+        cases.append(Case(COMPOSITION, right, past, output(dice, 2)))
     return cases
 
 
@@ -449,11 +486,11 @@ def wrong_rank_lengths(dice):
     """A rank mask by one too short or too long, of no rows, or as long as self."""
     cases = []
     for form in FORMS:
-        a = operand_in(dice, form, dice.mask(100, 8), dice.among(STARTS))
+        a = operand_in(dice, form, mask_in(dice, form, 100, 8), dice.among(STARTS))
         count = count_of(a)
         for length in sorted({count - 1, count + 1, 0, 100} - {count, -1}):
             for rank_form in FORMS:
-                b = operand_in(dice, rank_form, dice.mask(length, 8), dice.among(STARTS))
+                b = operand_in(dice, rank_form, mask_in(dice, rank_form, length, 8), dice.among(STARTS))
                 # Nowhere to write: 7 comes before 8.
                 cases.append(Case(COMPOSITION, a, b, dice.among([output(dice, 3), []])))
     return cases
@@ -462,10 +499,90 @@ def wrong_rank_lengths(dice):
 def rooms_of_compositions(dice):
     cases = []
     for form in FORMS:
-        for rank_form in (WORDS, LIST):
+        for rank_form in (WORDS, LIST, RUNS):
             for length in (1, 64, 65, 150):
-                a = operand_in(dice, form, dice.mask(length, 8), dice.among(STARTS))
+                a = operand_in(dice, form, mask_in(dice, form, length, 8), dice.among(STARTS))
                 cases += rooms(dice, COMPOSITION, a, rank_operand(dice, a, rank_form, 8, dice.among(STARTS)))
+    return cases
+
+
+# Runs. Rows are picked from few, so that every end of a run meets every end of a word, or of another run.
+
+WORD_ENDS = (0, 63, 64, 65, 127, 128, 129)
+
+
+def over_ones(dice, first, second):
+    """Composed over all ones."""
+    return Case(COMPOSITION, first, second, [FULL] * (words_for(first.length) + dice.below(2)))
+
+
+def some_of(rows):
+    """One run and two that begin and end at these."""
+    return list(combinations(rows, 2)) + list(combinations(rows, 4))
+
+
+def self_runs_across_words(dice):
+    """The rank mask in every form in turn, its rows every second one, or a few runs."""
+    cases = []
+    for number, rows in enumerate(some_of(WORD_ENDS)):
+        a = Operand(RUNS, dice.among([rows[-1], 129, 130, 200]), rows=rows)
+        count = count_of(a)
+        mask = dice.among([[rank % 2 == 0 for rank in range(count)], dice.turning(count, 30), dice.mask(count, 8)])
+        cases.append(over_ones(dice, a, operand_in(dice, FORMS[number % 5], mask, dice.among(STARTS))))
+    return cases
+
+
+def rank_runs_across_words(dice):
+    """Self has every second row, so 32 ranks to a word; the runs of ranks end with a word, just before its end, and just after."""
+    cases = []
+    for number, rows in enumerate(some_of((0, 31, 32, 33, 63, 64, 65))):
+        mask = [row % 2 == number % 2 for row in range(130 + number % 7)]
+        a = operand_in(dice, (WORDS, LIST, WORDS, RUNS)[number % 4], mask, dice.among(STARTS))
+        cases.append(over_ones(dice, a, Operand(RUNS, sum(mask), rows=rows)))
+    return cases
+
+
+def rank_runs_inside_words(dice):
+    """Runs of ranks that begin and end anywhere in self's words, dense and sparse."""
+    cases = []
+    for count, length in ((150, 260), (70, 1300), (200, 210)):
+        for longest in (4, 40, 100):
+            for start in (dice.among(STARTS), dice.below(64)):
+                a = words_operand(dice, exactly(dice, length, count), start)
+                cases.append(over_ones(dice, a, runs_operand(dice, dice.turning(count, longest))))
+    return cases
+
+
+def runs_against_runs(dice):
+    """Self's runs hold ranks 0 to 64, 65 to 114 and 115; those of ranks end within them, at their ends, and in the next one."""
+    cases = []
+    mask = held_by(runs_in([5, 70, 80, 130, 140, 141]), 150)
+    for number, rows in enumerate(some_of((0, 64, 65, 66, 114, 115, 116))):
+        b = operand_in(dice, (RUNS, RUNS, LIST, WORDS)[number % 4], held_by(runs_in(rows), 116), dice.among(STARTS))
+        cases.append(over_ones(dice, runs_operand(dice, mask), b))
+    return cases
+
+
+def runs_of_one_row(dice):
+    """Every second row, and of these every second rank, or all but a few."""
+    cases = []
+    mixes = [(form, RUNS) for form in (WORDS, LIST)] + [(RUNS, form) for form in FORMS]
+    for first in (0, 1):
+        mask = [row % 2 == first for row in range(129)]
+        ranks = [rank % 2 != first for rank in range(sum(mask))]
+        for form, rank_form in mixes:
+            for kept in (ranks, exactly(dice, len(ranks), 62)):
+                a, b = operand_in(dice, form, mask, dice.among(STARTS)), operand_in(dice, rank_form, kept, dice.among(STARTS))
+                cases.append(over_ones(dice, a, b))
+    return cases
+
+
+def compositions_in_runs(dice):
+    cases = self_runs_across_words(dice)
+    cases += rank_runs_across_words(dice)
+    cases += rank_runs_inside_words(dice)
+    cases += runs_against_runs(dice)
+    cases += runs_of_one_row(dice)
     return cases
 
 
@@ -482,7 +599,7 @@ def holed(dice, length, start):
 
 
 def compositions_at_the_limit(dice):
-    """A block on every route. Few runs each: words that are all alike, or that rise, or a rank mask of two plain halves."""
+    """A block on every route. Few stretches each: words that are all alike, or that rise, or a rank mask of two plain halves."""
     size = words_for(LIMIT)
     full, risen = Operand(ALL, LIMIT), viewed(rising(size + 1), 1, LIMIT)
     half = risen.claimed
@@ -520,16 +637,55 @@ def compositions_at_the_limit(dice):
     return cases
 
 
+def runs_at_the_limit(dice):
+    """On each of routes 1 to 8: a few runs in a block, one over all of it, and as many as crates/recorded has room for."""
+    size = words_for(LIMIT)
+    risen = viewed(rising(size + 1), 1, LIMIT)
+    half = risen.claimed
+    listed = Operand(LIST, LIMIT, rows=[63 + 64 * i for i in range(4096)])
+    two = viewed([0x0000400000000002] * (size + 1), 63, LIMIT)
+    sixteen = viewed([0x8421842184218421] * (size + 1), 5, LIMIT)
+    few = Operand(RUNS, LIMIT, rows=[100, 300000, 300007, 700001, LIMIT - 5, LIMIT])
+    many = Operand(RUNS, LIMIT, rows=range(LIMIT - 4095 * 32, LIMIT + 1, 32))
+    count = count_of(few)
+    pairs = [
+        (Operand(RUNS, LIMIT, rows=[0, LIMIT]), risen),
+        (Operand(ALL, LIMIT), Operand(RUNS, LIMIT, rows=range(48, 48 + 4100 * 32, 32))),
+        (risen, Operand(RUNS, half, rows=[0, half])),
+        (few, Operand(NONE, count)),
+        (few, Operand(RUNS, count, rows=[0, 1, 5, 299899, 299901, 500000, count - 1, count])),
+        (few, Operand(LIST, count, rows=[0, 299899, 299900, count - 6, count - 5, count - 1])),
+        (few, viewed([0xB3C5B3C5B3C5B3C5] * (words_for(count) + 1), 3, count)),
+        (many, Operand(RUNS, 65536, rows=range(7, 7 + 8 * 4096, 8))),
+        (many, viewed([0xAAAAAAAAAAAAAAAA] * 1025, 1, 65536)),
+        (listed, Operand(RUNS, 4096, rows=[10, 2000, 2001, 4096])),
+        (risen, Operand(RUNS, half, rows=[7, 20, half // 3, half // 3 + 5, half - 1, half])),
+        (sixteen, Operand(RUNS, sixteen.claimed, rows=range(5, 5 + 8 * 4096, 8))),
+        (risen, Operand(RUNS, half, rows=[1, half // 3, half // 2, half - 1])),
+        (two, Operand(RUNS, two.claimed, rows=[1, 100, 10001, two.claimed])),
+    ]
+    return [Case(COMPOSITION, first, second, [FULL] * (size + 2)) for first, second in pairs]
+
+
 def bits(text):
     return [character == "1" for character in text]
 
 
+def weeks():
+    """examples/weeks: one run of ranks that is three runs of rows."""
+    leaks = Operand(RUNS, WEEKS_LENGTH, rows=WEEKS_SELF)
+    case = Case(COMPOSITION, leaks, Operand(RUNS, count_of(leaks), rows=WEEKS_RANK), [FULL] * 820)
+    result = held_by(runs_in(WEEKS_RESULT), WEEKS_LENGTH)
+    assert answer_to(case) == Answer(0, 0, sum(result), 4, density_of(result), as_words(result) + [FULL])
+    return case
+
+
 def examples(dice):
-    """E11, the program's masks, both as words; and both masks of length 0."""
+    """E11, the program's masks, both as words; both masks of length 0; and a node's weeks."""
     a, b = (Operand(WORDS, len(mask), 0, sum(mask), as_words(mask)) for mask in (bits("01101011"), bits("10010")))
     program = Case(COMPOSITION, a, b, [FULL])
     assert answer_to(program) == Answer(0, 0, 2, 9, 2 / 8, as_words(bits("01000010")))
-    cases = [program]
+    cases = [program, weeks()]
     for form in FORMS:
         for rank_form in FORMS:
             cases.append(Case(COMPOSITION, Operand(form, 0), Operand(rank_form, 0), []))
@@ -560,21 +716,61 @@ def compositions(dice):
     cases += two_bad_operands(dice, (COMPOSITION,))
     cases += wrong_rank_lengths(dice)
     cases += rooms_of_compositions(dice)
+    cases += compositions_in_runs(dice)
     cases += compositions_at_the_limit(dice)
+    cases += runs_at_the_limit(dice)
     cases += random_compositions(dice, 120)
     return cases
+
+
+def routes_of(form, rank_form):
+    """Those that two masks in these forms can take: 1, 2 and 3 where they can be full or empty, the others by the table."""
+    if form == NONE:
+        return {3}
+    if form == ALL:
+        return {1, 3}
+    if rank_form in (ALL, NONE):
+        return {1, 2, 3} if rank_form == ALL else {1, 3}
+    if counts_as_list(form):
+        return {1, 2, 3, 4 if counts_as_list(rank_form) else 5}
+    return {1, 2, 3, 6, 7, 8} if counts_as_list(rank_form) else {1, 2, 3, 6, 9, 10}
+
+
+def hold_mixes(accepted):
+    """Every mix of forms takes every route that it can take; a block in runs takes each of 1 to 8."""
+    taken = Counter((case.first.form, case.second.form, answer.route) for case, answer in accepted)
+    able = {(form, rank_form, route) for form in FORMS for rank_form in FORMS for route in routes_of(form, rank_form)}
+    assert taken.keys() == able, taken.keys() ^ able
+    blocks = [(case, answer) for case, answer in accepted if case.first.length == LIMIT]
+    in_runs = {answer.route for case, answer in blocks if RUNS in (case.first.form, case.second.form)}
+    assert in_runs == set(range(1, 9)), in_runs
+
+
+def hold_runs_in_sets(answered):
+    """12 for runs in each set operation and for each operand, before 1 and 14, and where nothing else is wrong."""
+    told_12 = Counter()
+    for case, answer in answered:
+        for number, operand in ((1, case.first), (2, case.second)):
+            if case.operation != COMPOSITION and operand.form == RUNS and answer.operand == number:
+                assert answer.refusal == 12
+                told_12[case.operation, number, refusal_of(operand)] += 1
+    for operation, number in [(operation, number) for operation in OF_TWO for number in (1, 2)] + [(NOT, 1)]:
+        for instead_of in (0, 1, 14):
+            assert told_12[operation, number, instead_of] >= 1, (operation, number, instead_of)
 
 
 def hold(answered):
     """Every route is recorded, a block on each, and every refusal for each operand that it can name."""
     accepted = [(case, answer) for case, answer in answered if case.operation == COMPOSITION and answer.refusal == 0]
+    hold_mixes(accepted)
+    hold_runs_in_sets(answered)
     routes = Counter(answer.route for _, answer in accepted)
     blocks = Counter(answer.route for case, answer in accepted if case.first.length == LIMIT)
     refusals = Counter((answer.refusal, answer.operand) for _, answer in answered)
     for route in range(1, 11):
         assert routes[route] >= 5 and blocks[route] >= 1, route
     for operand in (1, 2):
-        for number in (1, 2, 3, 4, 5, 6, 12):
+        for number in (1, 2, 3, 4, 5, 6, 12, 14):
             assert refusals[number, operand] >= 5, (number, operand)
     for number in (0, 7, 8):
         assert refusals[number, 0] >= 5, number

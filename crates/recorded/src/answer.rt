@@ -15,6 +15,7 @@ pub enum Finding {
     StateDiffers,
     WordDiffers,
     OutputDiffers,
+    RunsDiffers,
 }
 
 // What came of a case, and where the next one starts.

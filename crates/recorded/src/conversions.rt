@@ -1,6 +1,7 @@
 // A case of the conversions: scripts/conversions.py says how it is told.
 use super::answer::Finding;
 use super::answer::Outcome;
+use super::answer::differs;
 use super::answer::finding_of;
 use super::answer::outcome_of;
 use super::answer::read_expected;
@@ -39,6 +40,36 @@ fn answer_list(
     outcome_of(finding_of(answer, expected), after.same, after.next)
 }
 
+// What the answer's numbers leave open is decided by the number of runs.
+fn runs_finding(finding: Finding, same: bool) -> Finding {
+    if differs(finding) {
+        return finding;
+    }
+    if same {
+        return finding;
+    }
+    Finding::RunsDiffers
+}
+
+// The number of runs is told after the answer's numbers.
+fn answer_runs(
+    text: &[u8],
+    cursor: Cursor,
+    form: Form,
+    words: &[u64],
+    rows: &[u32],
+    elements: &mut [u64],
+    out: &mut [u32],
+) -> Outcome {
+    let written = mask::to_runs(form, words, rows, out);
+    let answer = written.answer;
+    let expected = read_expected(text, cursor);
+    let due = read_number(text, expected.next);
+    let after = super::reader::lists::compare(text, due.next, elements, out);
+    let finding = runs_finding(finding_of(answer, expected), written.runs == due.value);
+    outcome_of(finding, after.same, after.next)
+}
+
 // Over the words that the output is to hold before.
 fn run_to_words(text: &[u8], cursor: Cursor, form: Form, words: &[u64], rows: &[u32]) -> Outcome {
     let mut out = [0u64; 16388];
@@ -64,6 +95,23 @@ fn run_to_list(text: &[u8], cursor: Cursor, form: Form, words: &[u64], rows: &[u
     )
 }
 
+// Over the numbers that it is to hold before.
+fn run_to_runs(text: &[u8], cursor: Cursor, form: Form, words: &[u64], rows: &[u32]) -> Outcome {
+    let mut elements = [0u64; 4100];
+    let mut out = [0u32; 4100];
+    let before = super::reader::lists::fill(text, cursor, &mut elements, &mut out);
+    let size = before.length;
+    answer_runs(
+        text,
+        before.next,
+        form,
+        words,
+        rows,
+        &mut elements,
+        &mut out[..size],
+    )
+}
+
 pub fn run_case(text: &[u8], cursor: Cursor) -> Outcome {
     let mut words = [0u64; 16386];
     let mut rows = [0u32; 4100];
@@ -77,6 +125,7 @@ pub fn run_case(text: &[u8], cursor: Cursor) -> Outcome {
     match chosen {
         1 => run_to_words(text, next, form, &words[..size], &rows[..entries]),
         2 => run_to_list(text, next, form, &words[..size], &rows[..entries]),
+        3 => run_to_runs(text, next, form, &words[..size], &rows[..entries]),
         _ => Outcome {
             finding: Finding::Malformed,
             next,

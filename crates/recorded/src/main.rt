@@ -82,6 +82,7 @@ fn number_of(finding: Finding) -> u64 {
         Finding::StateDiffers => 7,
         Finding::WordDiffers => 8,
         Finding::OutputDiffers => 9,
+        Finding::RunsDiffers => 10,
     }
 }
 
@@ -106,7 +107,7 @@ fn run_file(subject: Subject, name: &[u8]) {
         os::fail(name);
         return;
     }
-    let mut file = [0u8; 400000];
+    let mut file = [0u8; 500000];
     let size = io::read_full(fd, &mut file);
     libc::close(fd);
     io::write_all(STDOUT_FILENO, name);

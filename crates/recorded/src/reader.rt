@@ -1,4 +1,4 @@
-// Reads recorded cases: a text of hex numbers with blanks between them, and slices told as arithmetic runs. Nothing here
+// Reads recorded cases: a text of hex numbers with blanks between them, and slices told as arithmetic stretches. Nothing here
 // traps: what is malformed turns the cursor's `fine` off for good, and the values that come after it mean nothing.
 use digits::read_number;
 
@@ -20,7 +20,7 @@ pub struct Number {
 }
 
 // The elements first, first + step, first + 2 * step and so on modulo 2^64, `count` of them.
-pub struct Run {
+pub struct Stretch {
     pub count: u64,
     pub first: u64,
     pub step: u64,
@@ -44,13 +44,13 @@ pub fn start() -> Cursor {
     Cursor { at: 0, fine: true }
 }
 
-// A run is told as its count, its first element and its step.
-pub fn read_run(text: &[u8], cursor: Cursor) -> Run {
+// A stretch is told as its count, its first element and its step.
+pub fn read_stretch(text: &[u8], cursor: Cursor) -> Stretch {
     let count = read_number(text, cursor);
     let first = read_number(text, count.next);
     let step = read_number(text, first.next);
     let next = step.next;
-    Run {
+    Stretch {
         count: count.value,
         first: first.value,
         step: step.value,
@@ -58,17 +58,17 @@ pub fn read_run(text: &[u8], cursor: Cursor) -> Run {
     }
 }
 
-// The places from `from` to `to` hold all of the run.
-fn is_whole(run: Run, from: usize, to: usize) -> bool {
+// The places from `from` to `to` hold all of the stretch.
+fn is_whole(stretch: Stretch, from: usize, to: usize) -> bool {
     if to < from {
         return false;
     }
-    (to - from) as u64 == run.count
+    (to - from) as u64 == stretch.count
 }
 
-// The cursor after a run, off where the run did not fit.
-fn after_run(run: Run, fitted: bool) -> Cursor {
-    if_held(run.next, fitted)
+// The cursor after a stretch, off where the stretch did not fit.
+fn after_stretch(stretch: Stretch, fitted: bool) -> Cursor {
+    if_held(stretch.next, fitted)
 }
 
 // The cursor, off where what was read does not hold.

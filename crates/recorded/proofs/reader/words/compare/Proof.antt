@@ -1,5 +1,5 @@
 -- `recorded::reader::words::compare` is safe and ends.
--- The measure is the number of runs left to read. Assumes nothing.
+-- The measure is the number of stretches left to read. Assumes nothing.
 use borrow.Author.Needs.{needs}
 use Rattle.recorded.proofs.reader.words.compare.Statement.{statement}
 use Rattle.recorded.proofs.reader.words.compare.Tie as tie
@@ -16,8 +16,8 @@ read-number-requires c κs = search needs
 loop-holds : tie.Need-loop-holds Inv-loop μ-loop
 loop-holds c = tt
 
-read-run-requires : tie.Need-read-run-requires Inv-loop μ-loop
-read-run-requires c κs = search needs
+read-stretch-requires : tie.Need-read-stretch-requires Inv-loop μ-loop
+read-stretch-requires c κs = search needs
 
 follow-requires : tie.Need-follow-requires Inv-loop μ-loop
 follow-requires c κs = search needs
@@ -51,7 +51,7 @@ compare-spec =
     μ-loop
     read-number-requires
     loop-holds
-    read-run-requires
+    read-stretch-requires
     follow-requires
     is-whole-requires
     returns

@@ -1,5 +1,5 @@
 -- `recorded::reader::words::fill` meets its contract: what it has laid ends within the slice.
--- The invariant: the place is at most the slice's length, which stays. The measure is the runs left. Assumes nothing.
+-- The invariant: the place is at most the slice's length, which stays. The measure is the stretches left. Assumes nothing.
 use Prim.Native.Nat.{_≤_}
 use mathlib.Core.Path.{_≡_, sym}
 use native.Mathlib.Omega.{arith}
@@ -21,8 +21,8 @@ read-number-requires c κs = search needs
 loop-holds : tie.Need-loop-holds Inv-loop μ-loop
 loop-holds c = search needs
 
-read-run-requires : tie.Need-read-run-requires Inv-loop μ-loop
-read-run-requires c κs = search needs
+read-stretch-requires : tie.Need-read-stretch-requires Inv-loop μ-loop
+read-stretch-requires c κs = search needs
 
 lay-requires : tie.Need-lay-requires Inv-loop μ-loop
 lay-requires c κs = search needs
@@ -30,8 +30,8 @@ lay-requires c κs = search needs
 is-whole-requires : tie.Need-is-whole-requires Inv-loop μ-loop
 is-whole-requires c κs = search needs
 
-after-run-requires : tie.Need-after-run-requires Inv-loop μ-loop
-after-run-requires c κs = search needs
+after-stretch-requires : tie.Need-after-stretch-requires Inv-loop μ-loop
+after-stretch-requires c κs = search needs
 
 same-length : tie.Need-same-length Inv-loop μ-loop
 same-length c = search needs
@@ -62,10 +62,10 @@ fill-spec =
     μ-loop
     read-number-requires
     loop-holds
-    read-run-requires
+    read-stretch-requires
     lay-requires
     is-whole-requires
-    after-run-requires
+    after-stretch-requires
     same-length
     returns
     sub-left

@@ -7,10 +7,10 @@ use Rattle.recorded.proofs.reader.words.follow.Statement.{statement}
 use Rattle.recorded.proofs.reader.words.follow.Tie as tie
 
 abbrev Inv-loop : tie.InvT-loop
-Inv-loop run from slice value₀ left₀ at₀ value left at = Unit {0}
+Inv-loop stretch from slice value₀ left₀ at₀ value left at = Unit {0}
 
 abbrev μ-loop : tie.MeasureT-loop
-μ-loop run from slice value₀ left₀ at₀ value left at = length slice - at
+μ-loop stretch from slice value₀ left₀ at₀ value left at = length slice - at
 
 loop-holds : tie.Need-loop-holds Inv-loop μ-loop
 loop-holds c = tt

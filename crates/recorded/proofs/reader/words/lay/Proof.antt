@@ -9,10 +9,10 @@ use Rattle.recorded.proofs.reader.words.lay.Statement.{statement}
 use Rattle.recorded.proofs.reader.words.lay.Tie as tie
 
 abbrev Inv-loop : tie.InvT-loop
-Inv-loop run from into₀ value₀ left₀ at₀ into value left at = (length into ≡ length into₀) × (at ≤ length into)
+Inv-loop stretch from into₀ value₀ left₀ at₀ into value left at = (length into ≡ length into₀) × (at ≤ length into)
 
 abbrev μ-loop : tie.MeasureT-loop
-μ-loop run from into₀ value₀ left₀ at₀ into value left at = length into - at
+μ-loop stretch from into₀ value₀ left₀ at₀ into value left at = length into - at
 
 loop-holds : tie.Need-loop-holds Inv-loop μ-loop
 loop-holds c = search needs
