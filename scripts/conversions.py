@@ -24,6 +24,8 @@ from masks import (
     FULL,
     LIMIT,
     LIST,
+    MOST_OUT,
+    MOST_ROWS,
     NONE,
     RUNS,
     SMALL_LENGTHS,
@@ -38,6 +40,7 @@ from masks import (
     as_words,
     density_of,
     flat_operand,
+    has_room,
     held_by,
     in_view,
     list_operand,
@@ -59,8 +62,6 @@ TO_WORDS, TO_LIST, TO_RUNS = 1, 2, 3
 OPERATIONS = (TO_WORDS, TO_LIST, TO_RUNS)
 STARTS = (0, 1, 63)
 EDGES = (0, 63, 64, 65, 127, 128, 129)
-# What crates/recorded has room for.
-MOST_WORDS, MOST_ROWS, MOST_OUT = 16386, 4100, 16388
 
 Case = namedtuple("Case", "operation operand before")
 # The runs are told of the third operation alone.
@@ -532,8 +533,7 @@ def hold(answered):
             assert refusals[number, operation] >= 5, (number, operation)
     assert {number for number, _ in of_runs} == {0, 1, 8, 14}, of_runs
     for case, answer in answered:
-        assert len(case.operand.words) <= MOST_WORDS and len(case.operand.rows) <= MOST_ROWS
-        assert len(case.before) <= (MOST_OUT if case.operation == TO_WORDS else MOST_ROWS)
+        assert has_room(case.operand) and len(case.before) <= (MOST_OUT if case.operation == TO_WORDS else MOST_ROWS)
         if case.operation == TO_RUNS and answer.refusal == 0 and case.operand.length < 1000:
             # What is written is an operand again, with the same rows.
             written = Operand(RUNS, case.operand.length, rows=answer.after[: 2 * answer.runs])

@@ -30,6 +30,7 @@ from masks import (
     FULL,
     LIMIT,
     LIST,
+    MOST_OUT,
     NONE,
     RUNS,
     TOP,
@@ -38,6 +39,7 @@ from masks import (
     Operand,
     as_words,
     density_of,
+    has_room,
     held_by,
     in_view,
     mask_of,
@@ -780,9 +782,9 @@ def hold(answered):
         assert refusals[number, 0] >= 5, number
     for case, answers in answered:
         hold_states(case, answers)
+        assert len(case.before) <= MOST_OUT
     for one in feeds:
-        # What crates/recorded has room for.
-        assert max(len(one.feed.self.rows), len(one.feed.rank.rows)) <= 4100
+        assert has_room(one.feed.self) and has_room(one.feed.rank)
 
 
 def main():

@@ -14,6 +14,9 @@ FULL = 2**64 - 1
 TOP = 2**32 - 1
 SMALL_LENGTHS = [0, 1, 63, 64, 65, 127, 128, 129]
 
+# What crates/recorded has room for: lent words, lent rows, which an output of rows has too, an output of words, a file's bytes.
+MOST_WORDS, MOST_ROWS, MOST_OUT, MOST_BYTES = 16386, 4100, 16388, 499999
+
 
 class Operand:
     """Only words have a start and a claimed count. Runs lie where a list has its rows: first row, row past the last, first row, .."""
@@ -169,11 +172,17 @@ def told_answer(refusal, operand, count, route, density):
     return numbers(refusal, operand, count, route, numerator, denominator.bit_length() - 1)
 
 
+def has_room(operand):
+    """In crates/recorded."""
+    return len(operand.words) <= MOST_WORDS and len(operand.rows) <= MOST_ROWS
+
+
 def write_cases(path, cases, lines_of):
+    text = numbers(len(cases)) + "\n"
+    text += "".join("\n" + "\n".join(lines_of(case)) + "\n" for case in cases)
+    assert len(text) <= MOST_BYTES, len(text)
     with open(path, "w") as file:
-        file.write(numbers(len(cases)) + "\n")
-        for case in cases:
-            file.write("\n" + "\n".join(lines_of(case)) + "\n")
+        file.write(text)
 
 
 # The operands.

@@ -28,6 +28,7 @@ from masks import (
     FULL,
     LIMIT,
     LIST,
+    MOST_OUT,
     NONE,
     RUNS,
     SMALL_LENGTHS,
@@ -42,6 +43,7 @@ from masks import (
     as_words,
     density_of,
     flat_operand,
+    has_room,
     held_by,
     in_view,
     list_operand,
@@ -774,6 +776,8 @@ def hold(answered):
             assert refusals[number, operand] >= 5, (number, operand)
     for number in (0, 7, 8):
         assert refusals[number, 0] >= 5, number
+    for case, _ in answered:
+        assert has_room(case.first) and has_room(case.second) and len(case.before) <= MOST_OUT
 
 
 def main():

@@ -9,6 +9,7 @@ use super::reader::Cursor;
 use super::reader::digits::read_number;
 use super::reader::operands::read_operand;
 use rules::Form;
+use rules::Written;
 
 // The conversion over an output slice that holds what it is to hold before.
 fn answer_words(
@@ -51,7 +52,22 @@ fn runs_finding(finding: Finding, same: bool) -> Finding {
     Finding::RunsDiffers
 }
 
-// The number of runs is told after the answer's numbers.
+// What was written, held to what is told of it: the number of runs stands after the answer's numbers.
+fn compare_runs(
+    text: &[u8],
+    cursor: Cursor,
+    written: Written,
+    elements: &mut [u64],
+    out: &[u32],
+) -> Outcome {
+    let answer = written.answer;
+    let expected = read_expected(text, cursor);
+    let due = read_number(text, expected.next);
+    let after = super::reader::lists::compare(text, due.next, elements, out);
+    let finding = runs_finding(finding_of(answer, expected), written.runs == due.value);
+    outcome_of(finding, after.same, after.next)
+}
+
 fn answer_runs(
     text: &[u8],
     cursor: Cursor,
@@ -62,12 +78,7 @@ fn answer_runs(
     out: &mut [u32],
 ) -> Outcome {
     let written = mask::to_runs(form, words, rows, out);
-    let answer = written.answer;
-    let expected = read_expected(text, cursor);
-    let due = read_number(text, expected.next);
-    let after = super::reader::lists::compare(text, due.next, elements, out);
-    let finding = runs_finding(finding_of(answer, expected), written.runs == due.value);
-    outcome_of(finding, after.same, after.next)
+    compare_runs(text, cursor, written, elements, out)
 }
 
 // Over the words that the output is to hold before.
