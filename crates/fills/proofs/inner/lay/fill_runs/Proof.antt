@@ -74,7 +74,7 @@ clear-requires : tie.Need-clear-requires Inv-loop μ-loop
 clear-requires c κs = search needs
 
 loop-holds : tie.Need-loop-holds Inv-loop μ-loop
-loop-holds c = 
+loop-holds c =
     let a = start (before c) .args in
     setting-none (now (a .runs)) (a .len) (a .at) _ (start (before c) .pre .0)
 
@@ -100,7 +100,7 @@ cast-past : tie.Need-cast-past Inv-loop μ-loop
 cast-past c = omega (arith, c .shared-slice-known3 .given (head (both c) .loop .i + 1))
 
 set-run-requires : tie.Need-set-run-requires Inv-loop μ-loop
-set-run-requires c κs = 
+set-run-requires c κs =
     let t = both (c .before) in
     let r = next t in
     let room = s t .pre .1 in
@@ -113,7 +113,7 @@ loop-less : tie.Need-loop-less Inv-loop μ-loop
 loop-less c = omega (arith, next (turn (back c)) .pair)
 
 loop-again : tie.Need-loop-again Inv-loop μ-loop
-loop-again c = 
+loop-again c =
     let t = turn (back c) in
     let a = s t .args in
     let l = head t .loop in
@@ -123,7 +123,7 @@ same-length : tie.Need-same-length Inv-loop μ-loop
 same-length c = search needs
 
 returns : tie.Need-returns Inv-loop μ-loop
-returns c = 
+returns c =
     let h = c .before in
     let z = cleared h in
     let a = start z .args in
