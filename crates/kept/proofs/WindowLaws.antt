@@ -53,13 +53,13 @@ module _ (row b n c e f p : ℕ) (ns : List ℕ) (a : Apart c e (f ∷ p ∷ ns)
   abbrev y : ℕ
   y = into b n p
 
-  abbrev past : List Bool
-  past = tab (b + y) (n - y) (λ i. held i ns)
+  abbrev after : List Bool
+  after = tab (b + y) (n - y) (λ i. held i ns)
 
   abbrev has : ℕ → Bool
   has i = held i (f ∷ p ∷ ns)
 
-  with-run : window b n (f ∷ p ∷ ns) ≡ replicate x false ++ (replicate (y - x) true ++ past)
+  with-run : window b n (f ∷ p ∷ ns) ≡ replicate x false ++ (replicate (y - x) true ++ after)
   with-run =
       let all : n ≡ x + ((y - x) + (n - y)) = omega arith in
       let place : b + x + (y - x) ≡ b + y = omega arith in
@@ -71,17 +71,101 @@ module _ (row b n c e f p : ℕ) (ns : List ℕ) (a : Apart c e (f ∷ p ∷ ns)
       (tab-all (b + x) (y - x) has true (λ i k m. held-first i f p ns (omega arith) (omega arith)))
       (ap (λ (k : ℕ). tab k (n - y) has) place ∙ tab-in (b + y) (n - y) has (λ i. held i ns) (λ i k m. held-past i f p ns (omega arith))))
 
-  without : window b n ns ≡ replicate y false ++ past
+  without : window b n ns ≡ replicate y false ++ after
   without =
       let all : n ≡ y + (n - y) = omega arith in
       ap (λ (k : ℕ). tab b k (λ i. held i ns)) all ∙ tab-add b y (n - y) (λ i. held i ns)
-      ∙ ap (λ (l : List Bool). l ++ past) (tab-all b y (λ i. held i ns) false (λ i k m. held-below i (suc p) e ns (omega arith) (a .3)))
+      ∙ ap (λ (l : List Bool). l ++ after) (tab-all b y (λ i. held i ns) false (λ i k m. held-below i (suc p) e ns (omega arith) (a .3)))
 
   -- its set rows: the run's, and those of the other runs
   pub window-run : setRows row (window b n (f ∷ p ∷ ns)) ≡ setRows (row + x) (replicate (y - x) true) ++ setRows row (window b n ns)
   window-run =
       let run = replicate (y - x) true in
       let end : row + x + length run ≡ row + y = omega (arith, length-replicate (y - x) true) in
-      ap (setRows row) with-run ∙ rows-past row x (row + x) (run ++ past) refl ∙ rows-append (row + x) run past
+      ap (setRows row) with-run ∙ rows-past row x (row + x) (run ++ after) refl ∙ rows-append (row + x) run after
       ∙ ap (λ (l : List ℕ). setRows (row + x) run ++ l)
-      (ap (λ (k : ℕ). setRows k past) end ∙ sym (rows-past row y (row + y) past refl) ∙ ap (setRows row) (sym without))
+      (ap (λ (k : ℕ). setRows k after) end ∙ sym (rows-past row y (row + y) after refl) ∙ ap (setRows row) (sym without))
+
+-- ---- what a loop keeps that marks a window's rows, n from rank on, as rows from `row` on
+
+module _ (ranks : List ℕ) (rank n row at : ℕ) where
+  abbrev whole : List ℕ
+  whole = setRows row (window rank n ranks)
+
+  -- those that are left
+  abbrev rest : ℕ → List ℕ
+  rest i = setRows row (window rank n (drop i ranks))
+
+  pub record Windowing (i : ℕ) (out₀ out : List ℕ) : Type 0 where
+    pub from : ℕ
+    pub ahead : Apart from 1048576 (drop i ranks)
+    pub behind : (r : ℕ) → rank + n ≤ r → held r ranks ≡ held r (drop i ranks)
+    pub long : length out ≡ length out₀
+    pub left : marked at (rest i) out ≡ marked at whole out₀
+
+  pub windowing-none : (i : ℕ) (out : List ℕ) → Reached ranks i rank → Windowing i out out
+  windowing-none i out r = record {
+    from = 0;
+    ahead = r .ahead;
+    behind = λ k h. r .behind k (omega arith);
+    long = refl;
+    left = ap (λ (l : List Bool). marked at (setRows row l) out)
+        (sym (tab-in rank n (λ k. held k ranks) (λ k. held k (drop i ranks)) (λ k h m. r .behind k h)));
+  }
+
+  module _ (i : ℕ) (out₀ out : List ℕ) (w : Windowing i out₀ out) where
+    pub windowing-next : i < length ranks → NextRun (w .from) 1048576 i ranks
+    windowing-next h = next-run (w .from) 1048576 i ranks h (w .ahead)
+
+    reached : Reached ranks i (rank + n)
+    reached = record { ahead = apart-wider 0 (w .from) 1048576 1048576 (drop i ranks) (omega arith) (omega arith) (w .ahead); behind = w .behind }
+
+    -- a run's part of the window, marked
+    module _ (h : i < length ranks) (then : List ℕ) where
+      abbrev first : ℕ
+      first = getD ranks i 0
+
+      abbrev past : ℕ
+      past = getD ranks (i + 1) 0
+
+      abbrev part : List ℕ
+      part = setRows (row + into rank n first) (replicate (into rank n past - into rank n first) true)
+
+      split : rest i ≡ part ++ rest (i + 2)
+      split =
+          let r = windowing-next h in
+          let others = drop (i + 2) ranks in
+          let a : Apart (w .from) 1048576 (first ∷ past ∷ others) = rw (r .is) at (w .ahead) in
+          ap (λ (ns : List ℕ). setRows row (window rank n ns)) (r .is) ∙ window-run row rank n (w .from) 1048576 first past others a
+
+      left-then : then ≡ marked at part out → marked at (rest (i + 2)) then ≡ marked at whole out₀
+      left-then t =
+          ap (marked at (rest (i + 2))) t ∙ sym (marked-append at part (rest (i + 2)) out) ∙ ap (λ (rs : List ℕ). marked at rs out) (sym split) ∙ w .left
+
+      -- the window goes on behind the run
+      pub windowing-run : then ≡ marked at part out → past ≤ rank + n → Windowing (i + 2) out₀ then
+      windowing-run t k =
+          let r = windowing-next h in
+          record {
+            from = past;
+            ahead = r .left;
+            behind = λ m l. w .behind m l ∙ ap (held m) (r .is) ∙ held-past m first past (drop (i + 2) ranks) (omega arith);
+            long = ap length t ∙ marked-length at part out ∙ w .long;
+            left = left-then t;
+          }
+
+      -- it ends in the run, or before it
+      pub windowing-stop : then ≡ marked at part out → rank + n ≤ past → Reached ranks i (rank + n) × (then ≡ marked at (setRows row (window rank n ranks)) out₀)
+      windowing-stop t k =
+          let r = windowing-next h in
+          let none : rest (i + 2) ≡ [] =
+          ap (setRows row) (window-below rank n past 1048576 (drop (i + 2) ranks) k (r .left)) ∙ unset-rows row n in
+          (reached, ap (λ (rs : List ℕ). marked at rs then) (sym none) ∙ left-then t)
+
+    -- no run is left
+    pub windowing-end : length ranks ≤ i → Reached ranks i (rank + n) × (out ≡ marked at (setRows row (window rank n ranks)) out₀)
+    windowing-end h =
+        let none : rest i ≡ [] =
+        ap (λ (ns : List ℕ). setRows row (window rank n ns)) (drop-of-length-le ranks {i = i} h)
+        ∙ ap (setRows row) (window-below rank n (rank + n) 1048576 [] (omega arith) tt) ∙ unset-rows row n in
+        (reached, ap (λ (rs : List ℕ). marked at rs out) (sym none) ∙ w .left)
