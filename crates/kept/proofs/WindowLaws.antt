@@ -9,10 +9,11 @@ use native.Mathlib.Omega.{arith}
 use lib.ListN.{length, drop, getD, replicate, length-replicate, drop-of-length-le}
 use Rattle.rows.specs.Lists.{tab, setRows}
 use Rattle.rows.specs.Runs.{held, Apart}
-use Rattle.rows.specs.Laid.{marked}
+use Rattle.rows.specs.Laid.{laid, marked}
 use Rattle.rows.proofs.MarkLaws.{marked-append, marked-length}
+use Rattle.rows.proofs.MarkRunLaws.{marked-run}
 use Rattle.rows.proofs.PartLaws.{rows-append}
-use Rattle.rows.proofs.RunLaws.{held-below, held-first, held-past, tab-add, tab-all}
+use Rattle.rows.proofs.RunLaws.{rowsFrom, held-below, held-first, held-past, tab-add, tab-all}
 use Rattle.rows.proofs.RunTurnLaws.{NextRun, next-run}
 use Rattle.kept.specs.Windows.{window, into, Reached}
 
@@ -34,6 +35,15 @@ rows-past b n e s q =
     rows-append b (replicate n false) s
     ∙ ap₂ (λ (l : List ℕ) (k : ℕ). l ++ setRows (b + k) s) (unset-rows b n) (length-replicate n false)
     ∙ ap (λ (k : ℕ). setRows k s) q
+
+-- ---- set rows marked are ones laid
+
+ones-from : (b n : ℕ) → rowsFrom b n ≡ setRows b (replicate n true)
+ones-from b zero = refl
+ones-from b (suc n) = ap (λ (l : List ℕ). b ∷ l) (ones-from (suc b) n)
+
+pub ones-marked : (at b n : ℕ) (ws : List ℕ) → 0 < n → marked at (setRows b (replicate n true)) ws ≡ laid (at + b) (replicate n true) ws
+ones-marked at b n ws h = ap (λ (rs : List ℕ). marked at rs ws) (sym (ones-from b n)) ∙ marked-run at b n ws h
 
 -- ---- a window in three parts
 
