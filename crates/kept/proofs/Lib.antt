@@ -3,3 +3,4 @@ pub mod UnderLaws
 pub mod KeepLaws
 pub mod EntryLaws
 pub mod WindowLaws
+pub mod RunsInRunsLaws
