@@ -2,3 +2,5 @@ pub mod CopyLaws
 pub mod UnderLaws
 pub mod KeepLaws
 pub mod EntryLaws
+pub mod WindowLaws
+pub mod RunsInRunsLaws

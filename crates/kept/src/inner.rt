@@ -12,6 +12,8 @@ ghost use Rattle.rows.specs.Asks.{Room};
 use super::copies::copy_ranks;
 use super::entries::mark_entries;
 use super::keeps::keep_run;
+use super::windows::mark_runs;
+use super::windows::sum_runs;
 use books::inner::clear_rows;
 use laid::inner::clear;
 use rows::Rank;
@@ -88,4 +90,17 @@ pub fn lay_entries_in_runs(runs: &[u32], ranks: &[u32], len: u64, at: u64, out: 
     clear(out, at, len);
     mark_entries(runs, ranks, len, at, out);
     ranks.len() as u64
+}
+
+// Self and the rank mask in runs: that part of the output is cleared, and run by run the rows are marked whose ranks the rank mask has. It has no
+// rank past self's, so that all its rows are laid.
+pub fn lay_runs_in_runs(runs: &[u32], ranks: &[u32], len: u64, at: u64, out: &mut [u64]) -> u64
+    requires { ⌜ Apart 0 len (now runs) × Apart 0 (runLengths (now runs)) (now ranks) × (len ≤ 1048576) × Room at len (now out) ⌝ }
+    ensures { λ r. ⌜ (r ≡ count (compose (inRuns len (now (runs .entry))) (inRuns (runLengths (now (runs .entry))) (now (ranks .entry)))))
+        × (now (out .exit) ≡ laid at (compose (inRuns len (now (runs .entry)))
+        (inRuns (runLengths (now (runs .entry))) (now (ranks .entry)))) (now (out .entry))) ⌝ }
+{
+    clear(out, at, len);
+    mark_runs(runs, ranks, len, at, out);
+    sum_runs(ranks)
 }

@@ -4,3 +4,4 @@ mod copies;
 mod entries;
 pub mod inner;
 mod keeps;
+mod windows;

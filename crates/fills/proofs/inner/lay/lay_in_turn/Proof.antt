@@ -1,4 +1,4 @@
--- `fills::inner::lay::lay_runs` meets its contract.
+-- `fills::inner::lay::lay_in_turn` meets its contract.
 -- The invariant: the rows before `done` are laid, and the runs from number i on are left. Assumes nothing.
 use Prim.Native.Nat.{_+_, _-_, _^_}
 use native.Mathlib.Omega.{arith}
@@ -8,8 +8,8 @@ use denote.Ref.{now}
 use borrow.Author.Needs.{needs}
 use Rattle.rows.proofs.LaidLaws.{below-all}
 use Rattle.fills.proofs.LayLaws.{Laying, laying-none, laying-next, laying-run, laying-last}
-use Rattle.fills.proofs.inner.lay.lay_runs.Statement.{statement}
-use Rattle.fills.proofs.inner.lay.lay_runs.Tie as tie
+use Rattle.fills.proofs.inner.lay.lay_in_turn.Statement.{statement}
+use Rattle.fills.proofs.inner.lay.lay_in_turn.Tie as tie
 
 abbrev Inv-loop : tie.InvT-loop
 Inv-loop runs len at out₀ done₀ i₀ out done i = Laying runs len at done i out₀ out
@@ -122,8 +122,8 @@ returns c =
     let l = h .loop in
     laying-last (now (a .runs)) (a .len) (a .at) (l .done) (l .i) (now (a .out)) (l .out) (l .inv) _ (omega arith) (cleared c .clear .ensures)
 
-pub lay-runs-spec : {M : Type 1} → statement M
-lay-runs-spec =
+pub lay-in-turn-spec : {M : Type 1} → statement M
+lay-in-turn-spec =
     tie.close
     (tie.spec
     Inv-loop
