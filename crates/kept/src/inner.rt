@@ -8,12 +8,14 @@ ghost use Rattle.rows.specs.Words.{bitsOfAll, view};
 ghost use Rattle.rows.specs.Lists.{listed, Ascending};
 ghost use Rattle.rows.specs.Runs.{inRuns, runLengths, Apart};
 ghost use Rattle.rows.specs.Laid.{laid};
-ghost use Rattle.rows.specs.Asks.{Room};
+ghost use Rattle.rows.specs.Asks.{Room, InView};
 use super::copies::copy_ranks;
 use super::entries::mark_entries;
 use super::keeps::keep_run;
 use books::inner::clear_rows;
 use laid::inner::clear;
+use marks::inner::Place;
+use marks::inner::row_from;
 use rows::Rank;
 use rows::Row;
 
@@ -88,4 +90,38 @@ pub fn lay_entries_in_runs(runs: &[u32], ranks: &[u32], len: u64, at: u64, out: 
     clear(out, at, len);
     mark_entries(runs, ranks, len, at, out);
     ranks.len() as u64
+}
+
+// Self in words, the rank mask in runs; self's rows lie in the output already. Of each run the rows from its first rank to its last stay, and all
+// else is cleared. The rows are sought in self's own words, by a walk that goes on from run to run.
+pub fn keep_words(words: &[u64], start: u64, len: u64, ranks: &[u32], at: u64, out: &mut [u64]) -> u64
+    requires { ⌜ InView start len (now words) × Room at len (now out) × (view at len (now out) ≡ view start len (now words))
+        × Apart 0 (count (view start len (now words))) (now ranks) ⌝ }
+    ensures { λ r. ⌜ (r ≡ count (compose (view start len (now (words .entry))) (inRuns (count (view start len (now (words .entry)))) (now (ranks .entry)))))
+        × (now (out .exit) ≡ laid at (compose (view start len (now (words .entry)))
+        (inRuns (count (view start len (now (words .entry)))) (now (ranks .entry)))) (now (out .entry))) ⌝ }
+{
+    let mut place = Place {
+        done: Row(0),
+        passed: Rank(0),
+    };
+    let mut done: u64 = 0;
+    let mut sum: u64 = 0;
+    let mut i: usize = 0;
+    while i < ranks.len() {
+        let first = ranks[i] as u64;
+        let past = ranks[i + 1] as u64;
+        let from = row_from(words, start, len, place, Rank(first));
+        let gap = from.row.0 - done;
+        clear_rows(out, at, Row(done), gap);
+        let last = past - 1;
+        let to = row_from(words, start, len, from.place, Rank(last));
+        place = to.place;
+        done = to.row.0 + 1;
+        sum += past - first;
+        i += 2;
+    }
+    let left = len - done;
+    clear_rows(out, at, Row(done), left);
+    sum
 }

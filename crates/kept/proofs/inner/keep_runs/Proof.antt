@@ -1,6 +1,8 @@
 -- `kept::inner::keep_runs` meets its contract.
 -- The invariant: the rows before `done` are as they will be, and the runs from number i on are left. Assumes nothing.
 use Prim.Native.Nat.{ℕ, _+_, _-_, _^_, _≤_}
+use mathlib.Core.Path.{refl}
+use mathlib.Core.Bool.{Bool}
 use mathlib.Core.List.{List}
 use native.Mathlib.Omega.{arith}
 use lib.ListN.{length, getD}
@@ -15,7 +17,7 @@ use Rattle.kept.proofs.inner.keep_runs.Statement.{statement}
 use Rattle.kept.proofs.inner.keep_runs.Tie as tie
 
 abbrev Inv-loop : tie.InvT-loop
-Inv-loop runs len at out₀ done₀ rank₀ sum₀ i₀ out done rank sum i = Keeping runs len at out₀ done i rank sum out
+Inv-loop runs len at out₀ done₀ rank₀ sum₀ i₀ out done rank sum i = Keeping runs len at (view at len out₀) out₀ done i rank sum out
 
 abbrev μ-loop : tie.MeasureT-loop
 μ-loop runs len at out₀ done₀ rank₀ sum₀ i₀ out done rank sum i = length runs - i
@@ -58,6 +60,10 @@ module _ (c : tie.In-loop Inv-loop μ-loop) where
   abbrev out : List ℕ
   out = now (s .args .out)
 
+  -- self's rows
+  abbrev self : List Bool
+  self = view (s .args .at) (s .args .len) out
+
   abbrev i : ℕ
   i = head c .loop .i
 
@@ -67,12 +73,12 @@ module _ (c : tie.In-loop Inv-loop μ-loop) where
   next : NextRun (head c .loop .rank) (count (view (s .args .at) (s .args .len) out)) i runs
   next =
       let l = head c .loop in
-      keeping-next runs (s .args .len) (s .args .at) out (l .done) i (l .rank) (l .sum) (l .out) (l .inv) (omega arith)
+      keeping-next runs (s .args .len) (s .args .at) self out refl (s .pre .1 .0) (l .done) i (l .rank) (l .sum) (l .out) (l .inv) (omega arith)
 
   few : head c .loop .sum + held ≤ s .args .len
   few =
       let l = head c .loop in
-      keeping-few runs (s .args .len) (s .args .at) out (l .done) i (l .rank) (l .sum) (l .out) (l .inv) (omega arith) (s .pre .1 .0) (s .pre .2)
+      keeping-few runs (s .args .len) (s .args .at) self out refl (s .pre .1 .0) (l .done) i (l .rank) (l .sum) (l .out) (l .inv) (omega arith) (s .pre .2)
 
 -- ---- the answers
 
@@ -80,7 +86,8 @@ loop-holds : tie.Need-loop-holds Inv-loop μ-loop
 loop-holds c =
     let s = entry c in
     let out = now (s .args .out) in
-    keeping-none (now (s .args .runs)) (s .args .len) (s .args .at) out (s .pre .2) (below-all (2 ^ 64) out (λ i. c .slice-known .given i .fits))
+    let self = view (s .args .at) (s .args .len) out in
+    keeping-none (now (s .args .runs)) (s .args .len) (s .args .at) self out (s .pre .2) (below-all (2 ^ 64) out (λ i. c .slice-known .given i .fits))
 
 mul-first : tie.Need-mul-first Inv-loop μ-loop
 mul-first c = omega arith
@@ -119,7 +126,7 @@ keep-run-requires c κs =
       (omega (arith, l .inv .progress .long, room .0), room .1),
       l .inv .within,
       omega (arith, next t .some),
-      keeping-asks (runs t) (a .len) (a .at) (out t) (l .done) (i t) (l .rank) (l .sum) (l .out) (l .inv) (omega arith) (room .0),
+      keeping-asks (runs t) (a .len) (a .at) (self t) (out t) refl (room .0) (l .done) (i t) (l .rank) (l .sum) (l .out) (l .inv) (omega arith),
     )
 
 add-sum : tie.Need-add-sum Inv-loop μ-loop
@@ -139,7 +146,7 @@ loop-again c =
     let l = head t .loop in
     let a = s t .args in
     let e = back c .keep-run .ensures in
-    keeping-run (runs t) (a .len) (a .at) (out t) (l .done) (i t) (l .rank) (l .sum) (l .out) (l .inv) (omega arith) (s t .pre .1 .0)
+    keeping-run (runs t) (a .len) (a .at) (self t) (out t) refl (s t .pre .1 .0) (l .done) (i t) (l .rank) (l .sum) (l .out) (l .inv) (omega arith)
     (back c .keep-run .result) _ (e .0) (e .1)
 
 sub-left : tie.Need-sub-left Inv-loop μ-loop
@@ -161,8 +168,9 @@ returns c =
     let a = start h .args in
     let l = h .loop in
     let pre = start h .pre in
-    keeping-last (now (a .runs)) (a .len) (a .at) (now (a .out)) (l .done) (l .i) (l .rank) (l .sum) (l .out) (l .inv)
-    _ (omega arith) (pre .1 .0) (pre .2) (cleared c .clear-rows .ensures)
+    let self = view (a .at) (a .len) (now (a .out)) in
+    keeping-last (now (a .runs)) (a .len) (a .at) self (now (a .out)) refl (pre .1 .0) (l .done) (l .i) (l .rank) (l .sum) (l .out) (l .inv)
+    _ (omega arith) (pre .2) (cleared c .clear-rows .ensures)
 
 pub keep-runs-spec : {M : Type 1} → statement M
 keep-runs-spec =
