@@ -94,7 +94,14 @@ pub fn lay_entries_in_runs(runs: &[u32], ranks: &[u32], len: u64, at: u64, out: 
 
 // Self in words, the rank mask in runs; self's rows lie in the output already. Of each run the rows from its first rank to its last stay, and all
 // else is cleared. The rows are sought in self's own words, by a walk that goes on from run to run.
-pub fn keep_words(words: &[u64], start: u64, len: u64, ranks: &[u32], at: u64, out: &mut [u64]) -> u64
+pub fn keep_words(
+    words: &[u64],
+    start: u64,
+    len: u64,
+    ranks: &[u32],
+    at: u64,
+    out: &mut [u64],
+) -> u64
     requires { ⌜ InView start len (now words) × Room at len (now out) × (view at len (now out) ≡ view start len (now words))
         × Apart 0 (count (view start len (now words))) (now ranks) ⌝ }
     ensures { λ r. ⌜ (r ≡ count (compose (view start len (now (words .entry))) (inRuns (count (view start len (now (words .entry)))) (now (ranks .entry)))))
