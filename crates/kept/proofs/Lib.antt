@@ -2,3 +2,4 @@ pub mod CopyLaws
 pub mod UnderLaws
 pub mod KeepLaws
 pub mod EntryLaws
+pub mod EntrySpanLaws
