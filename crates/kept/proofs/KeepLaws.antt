@@ -2,13 +2,14 @@
 -- a law for no run, a law for one run more, and a law for the rows behind the last. By the laws of select, and of what lies behind laid bits.
 -- Assumes nothing.
 use Prim.Native.Nat.{ℕ, suc, _+_, _-_, _*_, _^_, _≤_, _<_}
+use native.Mathlib.Nat.{add-assoc}
 use mathlib.Core.Path.{_≡_, sym, ap, ap₂, _∙_, subst}
 use mathlib.Core.Bool.{Bool, true, false}
 use mathlib.Core.List.{List, [], _∷_, _++_}
 use native.Mathlib.Omega.{arith}
 use lib.ListN.{length, take, drop, getD, replicate, length-drop, length-replicate, take-append-drop}
 use lib.Seq.{drop-drop, take-suc, take-take, length-take-le}
-use Rattle.rows.specs.Rows.{count, compose}
+use Rattle.rows.specs.Rows.{count, rankAt, compose}
 use Rattle.rows.specs.Words.{Below, view}
 use Rattle.rows.specs.Lists.{select}
 use Rattle.rows.specs.Runs.{held, inRuns, runLengths, Apart}
@@ -16,7 +17,7 @@ use Rattle.rows.specs.Laid.{laid}
 use Rattle.rows.proofs.RowLaws.{count-append, count-le-length, compose-count, compose-by-empty}
 use Rattle.rows.proofs.WordsLaws.{view-length}
 use Rattle.rows.proofs.ListLaws.{tab-length}
-use Rattle.rows.proofs.SelectLaws.{selects}
+use Rattle.rows.proofs.SelectLaws.{selects, select-skip}
 use Rattle.rows.proofs.RunLaws.{runRows, in-runs, rows-sum, runs-count, runs-few}
 use Rattle.rows.proofs.RunTurnLaws.{NextRun, next-run, rows-next, rows-none, lengths-next, lengths-none}
 use Rattle.rows.proofs.ComposeRunLaws.{compose-by-unset, compose-by-set}
@@ -86,10 +87,29 @@ cleared-view at done len row out then h t =
 
 -- ---- over runs
 
-module _ (runs : List ℕ) (len at : ℕ) (out₀ : List ℕ) where
-  abbrev self : List Bool
-  self = view at len out₀
+-- the row of a rank, from a row on that is not past it
+select-from : (s : List Bool) (done r : ℕ) → done ≤ length s → rankAt s done ≤ r → select s r ≡ done + select (drop done s) (r - rankAt s done)
+select-from s done r h l =
+    ap (λ (t : List Bool). select t r) (sym (take-append-drop done s)) ∙ select-skip (take done s) (drop done s) r l
+    ∙ ap (λ (n : ℕ). n + select (drop done s) (r - rankAt s done)) (length-take-le done s h)
 
+-- the rows of a run of ranks: they are from row `done` on, and within
+pub record Spans (s : List Bool) (done first past len : ℕ) : Type 0 where
+  pub from : done ≤ select s first
+  pub upto : select s first ≤ select s (past - 1)
+  pub within : select s (past - 1) < len
+
+-- on numbers: the last rank of a run is not before it, and less those before the run
+last-behind : (f p r : ℕ) → r ≤ f → f < p → r ≤ p - 1
+last-behind f p r h k = omega arith
+
+last-rank : (f p r : ℕ) → r ≤ f → f < p → p - 1 - r - (f - r) ≡ p - f - 1
+last-rank f p r h k = omega arith
+
+gap-before : (f p r : ℕ) → r ≤ f → f < p → f - r ≤ p - 1 - r
+gap-before f p r h k = omega arith
+
+module _ (runs : List ℕ) (len at : ℕ) (self : List Bool) (out₀ : List ℕ) where
   abbrev whole : List Bool
   whole = compose self (inRuns (count self) runs)
 
@@ -99,12 +119,12 @@ module _ (runs : List ℕ) (len at : ℕ) (out₀ : List ℕ) where
 
   pub record Keeping (done i rank sum : ℕ) (out : List ℕ) : Type 0 where
     pub within : done ≤ len
-    pub passed : rank + count (drop done (view at len out₀)) ≡ count (view at len out₀)
-    pub ahead : Apart rank (count (view at len out₀)) (drop i runs)
+    pub passed : rank + count (drop done self) ≡ count self
+    pub ahead : Apart rank (count self) (drop i runs)
     pub counted : sum + runLengths (drop i runs) ≡ runLengths runs
     pub progress : Progress whole at done (rest done i rank) out₀ out
 
-  pub keeping-none : Apart 0 (count (view at len out₀)) runs → Below (2 ^ 64) out₀ → Keeping 0 0 0 0 out₀
+  pub keeping-none : Apart 0 (count self) runs → Below (2 ^ 64) out₀ → Keeping 0 0 0 0 out₀
   keeping-none a small =
       let all : whole ≡ rest 0 0 0 = ap (compose self) (in-runs (count self) runs a) in
       record {
@@ -115,123 +135,188 @@ module _ (runs : List ℕ) (len at : ℕ) (out₀ : List ℕ) where
         progress = progress-as whole whole (rest 0 0 0) at 0 out₀ out₀ all (progress-none whole at out₀ small);
       }
 
-  -- what lies behind those that are done is as it was
-  still : (done : ℕ) (left : List Bool) (out : List ℕ) → done ≤ len → Progress whole at done left out₀ out
-      → view (at + done) (len - done) out ≡ drop done self
-  still done left out h p =
-      ap (view (at + done) (len - done)) (p .lies)
-      ∙ view-behind at (at + done) (len - done) (p .front) out₀ (ap (λ (k : ℕ). at + k) (sym (p .passed)))
-      ∙ view-from at done len out₀ h
+  -- the rows lie in the output, and have room there
+  module _ (lies : view at len out₀ ≡ self) (room : at + len ≤ length out₀ * 64) where
+    -- what lies behind those that are done is as it was
+    still : (done : ℕ) (left : List Bool) (out : List ℕ) → done ≤ len → Progress whole at done left out₀ out
+        → view (at + done) (len - done) out ≡ drop done self
+    still done left out h p =
+        ap (view (at + done) (len - done)) (p .lies)
+        ∙ view-behind at (at + done) (len - done) (p .front) out₀ (ap (λ (k : ℕ). at + k) (sym (p .passed)))
+        ∙ view-from at done len out₀ h ∙ ap (drop done) lies
 
-  left-long : (done : ℕ) → at + len ≤ length out₀ * 64 → length (drop done self) ≡ len - done
-  left-long done room = length-drop done self ∙ ap (λ (n : ℕ). n - done) (view-length at len out₀ room)
+    long : length self ≡ len
+    long = ap length (sym lies) ∙ view-length at len out₀ room
 
-  module _ (done i rank sum : ℕ) (out : List ℕ) (k : Keeping done i rank sum out) where
-    pub keeping-view : view (at + done) (len - done) out ≡ drop done (view at len out₀)
-    keeping-view = still done (rest done i rank) out (k .within) (k .progress)
+    left-long : (done : ℕ) → length (drop done self) ≡ len - done
+    left-long done = length-drop done self ∙ ap (λ (n : ℕ). n - done) long
 
-    pub keeping-next : i < length runs → NextRun rank (count (view at len out₀)) i runs
-    keeping-next h = next-run rank (count self) i runs h (k .ahead)
+    module _ (done i rank sum : ℕ) (out : List ℕ) (k : Keeping done i rank sum out) where
+      pub keeping-view : view (at + done) (len - done) out ≡ drop done self
+      keeping-view = still done (rest done i rank) out (k .within) (k .progress)
 
-    module _ (h : i < length runs) (room : at + len ≤ length out₀ * 64) where
-      abbrev gap : ℕ
-      gap = getD runs i 0 - rank
+      pub keeping-rank : rankAt self done ≡ rank
+      keeping-rank = omega (arith, k .passed, count-append (take done self) (drop done self), ap count (take-append-drop done self))
 
-      abbrev own : ℕ
-      own = getD runs (i + 1) 0 - getD runs i 0
+      done-within : done ≤ length self
+      done-within = omega (arith, k .within, long)
 
-      own-some : 0 < own
-      own-some = omega (arith, keeping-next h .some)
+      module _ (h : i < length runs) where
+        pub keeping-next : NextRun rank (count self) i runs
+        keeping-next = next-run rank (count self) i runs h (k .ahead)
 
-      -- the run's ranks are among those of the rows that are left
-      enough : gap + own ≤ count (drop done self)
-      enough = let r = keeping-next h in omega (arith, r .from, r .some, r .within, k .passed)
+        abbrev first : ℕ
+        first = getD runs i 0
 
-      pub keeping-few : Apart 0 (count (view at len out₀)) runs → sum + own ≤ len
-      keeping-few a =
-          let lengths = lengths-next rank (count self) i runs (keeping-next h) in
-          omega (arith, k .counted, lengths, runs-few 0 (count self) runs a (omega arith), count-le-length self, view-length at len out₀ room)
+        abbrev past : ℕ
+        past = getD runs (i + 1) 0
 
-      pub keeping-asks : gap + own ≤ count (view (at + done) (len - done) out)
-      keeping-asks = omega (arith, enough, ap count keeping-view)
+        abbrev gap : ℕ
+        gap = first - rank
 
-      abbrev cut : ℕ
-      cut = select (drop done self) gap
+        abbrev own : ℕ
+        own = past - first
 
-      abbrev more : ℕ
-      more = suc (select (drop cut (drop done self)) (own - 1))
+        own-some : 0 < own
+        own-some = omega (arith, keeping-next .some)
 
-      abbrev part : List Bool
-      part = take more (drop cut (drop done self))
+        -- the run's ranks are among those of the rows that are left
+        enough : gap + own ≤ count (drop done self)
+        enough = let r = keeping-next in omega (arith, r .from, r .some, r .within, k .passed)
 
-      cut-in : cut < length (drop done self)
-      cut-in = row-in (drop done self) gap own own-some enough
+        pub keeping-few : Apart 0 (count self) runs → sum + (getD runs (i + 1) 0 - getD runs i 0) ≤ len
+        keeping-few a =
+            let lengths = lengths-next rank (count self) i runs keeping-next in
+            omega (arith, k .counted, lengths, runs-few 0 (count self) runs a (omega arith), count-le-length self, long)
 
-      more-in : more ≤ length (drop cut (drop done self))
-      more-in = last-row (drop done self) gap own own-some enough
+        pub keeping-asks : getD runs i 0 - rank + (getD runs (i + 1) 0 - getD runs i 0) ≤ count (view (at + done) (len - done) out)
+        keeping-asks = omega (arith, enough, ap count keeping-view)
 
-      behind-them : drop more (drop cut (drop done self)) ≡ drop (done + cut + more) self
-      behind-them = ap (drop more) (drop-drop cut done self) ∙ drop-drop more (done + cut) self
+        abbrev cut : ℕ
+        cut = select (drop done self) gap
 
-      split : rest done i rank ≡ replicate cut false ++ (part ++ rest (done + cut + more) (i + 2) (getD runs (i + 1) 0))
-      split =
-          let left = runRows (getD runs (i + 1) 0) (count self) (drop (i + 2) runs) in
-          ap (compose (drop done self)) (rows-next rank (count self) i runs (keeping-next h))
-          ∙ compose-run (drop done self) gap own own-some enough left
-          ∙ ap (λ (l : List Bool). replicate cut false ++ (part ++ compose l left)) behind-them
+        -- how far its last row is from its first
+        abbrev span : ℕ
+        span = select (drop cut (drop done self)) (own - 1)
 
-      -- the rows of the run that was kept lie there
-      lies-there : (left : List Bool) (then : List ℕ) → Progress whole at (done + cut) left out₀ then → view (at + (done + cut)) more then ≡ part
-      lies-there left then p =
-          let n : ℕ = len - (done + cut) in
-          let fits : more ≤ n = omega (arith, more-in, length-drop cut (drop done self), left-long done room) in
-          sym (take-take more n _ fits)
-          ∙ ap (take more) (still (done + cut) left then (omega (arith, cut-in, left-long done room, k .within)) p ∙ sym (drop-drop cut done self))
+        abbrev part : List Bool
+        part = take (suc span) (drop cut (drop done self))
 
-      pub keeping-run : (next : ℕ) (then : List ℕ) → next ≡ done + behind (view (at + done) (len - done) out) gap own
-          → then ≡ laid (at + done) (replicate (select (view (at + done) (len - done) out) gap) false) out
-          → Keeping next (i + 2) (getD runs (i + 1) 0) (sum + own) then
-      keeping-run next then e t =
-          let r = keeping-next h in
-          let past = getD runs (i + 1) 0 in
-          let to : ℕ = done + cut + more in
-          let left = rest to (i + 2) past in
-          let next-is : next ≡ to = e ∙ ap (λ (l : List Bool). done + behind l gap own) keeping-view ∙ omega arith in
-          let clears : then ≡ laid (at + done) (replicate cut false) out =
-          t ∙ ap (λ (l : List Bool). laid (at + done) (replicate (select l gap) false) out) keeping-view in
-          let one : Progress whole at (done + cut) (part ++ left) out₀ then =
-          progress-part whole (replicate cut false) (part ++ left) at done (done + cut) out₀ out then
-          (ap (λ (n : ℕ). done + n) (sym (length-replicate cut false))) clears
-          (progress-as whole (rest done i rank) (replicate cut false ++ (part ++ left)) at done out₀ out split (k .progress)) in
-          let small : Below (2 ^ 64) then = subst (Below (2 ^ 64)) (sym (one .lies)) (below-laid 64 at (one .front) out₀) in
-          let place : ℕ = at + (done + cut) in
-          let own-place : then ≡ laid place part then =
-          sym (ap (λ (l : List Bool). laid place l then) (sym (lies-there (part ++ left) then one)) ∙ laid-own place more then small) in
-          let two : Progress whole at to left out₀ then =
-          progress-part whole part left at (done + cut) to out₀ then then
-          (ap (λ (n : ℕ). done + cut + n) (sym (length-take-le more (drop cut (drop done self)) more-in))) own-place one in
-          let kept : Keeping to (i + 2) past (sum + own) then =
-          record {
-            within = omega (arith, cut-in, more-in, length-drop cut (drop done self), left-long done room, k .within);
-            passed = omega (arith, k .passed, r .from, r .some, left-count (drop done self) gap own own-some enough, ap count behind-them);
-            ahead = r .left;
-            counted = omega (arith, k .counted, lengths-next rank (count self) i runs r);
-            progress = two;
-          } in
-          subst (λ (n : ℕ). Keeping n (i + 2) past (sum + own) then) (sym next-is) kept
+        cut-in : cut < length (drop done self)
+        cut-in = row-in (drop done self) gap own own-some enough
 
-    pub keeping-last : (then : List ℕ) → length runs ≤ i → at + len ≤ length out₀ * 64 → Apart 0 (count (view at len out₀)) runs
-        → then ≡ laid (at + done) (replicate (len - done) false) out
-        → (sum ≡ count (compose (view at len out₀) (inRuns (count (view at len out₀)) runs)))
-        × (then ≡ laid at (compose (view at len out₀) (inRuns (count (view at len out₀)) runs)) out₀)
-    keeping-last then h room a t =
-        let unset = replicate (len - done) false in
-        let c = count self in
-        let none : rest done i rank ≡ unset =
-        ap (compose (drop done self)) (rows-none rank c i runs h) ∙ compose-by-empty (drop done self) (replicate (c - rank) false) (rows-sum rank c [])
-        ∙ ap (λ (n : ℕ). replicate n false) (left-long done room) in
-        let all : count whole ≡ runLengths runs =
-        compose-count self (inRuns c runs) (tab-length 0 c (λ j. held j runs)) ∙ runs-count c runs a in (
-          omega (arith, k .counted, lengths-none i runs h, all),
-          progress-last whole unset at done out₀ out then t (progress-as whole (rest done i rank) unset at done out₀ out none (k .progress)),
-        )
+        cut-within : cut ≤ length (drop done self)
+        cut-within = omega (arith, cut-in)
+
+        last-in-them : span < length (drop cut (drop done self))
+        last-in-them = last-row (drop done self) gap own own-some enough
+
+        last-within : done + cut + span < len
+        last-within = omega (arith, cut-in, last-in-them, length-drop cut (drop done self), left-long done, k .within)
+
+        behind-them : drop (suc span) (drop cut (drop done self)) ≡ drop (done + cut + suc span) self
+        behind-them = ap (drop (suc span)) (drop-drop cut done self) ∙ drop-drop (suc span) (done + cut) self
+
+        split : rest done i rank ≡ replicate cut false ++ (part ++ rest (done + cut + suc span) (i + 2) past)
+        split =
+            let left = runRows past (count self) (drop (i + 2) runs) in
+            ap (compose (drop done self)) (rows-next rank (count self) i runs keeping-next)
+            ∙ compose-run (drop done self) gap own own-some enough left
+            ∙ ap (λ (l : List Bool). replicate cut false ++ (part ++ compose l left)) behind-them
+
+        -- the rows of the run that was kept lie there
+        lies-there : (left : List Bool) (then : List ℕ) → Progress whole at (done + cut) left out₀ then → view (at + (done + cut)) (suc span) then ≡ part
+        lies-there left then p =
+            let n : ℕ = len - (done + cut) in
+            let fits : suc span ≤ n = omega (arith, last-within) in
+            sym (take-take (suc span) n _ fits)
+            ∙ ap (take (suc span)) (still (done + cut) left then (omega (arith, last-within)) p ∙ sym (drop-drop cut done self))
+
+        -- with the rows before the run cleared
+        kept-run : (then : List ℕ) → then ≡ laid (at + done) (replicate cut false) out → Keeping (done + cut + suc span) (i + 2) past (sum + own) then
+        kept-run then t =
+            let r = keeping-next in
+            let to : ℕ = done + cut + suc span in
+            let left = rest to (i + 2) past in
+            let one : Progress whole at (done + cut) (part ++ left) out₀ then =
+            progress-part whole (replicate cut false) (part ++ left) at done (done + cut) out₀ out then
+            (ap (λ (n : ℕ). done + n) (sym (length-replicate cut false))) t
+            (progress-as whole (rest done i rank) (replicate cut false ++ (part ++ left)) at done out₀ out split (k .progress)) in
+            let small : Below (2 ^ 64) then = subst (Below (2 ^ 64)) (sym (one .lies)) (below-laid 64 at (one .front) out₀) in
+            let place : ℕ = at + (done + cut) in
+            let own-place : then ≡ laid place part then =
+            sym (ap (λ (l : List Bool). laid place l then) (sym (lies-there (part ++ left) then one)) ∙ laid-own place (suc span) then small) in
+            let two : Progress whole at to left out₀ then =
+            progress-part whole part left at (done + cut) to out₀ then then
+            (ap (λ (n : ℕ). done + cut + n) (sym (length-take-le (suc span) (drop cut (drop done self)) last-in-them))) own-place one in
+            record {
+              within = omega (arith, last-within);
+              passed = omega (arith, k .passed, r .from, r .some, left-count (drop done self) gap own own-some enough, ap count behind-them);
+              ahead = r .left;
+              counted = omega (arith, k .counted, lengths-next rank (count self) i runs r);
+              progress = two;
+            }
+
+        pub keeping-run : (next : ℕ) (then : List ℕ)
+            → next ≡ done + behind (view (at + done) (len - done) out) (getD runs i 0 - rank) (getD runs (i + 1) 0 - getD runs i 0)
+            → then ≡ laid (at + done) (replicate (select (view (at + done) (len - done) out) (getD runs i 0 - rank)) false) out
+            → Keeping next (i + 2) (getD runs (i + 1) 0) (sum + (getD runs (i + 1) 0 - getD runs i 0)) then
+        keeping-run next then e t =
+            let next-is : next ≡ done + cut + suc span = e ∙ ap (λ (l : List Bool). done + behind l gap own) keeping-view ∙ omega arith in
+            subst (λ (n : ℕ). Keeping n (i + 2) past (sum + own) then) (sym next-is)
+            (kept-run then (t ∙ ap (λ (l : List Bool). laid (at + done) (replicate (select l gap) false) out) keeping-view))
+
+        -- ---- the same where the rows are sought among all of self's
+
+        first-is : select self first ≡ done + cut
+        first-is =
+            let there : first - rankAt self done ≡ gap = omega (arith, keeping-rank) in
+            select-from self done first done-within (omega (arith, keeping-rank, keeping-next .from))
+            ∙ ap (λ (n : ℕ). done + select (drop done self) n) there
+
+        last-is : select self (past - 1) ≡ done + cut + span
+        last-is =
+            let r = keeping-next in
+            let left = drop done self in
+            let gone : rankAt left cut ≡ gap = selects left gap (gap-in left gap own own-some enough) .rank in
+            let there : past - 1 - rankAt self done ≡ past - 1 - rank = ap (λ (n : ℕ). past - 1 - n) keeping-rank in
+            let here : past - 1 - rank - rankAt left cut ≡ own - 1 =
+            ap (λ (n : ℕ). past - 1 - rank - n) gone ∙ last-rank first past rank (r .from) (r .some) in
+            let within : rankAt self done ≤ past - 1 =
+            subst (λ (n : ℕ). n ≤ past - 1) (sym keeping-rank) (last-behind first past rank (r .from) (r .some)) in
+            let behind-first : rankAt left cut ≤ past - 1 - rank =
+            subst (λ (n : ℕ). n ≤ past - 1 - rank) (sym gone) (gap-before first past rank (r .from) (r .some)) in
+            select-from self done (past - 1) done-within within
+            ∙ ap (λ (n : ℕ). done + select left n) there
+            ∙ ap (λ (n : ℕ). done + n) (select-from left cut (past - 1 - rank) cut-within behind-first
+            ∙ ap (λ (n : ℕ). cut + select (drop cut left) n) here) ∙ sym (add-assoc done cut span)
+
+        pub keeping-spans : Spans self done (getD runs i 0) (getD runs (i + 1) 0) len
+        keeping-spans = record {
+          from = omega (arith, first-is);
+          upto = omega (arith, first-is, last-is);
+          within = omega (arith, last-is, last-within);
+        }
+
+        pub keeping-rows : (next : ℕ) (then : List ℕ) → next ≡ select self (getD runs (i + 1) 0 - 1) + 1
+            → then ≡ laid (at + done) (replicate (select self (getD runs i 0) - done) false) out
+            → Keeping next (i + 2) (getD runs (i + 1) 0) (sum + (getD runs (i + 1) 0 - getD runs i 0)) then
+        keeping-rows next then e t =
+            let next-is : next ≡ done + cut + suc span = omega (arith, e, last-is) in
+            let cut-is : select self first - done ≡ cut = omega (arith, first-is) in
+            subst (λ (n : ℕ). Keeping n (i + 2) past (sum + own) then) (sym next-is)
+            (kept-run then (t ∙ ap (λ (n : ℕ). laid (at + done) (replicate n false) out) cut-is))
+
+      pub keeping-last : (then : List ℕ) → length runs ≤ i → Apart 0 (count self) runs → then ≡ laid (at + done) (replicate (len - done) false) out
+          → (sum ≡ count (compose self (inRuns (count self) runs))) × (then ≡ laid at (compose self (inRuns (count self) runs)) out₀)
+      keeping-last then h a t =
+          let unset = replicate (len - done) false in
+          let c = count self in
+          let none : rest done i rank ≡ unset =
+          ap (compose (drop done self)) (rows-none rank c i runs h) ∙ compose-by-empty (drop done self) (replicate (c - rank) false) (rows-sum rank c [])
+          ∙ ap (λ (n : ℕ). replicate n false) (left-long done) in
+          let all : count whole ≡ runLengths runs =
+          compose-count self (inRuns c runs) (tab-length 0 c (λ j. held j runs)) ∙ runs-count c runs a in (
+            omega (arith, k .counted, lengths-none i runs h, all),
+            progress-last whole unset at done out₀ out then t (progress-as whole (rest done i rank) unset at done out₀ out none (k .progress)),
+          )

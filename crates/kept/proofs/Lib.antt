@@ -4,3 +4,4 @@ pub mod KeepLaws
 pub mod EntryLaws
 pub mod WindowLaws
 pub mod RunsInRunsLaws
+pub mod EntrySpanLaws

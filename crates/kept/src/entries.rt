@@ -2,9 +2,11 @@
 ghost use mathlib.Core.Path.{_≡_};
 ghost use mathlib.Core.Bool.{true};
 ghost use mathlib.Core.List.{[], _∷_};
-ghost use Prim.Native.Nat.{_+_, _≤_, _<_};
+ghost use Prim.Native.Nat.{_+_, _-_, _≤_, _<_};
+ghost use lib.ListN.{length, take, drop};
 ghost use denote.Ref.{now};
-ghost use Rattle.rows.specs.Rows.{compose};
+ghost use Rattle.rows.specs.Rows.{count, compose};
+ghost use Rattle.rows.specs.Words.{Below};
 ghost use Rattle.rows.specs.Lists.{listed, Ascending, setRows, select};
 ghost use Rattle.rows.specs.Runs.{inRuns, runLengths, Apart};
 ghost use Rattle.rows.specs.Laid.{laid, marked};
@@ -83,4 +85,37 @@ pub fn mark_entries(runs: &[u32], ranks: &[u32], len: u64, at: u64, out: &mut [u
         place = mark_entry(runs, len, place, Rank(entry), at, out);
         i += 1;
     }
+}
+
+// The entries from one rank on, and before another, marked: row 0 of self at bit at.
+fn mark_span(rows: &[u32], first: Rank, past: Rank, len: u64, at: u64, out: &mut [u64])
+    requires { ⌜ Below len (now rows) × (first .0 ≤ past .0) × (past .0 ≤ length (now rows)) × Room at len (now out) ⌝ }
+    ensures { λ _. ⌜ now (out .exit) ≡ marked at (take (past .0 - first .0) (drop (first .0) (now (rows .entry)))) (now (out .entry)) ⌝ }
+{
+    let end = past.0 as usize;
+    let mut i = first.0 as usize;
+    while i < end {
+        let row = rows[i] as u64;
+        mark_row(out, at, Row(row));
+        i += 1;
+    }
+}
+
+// The entries of each run of ranks, marked; and how many they are.
+pub fn mark_spans(rows: &[u32], ranks: &[u32], len: u64, at: u64, out: &mut [u64]) -> u64
+    requires { ⌜ Ascending 0 len (now rows) × Apart 0 (length (now rows)) (now ranks) × Room at len (now out) ⌝ }
+    ensures { λ r. ⌜ (r ≡ count (compose (listed len (now (rows .entry))) (inRuns (length (now (rows .entry))) (now (ranks .entry)))))
+        × (now (out .exit) ≡ marked at (setRows 0 (compose (listed len (now (rows .entry)))
+        (inRuns (length (now (rows .entry))) (now (ranks .entry))))) (now (out .entry))) ⌝ }
+{
+    let mut sum: u64 = 0;
+    let mut i: usize = 0;
+    while i < ranks.len() {
+        let first = ranks[i] as u64;
+        let past = ranks[i + 1] as u64;
+        mark_span(rows, Rank(first), Rank(past), len, at, out);
+        sum += past - first;
+        i += 2;
+    }
+    sum
 }

@@ -8,14 +8,16 @@ ghost use Rattle.rows.specs.Words.{bitsOfAll, view};
 ghost use Rattle.rows.specs.Lists.{listed, Ascending};
 ghost use Rattle.rows.specs.Runs.{inRuns, runLengths, Apart};
 ghost use Rattle.rows.specs.Laid.{laid};
-ghost use Rattle.rows.specs.Asks.{Room};
+ghost use Rattle.rows.specs.Asks.{Room, InView};
 use super::copies::copy_ranks;
 use super::entries::mark_entries;
-use super::keeps::keep_run;
+use super::entries::mark_spans;
 use super::windows::mark_runs;
 use super::windows::sum_runs;
 use books::inner::clear_rows;
 use laid::inner::clear;
+use marks::inner::Place;
+use marks::inner::row_from;
 use rows::Rank;
 use rows::Row;
 
@@ -53,33 +55,6 @@ pub fn lay_ranks_under_runs(
     sum
 }
 
-// The rank mask in runs; self's rows lie in the output already, from bit at on. Of each run the rows from its first rank to its last stay, and all
-// else is cleared.
-pub fn keep_runs(runs: &[u32], len: u64, at: u64, out: &mut [u64]) -> u64
-    requires { ⌜ (len ≤ 1048576) × Room at len (now out) × Apart 0 (count (view at len (now out))) (now runs) ⌝ }
-    ensures { λ r. ⌜ (r ≡ count (compose (view at len (now (out .entry))) (inRuns (count (view at len (now (out .entry)))) (now (runs .entry)))))
-        × (now (out .exit) ≡ laid at (compose (view at len (now (out .entry)))
-        (inRuns (count (view at len (now (out .entry)))) (now (runs .entry)))) (now (out .entry))) ⌝ }
-{
-    let mut done: u64 = 0;
-    let mut rank: u64 = 0;
-    let mut sum: u64 = 0;
-    let mut i: usize = 0;
-    while i < runs.len() {
-        let first = runs[i] as u64;
-        let past = runs[i + 1] as u64;
-        let gap = first - rank;
-        let held = past - first;
-        done = keep_run(done, gap, held, len, at, out);
-        rank = past;
-        sum += held;
-        i += 2;
-    }
-    let left = len - done;
-    clear_rows(out, at, Row(done), left);
-    sum
-}
-
 // Self in runs, the rank mask a list: that part of the output is cleared, and the row of each listed rank is marked in it.
 pub fn lay_entries_in_runs(runs: &[u32], ranks: &[u32], len: u64, at: u64, out: &mut [u64]) -> u64
     requires { ⌜ Apart 0 len (now runs) × Ascending 0 (runLengths (now runs)) (now ranks) × (len ≤ 1048576) × Room at len (now out) ⌝ }
@@ -103,4 +78,56 @@ pub fn lay_runs_in_runs(runs: &[u32], ranks: &[u32], len: u64, at: u64, out: &mu
     clear(out, at, len);
     mark_runs(runs, ranks, len, at, out);
     sum_runs(ranks)
+}
+
+// Self in words, the rank mask in runs; self's rows lie in the output already. Of each run the rows from its first rank to its last stay, and all
+// else is cleared. The rows are sought in self's own words, by a walk that goes on from run to run.
+pub fn keep_words(
+    words: &[u64],
+    start: u64,
+    len: u64,
+    ranks: &[u32],
+    at: u64,
+    out: &mut [u64],
+) -> u64
+    requires { ⌜ InView start len (now words) × Room at len (now out) × (view at len (now out) ≡ view start len (now words))
+        × Apart 0 (count (view start len (now words))) (now ranks) ⌝ }
+    ensures { λ r. ⌜ (r ≡ count (compose (view start len (now (words .entry))) (inRuns (count (view start len (now (words .entry)))) (now (ranks .entry)))))
+        × (now (out .exit) ≡ laid at (compose (view start len (now (words .entry)))
+        (inRuns (count (view start len (now (words .entry)))) (now (ranks .entry)))) (now (out .entry))) ⌝ }
+{
+    let mut place = Place {
+        done: Row(0),
+        passed: Rank(0),
+    };
+    let mut done: u64 = 0;
+    let mut sum: u64 = 0;
+    let mut i: usize = 0;
+    while i < ranks.len() {
+        let first = ranks[i] as u64;
+        let past = ranks[i + 1] as u64;
+        let from = row_from(words, start, len, place, Rank(first));
+        let gap = from.row.0 - done;
+        clear_rows(out, at, Row(done), gap);
+        let last = past - 1;
+        let to = row_from(words, start, len, from.place, Rank(last));
+        place = to.place;
+        done = to.row.0 + 1;
+        sum += past - first;
+        i += 2;
+    }
+    let left = len - done;
+    clear_rows(out, at, Row(done), left);
+    sum
+}
+
+// Self a list, the rank mask in runs: that part of the output is cleared, and the entries from each run's first rank to its last are marked in it.
+pub fn lay_entries_by_runs(rows: &[u32], ranks: &[u32], len: u64, at: u64, out: &mut [u64]) -> u64
+    requires { ⌜ Ascending 0 len (now rows) × (length (now rows) ≤ 1048576) × Apart 0 (length (now rows)) (now ranks) × Room at len (now out) ⌝ }
+    ensures { λ r. ⌜ (r ≡ count (compose (listed len (now (rows .entry))) (inRuns (length (now (rows .entry))) (now (ranks .entry)))))
+        × (now (out .exit) ≡ laid at (compose (listed len (now (rows .entry)))
+        (inRuns (length (now (rows .entry))) (now (ranks .entry)))) (now (out .entry))) ⌝ }
+{
+    clear(out, at, len);
+    mark_spans(rows, ranks, len, at, out)
 }

@@ -3,5 +3,4 @@
 mod copies;
 mod entries;
 pub mod inner;
-mod keeps;
 mod windows;

@@ -1,7 +1,7 @@
 -- The row of a rank, by a walk over chunks; and what a loop over ranks keeps. By the laws of select on the rows before a
 -- chunk and on the chunk.
 -- Assumes nothing.
-use Prim.Native.Nat.{ℕ, suc, _+_, _-_, _*_, _≤_, _<_, min}
+use Prim.Native.Nat.{ℕ, suc, _+_, _-_, _*_, _/_, _≤_, _<_, min}
 use native.Mathlib.Nat.{zero-add}
 use native.Mathlib.Decide.{decLt}
 use mathlib.Core.Path.{_≡_, refl, sym, ap, ap₂, _∙_}
@@ -26,7 +26,7 @@ use Rattle.rows.proofs.KeptLaws.{rows-compose-list}
 use Rattle.rows.proofs.SelectLaws.{selects, select-in, select-skip}
 use Rattle.rows.proofs.PartLaws.{rows-append, rows-word, count-part}
 use Rattle.rows.specs.declared.Rank.{Rank}
-use Rattle.marks.specs.declared.driven.Place.{Place}
+use Rattle.marks.specs.declared.inner.Place.{Place}
 use Rattle.books.specs.Chunks.{chunkAt}
 use Rattle.marks.specs.Driven.{Walked, Holds}
 
@@ -80,7 +80,7 @@ module _ (s : List Bool) (place : Place) (rank : Rank) (h : Holds s place rank) 
   left-in = omega (arith, h .reached, h .held)
 
   pub place-in : place .done .0 < length s
-  place-in = behind s (place .done .0) (rank .0) (omega (arith, h .walked, h .reached)) (omega (arith, h .walked, h .held, rank-next s (place .done .0), count-part (place .done .0 + 64) s))
+  place-in = behind s (place .done .0) (rank .0) (omega (arith, h .walked .0, h .reached)) (omega (arith, h .walked .0, h .held, rank-next s (place .done .0), count-part (place .done .0 + 64) s))
 
   pub row-of : select s (rank .0) ≡ place .done .0 + select (bitsOf 64 (wordOf (chunkAt s (place .done .0)))) (rank .0 - place .passed .0)
   row-of =
@@ -90,10 +90,18 @@ module _ (s : List Bool) (place : Place) (rank : Rank) (h : Holds s place rank) 
       let k = rank .0 - place .passed .0 in
       let short : length c ≤ 64 = omega (arith, chunk-length s i) in
       ap (λ (t : List Bool). select t (rank .0)) (sym (take-append-drop i s))
-      ∙ select-skip a (drop i s) (rank .0) (omega (arith, h .walked, h .reached))
-      ∙ ap₂ (λ (x y : ℕ). x + select (drop i s) y) (length-take-le i s (omega (arith, place-in))) (ap (λ (y : ℕ). rank .0 - y) (sym (h .walked)))
+      ∙ select-skip a (drop i s) (rank .0) (omega (arith, h .walked .0, h .reached))
+      ∙ ap₂ (λ (x y : ℕ). x + select (drop i s) y) (length-take-le i s (omega (arith, place-in))) (ap (λ (y : ℕ). rank .0 - y) (sym (h .walked .0)))
       ∙ ap (λ (x : ℕ). i + x)
       (ap (λ (t : List Bool). select t k) (sym (take-append-drop 64 (drop i s))) ∙ select-in c (drop 64 (drop i s)) k left-in ∙ sym (select-word 64 c k short left-in))
+
+  -- the chunk is the one that has the row
+  pub row-chunk : place .done .0 ≡ select s (rank .0) / 64 * 64
+  row-chunk =
+      let c = chunkAt s (place .done .0) in
+      let k = rank .0 - place .passed .0 in
+      let short : length c ≤ 64 = omega (arith, chunk-length s (place .done .0)) in
+      omega (arith, row-of, select-word 64 c k short left-in, selects c k left-in .within, h .walked .1)
 
 -- ---- a loop over ranks
 

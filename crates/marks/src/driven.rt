@@ -12,18 +12,13 @@ ghost use Rattle.rows.specs.Lists.{listed, Ascending, setRows, select};
 ghost use Rattle.rows.specs.Laid.{laid, marked};
 ghost use Rattle.rows.specs.Asks.{Room, InView};
 ghost use Rattle.marks.specs.Driven.{HasRows, Walked, Holds};
+use super::inner::Place;
 use books::inner::mark_row;
 use books::inner::rank_chunk;
 use books::inner::self_chunk;
 use rows::Rank;
 use rows::Row;
 use word::inner::select_bit_position;
-
-// A place in the walk over self: the first row not passed, a chunk's first, and its rank, the set rows before it.
-pub struct Place {
-    pub done: Row,
-    pub passed: Rank,
-}
 
 // From a place that is not past the rank on, the place whose chunk holds it.
 pub fn seek(words: &[u64], start: u64, len: u64, from: Place, rank: Rank) -> Place

@@ -1,7 +1,7 @@
 // The kernels of routes 4, 5 and 6, with one promise: the composition is laid from bit at on. That part of the output is cleared first, and the
 // rows are marked in it.
 ghost use mathlib.Core.Path.{_≡_};
-ghost use Prim.Native.Nat.{_+_, _*_, _≤_, _<_};
+ghost use Prim.Native.Nat.{_+_, _*_, _/_, _≤_, _<_};
 ghost use lib.ListN.{length, drop};
 ghost use denote.Ref.{now};
 ghost use Rattle.rows.specs.Rows.{count, compose};
@@ -9,8 +9,7 @@ ghost use Rattle.rows.specs.Words.{bitsOfAll, view};
 ghost use Rattle.rows.specs.Lists.{listed, Ascending, select};
 ghost use Rattle.rows.specs.Laid.{laid};
 ghost use Rattle.rows.specs.Asks.{Room, InView};
-ghost use Rattle.marks.specs.Driven.{HasRows};
-use super::driven::Place;
+ghost use Rattle.marks.specs.Driven.{HasRows, Walked, Holds};
 use super::driven::intersect_mask_driven_list;
 use super::driven::intersect_mask_driven_words;
 use super::driven::row_in;
@@ -20,6 +19,33 @@ use super::lists::intersect_indices_by_rank_bits;
 use laid::inner::clear;
 use rows::Rank;
 use rows::Row;
+
+// A place in the walk over self: the first row not passed, a chunk's first, and its rank, the set rows before it.
+pub struct Place {
+    pub done: Row,
+    pub passed: Rank,
+}
+
+// The row of a rank, and the place whose chunk has it.
+pub struct Found {
+    pub row: Row,
+    pub place: Place,
+}
+
+// The row of a rank, sought from a place on that is not past it.
+pub fn row_from(words: &[u64], start: u64, len: u64, from: Place, rank: Rank) -> Found
+    requires { ⌜ HasRows start len (now words) × Walked (view start len (now words)) from
+        × (from .passed .0 ≤ rank .0) × (rank .0 < count (view start len (now words))) ⌝ }
+    ensures { λ r. ⌜ (r .row .0 ≡ select (view start len (now (words .entry))) (rank .0)) × (r .place .done .0 ≡ r .row .0 / 64 * 64)
+        × Holds (view start len (now (words .entry))) (r .place) rank ⌝ }
+{
+    let place = seek(words, start, len, from, rank);
+    let row = row_in(words, start, len, place, rank);
+    Found {
+        row: row,
+        place: place,
+    }
+}
 
 // The row of a rank in rows that lie from any bit on. The walk begins at the first of them.
 pub fn row_of(words: &[u64], start: u64, len: u64, rank: Rank) -> Row
