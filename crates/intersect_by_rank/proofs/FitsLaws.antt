@@ -77,7 +77,7 @@ in-words o w a = let v = by (o .form) w a in record { rows = v .0; inView = v .1
 
 -- ---- a list, or runs: its rows and its checks are of its numbers alone
 
-bare-rows : (o : Operand) → AsList o → rowsOf o ≡ rowsOf (lent (o .form) [] (o .numbers))
+pub bare-rows : (o : Operand) → AsList o → rowsOf o ≡ rowsOf (lent (o .form) [] (o .numbers))
 bare-rows o = by (o .form)
   where
     by : (f : Form) → countsAsList f ≡ true → rowsBy f o ≡ rowsBy f (lent f [] (o .numbers))
@@ -87,7 +87,7 @@ bare-rows o = by (o .form)
     by (Listed len) e = refl
     by (Runs len) e = refl
 
-bare-accepted : (o : Operand) → AsList o → Accepted o → Accepted (lent (o .form) [] (o .numbers))
+pub bare-accepted : (o : Operand) → AsList o → Accepted o → Accepted (lent (o .form) [] (o .numbers))
 bare-accepted o = by (o .form)
   where
     by : (f : Form) → countsAsList f ≡ true → Met (checksBy f 0 o) → Met (checksBy f 0 (lent f [] (o .numbers)))
@@ -202,3 +202,18 @@ kept-runs EntryIfSet f e = e
 kept-runs MaskDriven f e = e
 kept-runs (Gathered way) f e = e
 kept-runs (Read way) f e = e
+
+-- self is then a list, or runs, or in words
+pub kept-self : (q : Route) (s r : Operand) → keepsRuns q (r .form) ≡ true → Fits q s r → AsList s ⊎ InWords s
+kept-self RankMask s r e f = absurd (false≢true e)
+kept-self SelfMask s r e f = absurd (false≢true e)
+kept-self NoRows s r e f = absurd (false≢true e)
+kept-self EntryAtRank s r e f = inl (f .0)
+kept-self EntryIfSet s r e f = inl (f .0)
+kept-self MaskDriven s r e f = inr (f .0)
+kept-self (Gathered way) s r e f = inr (f .0)
+kept-self (Read way) s r e f = inr (f .0)
+
+pub self-in-words : (o : Operand) → AsList o ⊎ InWords o → countsAsList (o .form) ≡ false → InWords o
+self-in-words o (inl e) d = absurd (false≢true (sym d ∙ e))
+self-in-words o (inr w) d = w

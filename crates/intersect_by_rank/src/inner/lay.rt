@@ -2,6 +2,7 @@
 ghost use mathlib.Core.Path.{_≡_};
 ghost use mathlib.Core.Bool.{true, false};
 ghost use mathlib.Core.List.{[]};
+ghost use mathlib.Core.Logic.{_⊎_};
 ghost use Prim.Native.Nat.{_+_, _*_, _≤_};
 ghost use lib.ListN.{length, drop};
 ghost use denote.Ref.{now};
@@ -18,12 +19,14 @@ ghost use Rattle.rules.specs.Answer.{answered};
 ghost use Rattle.rules.specs.Compose.{Paired, result, routed};
 ghost use Rattle.operand.specs.Flat.{hasRuns};
 ghost use Rattle.operand.specs.Counts.{Counts};
-ghost use Rattle.intersect_by_rank.specs.Fits.{Fits, keepsRuns};
+ghost use Rattle.intersect_by_rank.specs.Fits.{Fits, InWords, keepsRuns};
 use deposits::inner::intersect_bit_buffer_by_rank_indices;
 use deposits::inner::intersect_bit_buffers;
-use kept::inner::keep_runs;
+use kept::inner::keep_words;
+use kept::inner::lay_entries_by_runs;
 use kept::inner::lay_entries_in_runs;
 use kept::inner::lay_ranks_under_runs;
+use kept::inner::lay_runs_in_runs;
 use laid::inner::clear;
 use marks::inner::lay_driven_by_list;
 use marks::inner::lay_driven_by_words;
@@ -32,6 +35,7 @@ use marks::inner::lay_entry_if_set;
 use mask::inner::lay::lay_rows;
 use operand::inner::answers::accepted;
 use operand::inner::counts::Counted;
+use operand::inner::forms::counts_as_list;
 use operand::inner::forms::has_row_numbers;
 use operand::inner::forms::has_runs;
 use operand::inner::forms::length_of;
@@ -159,13 +163,55 @@ fn keeps_runs(route: Route, r: Form) -> bool
     }
 }
 
-// The rank mask is runs: self is laid, in any form, and what each run of ranks has of it is kept.
-fn keep_ranks(s: Form, swords: &[u64], srows: &[u32], rruns: &[u32], at: u64, out: &mut [u64])
-    requires { ⌜ Accepted (lent s (now swords) (now srows)) × Apart 0 (countOf (lent s (now swords) (now srows))) (now rruns) × Room at (lengthOf s) (now out) ⌝ }
+// Self is words and the rank mask runs: self is laid, and what each run of ranks has of it is kept.
+fn keep_in_words(
+    s: Form,
+    swords: &[u64],
+    srows: &[u32],
+    rruns: &[u32],
+    at: u64,
+    out: &mut [u64],
+)
+    requires { ⌜ Accepted (lent s (now swords) (now srows)) × InWords (lent s (now swords) (now srows))
+        × Apart 0 (countOf (lent s (now swords) (now srows))) (now rruns) × Room at (lengthOf s) (now out) ⌝ }
     ensures { λ _. ⌜ now (out .exit) ≡ laid at (compose (rowsOf (lent s (now (swords .entry)) (now (srows .entry)))) (inRuns (countOf (lent s (now (swords .entry)) (now (srows .entry)))) (now (rruns .entry)))) (now (out .entry)) ⌝ }
 {
     lay_rows(s, swords, srows, at, out);
-    keep_runs(rruns, length_of(s), at, out);
+    keep_words(swords, start_of(s), length_of(s), rruns, at, out);
+}
+
+// Self is a list, or runs, and the rank mask runs.
+fn keep_in_list(s: Form, srows: &[u32], rruns: &[u32], at: u64, out: &mut [u64])
+    requires { ⌜ Accepted (lent s [] (now srows)) × (countsAsList s ≡ true)
+        × Apart 0 (countOf (lent s [] (now srows))) (now rruns) × Room at (lengthOf s) (now out) ⌝ }
+    ensures { λ _. ⌜ now (out .exit) ≡ laid at (compose (rowsOf (lent s [] (now (srows .entry)))) (inRuns (countOf (lent s [] (now (srows .entry)))) (now (rruns .entry)))) (now (out .entry)) ⌝ }
+{
+    let len = length_of(s);
+    if has_runs(s) {
+        lay_runs_in_runs(srows, rruns, len, at, out);
+        return;
+    }
+    lay_entries_by_runs(srows, rruns, len, at, out);
+}
+
+// The rank mask is runs: a kernel for each form of self.
+fn keep_ranks(
+    s: Form,
+    swords: &[u64],
+    srows: &[u32],
+    rruns: &[u32],
+    at: u64,
+    out: &mut [u64],
+)
+    requires { ⌜ Accepted (lent s (now swords) (now srows)) × ((countsAsList s ≡ true) ⊎ InWords (lent s (now swords) (now srows)))
+        × Apart 0 (countOf (lent s (now swords) (now srows))) (now rruns) × Room at (lengthOf s) (now out) ⌝ }
+    ensures { λ _. ⌜ now (out .exit) ≡ laid at (compose (rowsOf (lent s (now (swords .entry)) (now (srows .entry)))) (inRuns (countOf (lent s (now (swords .entry)) (now (srows .entry)))) (now (rruns .entry)))) (now (out .entry)) ⌝ }
+{
+    if counts_as_list(s) {
+        keep_in_list(s, srows, rruns, at, out);
+        return;
+    }
+    keep_in_words(s, swords, srows, rruns, at, out);
 }
 
 // The composition of two accepted operands laid from bit at on, whatever their forms are.

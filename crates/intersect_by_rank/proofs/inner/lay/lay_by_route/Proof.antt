@@ -8,7 +8,8 @@ use borrow.Author.Needs.{needs}
 use Rattle.rows.specs.Laid.{laid}
 use Rattle.rules.specs.Operand.{Operand, lent}
 use Rattle.operand.specs.Flat.{hasRuns}
-use Rattle.intersect_by_rank.proofs.FitsLaws.{kept-runs, runs-apart, runs-kept}
+use Rattle.intersect_by_rank.specs.Fits.{keepsRuns}
+use Rattle.intersect_by_rank.proofs.FitsLaws.{kept-runs, kept-self, runs-apart, runs-kept}
 use Rattle.intersect_by_rank.proofs.inner.lay.lay_by_route.Statement.{statement}
 use Rattle.intersect_by_rank.proofs.inner.lay.lay_by_route.Tie as tie
 
@@ -32,8 +33,15 @@ module _ (c : tie.Start) where
   abbrev rank : Operand
   rank = lent (c .args .r) (now (c .args .rwords)) (now (c .args .rrows))
 
-keeping : (c : tie.Then1) → hasRuns (rank (start (c .before)) .form) ≡ true
-keeping c = let s = start (c .before) in kept-runs (s .args .route) (s .args .r) (sym (c .before .keeps-runs .ensures) ∙ c .if1 .taken)
+module _ (c : tie.Then1) where
+  abbrev s : tie.Start
+  s = start (c .before)
+
+  told : keepsRuns (s .args .route) (s .args .r) ≡ true
+  told = sym (c .before .keeps-runs .ensures) ∙ c .if1 .taken
+
+  keeping : hasRuns (rank s .form) ≡ true
+  keeping = kept-runs (s .args .route) (s .args .r) told
 
 -- ---- the answers
 
@@ -43,8 +51,9 @@ keeps-runs-requires c κs = search needs
 keep-ranks-requires : tie.Need-keep-ranks-requires
 keep-ranks-requires c κs =
     let t = c .before in
-    let s = start (t .before) in
-    (s .pre .0 .self, runs-apart (self s) (rank s) (s .pre .0) (keeping t), s .pre .2)
+    let p = s t .pre in
+    let form = kept-self (s t .args .route) (self (s t)) (rank (s t)) (told t) (p .1) in
+    (p .0 .self, form, runs-apart (self (s t)) (rank (s t)) (p .0) (keeping t), p .2)
 
 same-length : tie.Need-same-length
 same-length c = search needs
@@ -53,15 +62,15 @@ returns : tie.Need-returns
 returns c =
     let k = c .before .before in
     let t = k .before .before in
-    let s = start (t .before) in
+    let a = s t .args in
     k .keep-ranks .ensures
-    ∙ ap (λ (z : List Bool). laid (s .args .at) z (now (s .args .out))) (runs-kept (self s) (rank s) (s .pre .0) (keeping t))
+    ∙ ap (λ (z : List Bool). laid (a .at) z (now (a .out))) (runs-kept (self (s t)) (rank (s t)) (s t .pre .0) (keeping t))
 
 compose-at-requires : tie.Need-compose-at-requires
 compose-at-requires c κs =
     let e = c .before in
-    let s = start (e .before) in
-    (s .pre .0, s .pre .1, s .pre .2, sym (e .before .keeps-runs .ensures) ∙ e .if1 .left)
+    let p = start (e .before) .pre in
+    (p .0, p .1, p .2, sym (e .before .keeps-runs .ensures) ∙ e .if1 .left)
 
 same-length-2 : tie.Need-same-length-2
 same-length-2 c = search needs
