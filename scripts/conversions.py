@@ -268,9 +268,21 @@ def lists_of_no_entries(dice):
     return cases
 
 
+def near_the_top():
+    """Length and numbers, of which one or more are near 2^32, in each place."""
+    faulty = []
+    for place in range(4):
+        for length, near in ((10, TOP - 1), (LIMIT, TOP)):
+            rows = [2, 4, 6, 8]
+            rows[place] = near
+            faulty.append((length, rows))
+    ends = [[TOP], [TOP, TOP], [0, TOP], [TOP, 0], [TOP - 1, TOP], [2, 4, TOP - 1, TOP], [2, 4, 6, 8, TOP]]
+    return faulty + [(LIMIT, rows) for rows in ends]
+
+
 def faulty_runs():
     """Length and numbers: each fault of 14 alone and beside others, at the first run and at a later one."""
-    faulty = [
+    return [
         # a number without its pair
         (10, [3]),
         (10, [3, 5, 7]),
@@ -309,19 +321,12 @@ def faulty_runs():
         (10, [3, 5, 5, 11]),
         (10, [12, 11]),
     ]
-    for place in range(4):
-        for length, near in ((10, TOP - 1), (LIMIT, TOP)):
-            rows = [2, 4, 6, 8]
-            rows[place] = near
-            faulty.append((length, rows))
-    ends = [[TOP], [TOP, TOP], [0, TOP], [TOP, 0], [TOP - 1, TOP], [2, 4, TOP - 1, TOP], [2, 4, 6, 8, TOP]]
-    return faulty + [(LIMIT, rows) for rows in ends]
 
 
 def bad_runs(dice):
     """14 of the fault alone; and 1 of the same numbers where the length is over the limit too."""
     cases = []
-    for number, (length, rows) in enumerate(faulty_runs()):
+    for number, (length, rows) in enumerate(faulty_runs() + near_the_top()):
         operand = Operand(RUNS, length, rows=rows)
         assert refusal_of(operand) == 14
         cases += [Case(operation, operand, ones(operation, 3)) for operation in OPERATIONS]
@@ -468,7 +473,7 @@ def at_the_limit_to_runs(dice):
         spots[row // 64] += 2 ** (row % 64)
     views = [Operand(WORDS, LIMIT, start, sum(in_view(spots, start, LIMIT)), spots) for start in STARTS]
     cases = [Case(TO_RUNS, view, ones(TO_RUNS, 16)) for view in views]
-    # Of the first seven runs, two of them across the ends of words.
+    # The first view has seven runs, two of them across a word's end.
     cases += [Case(TO_RUNS, views[0], ones(TO_RUNS, room)) for room in (14, 13)]
     operands = [Operand(WORDS, LIMIT, 17, LIMIT, [FULL] * (size + 1)), Operand(NONE, LIMIT)]
     operands.append(Operand(WORDS, LIMIT, 0, 2048, [0] * (size - 64) + [0xAAAAAAAAAAAAAAAA] * 64))

@@ -610,14 +610,34 @@ def shorter_after_too_long(dice):
     return cases
 
 
+BAD_STATE, NEAR = State(9, 10, 3), State(LIMIT - 5, 7, 7)
+
+
+def orders_of_runs():
+    """14 after 10, beside the other operand's numbers, and before 7, 11 and 8; feeds of right runs are refused with these."""
+    ones, run = Operand(ALL, 10), Operand(RUNS, 10, rows=[0, 10])
+    touching, unpaired = Operand(RUNS, 10, rows=[3, 5, 5, 7]), Operand(RUNS, 10, rows=[3])
+    return [
+        (Feed(BAD_STATE, touching, unpaired), (10, 0)),
+        (Feed(None, touching, Operand(LIST, 10, rows=[3, 3])), (14, 1)),
+        (Feed(NEAR, unpaired, touching), (14, 1)),
+        (Feed(None, Operand(LIST, 10, rows=[3, 10]), touching), (6, 1)),
+        (Feed(None, Operand(RUNS, LIMIT + 1, rows=[5, 5]), touching), (1, 1)),
+        (Feed(NEAR, ones, touching), (14, 2)),
+        (Feed(None, ones, Operand(RUNS, 9, rows=[3, TOP])), (14, 2)),
+        (Feed(None, run, Operand(RUNS, 10, rows=[0, 11])), (14, 2)),
+        (Feed(NEAR, run, Operand(RUNS, 9, rows=[0, 9])), (7, 0)),
+        (Feed(NEAR, run, Operand(RUNS, 10, rows=[2, 4])), (11, 0)),
+        (Feed(State(120, 0, 0), run, run), (8, 0)),
+    ]
+
+
 def orders(dice):
     """Where more than one refusal holds the first is told: 10, operand 1, operand 2, 7, 11, 8."""
-    bad_state, near = State(9, 10, 3), State(LIMIT - 5, 7, 7)
+    bad_state, near = BAD_STATE, NEAR
     ones, none = Operand(ALL, 10), Operand(NONE, 10)
     no_order, past = Operand(LIST, 10, rows=[3, 3]), Operand(LIST, 10, rows=[3, 10])
     wrong = Operand(WORDS, 10, 3, 2**64 - 1, [FULL])
-    touching, unpaired = Operand(RUNS, 10, rows=[3, 5, 5, 7]), Operand(RUNS, 10, rows=[3])
-    run = Operand(RUNS, 10, rows=[0, 10])
     feeds = [
         (Feed(bad_state, ones, none), (10, 0)),
         (Feed(bad_state, no_order, past), (10, 0)),
@@ -635,24 +655,13 @@ def orders(dice):
         (Feed(near, ones, Operand(ALL, 9)), (7, 0)),
         (Feed(State(LIMIT, 0, 0), ones, Operand(NONE, 11)), (7, 0)),
         (Feed(None, Operand(ALL, 300), Operand(ALL, 299)), (7, 0)),
-        (Feed(bad_state, touching, unpaired), (10, 0)),
-        (Feed(None, touching, no_order), (14, 1)),
-        (Feed(near, unpaired, touching), (14, 1)),
-        (Feed(None, past, touching), (6, 1)),
-        (Feed(None, Operand(RUNS, LIMIT + 1, rows=[5, 5]), touching), (1, 1)),
         (Feed(near, ones, no_order), (5, 2)),
-        (Feed(near, ones, touching), (14, 2)),
-        (Feed(None, ones, Operand(RUNS, 9, rows=[3, TOP])), (14, 2)),
-        (Feed(None, run, Operand(RUNS, 10, rows=[0, 11])), (14, 2)),
-        (Feed(near, run, Operand(RUNS, 9, rows=[0, 9])), (7, 0)),
-        (Feed(near, run, Operand(RUNS, 10, rows=[2, 4])), (11, 0)),
-        (Feed(State(120, 0, 0), run, run), (8, 0)),
         (Feed(near, ones, none), (11, 0)),
         (Feed(near, Operand(NONE, 5), NO_ROWS), (8, 0)),
         (Feed(State(70, 0, 0), Operand(NONE, 59), NO_ROWS), (8, 0)),
     ]
     cases = []
-    for feed, expected in feeds:
+    for feed, expected in feeds + orders_of_runs():
         for room in (2, 0):
             state = feed.given or FRESH
             assert refusal_to(state, feed, room) == expected, expected
