@@ -165,7 +165,8 @@ module _ (ranks : List ℕ) (rank n row at : ℕ) where
           }
 
       -- it ends in the run, or before it
-      pub windowing-stop : then ≡ marked at part out → rank + n ≤ past → Reached ranks i (rank + n) × (then ≡ marked at (setRows row (window rank n ranks)) out₀)
+      pub windowing-stop : then ≡ marked at part out → rank + n ≤ past
+          → Reached ranks i (rank + n) × (then ≡ marked at (setRows row (window rank n ranks)) out₀)
       windowing-stop t k =
           let r = windowing-next h in
           let none : rest (i + 2) ≡ [] =
