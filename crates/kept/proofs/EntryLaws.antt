@@ -7,7 +7,7 @@ use native.Mathlib.Numerals.{add-one}
 use native.Mathlib.Decide.{decLt}
 use mathlib.Core.Path.{_≡_, refl, sym, ap, ap₂, _∙_, subst}
 use mathlib.Core.Bool.{Bool, true, false}
-use mathlib.Core.List.{List, [], _∷_, _++_, map, map-append, append-nil, append-assoc}
+use mathlib.Core.List.{List, [], _∷_, _++_, map, map-append, append-assoc}
 use native.Mathlib.Omega.{arith}
 use lib.ListN.{length, drop, getD, replicate, length-append, length-replicate, drop-of-length-le}
 use lib.Seq.{drop-cons}
@@ -63,7 +63,8 @@ module _ (ranks : List ℕ) (row : ℕ → ℕ) (at next end from : ℕ) (out₀
             ahead = ascending-in from (suc rank) (2 ^ 32) (2 ^ 32) (drop (past + 1) ranks) (omega (arith, a .0)) (omega arith) (a .2);
             marks =
                 e ∙ ap (laid (at + row rank) (true ∷ [])) (t .marks)
-                ∙ sym (ap (λ (rs : List ℕ). marked at rs out₀) (map-append row (t .taken) (rank ∷ [])) ∙ marked-append at (map row (t .taken)) (row rank ∷ []) out₀);
+                ∙ sym (ap (λ (rs : List ℕ). marked at rs out₀) (map-append row (t .taken) (rank ∷ []))
+                ∙ marked-append at (map row (t .taken)) (row rank ∷ []) out₀);
           }
 
     -- the others are left to the runs behind it
