@@ -1,89 +1,63 @@
-// The row of a rank in runs: they are walked by their lengths to the run that holds the rank, and from its first row on the rows are counted off.
+// A list as self or as the rank mask, and the other in runs. Of a rank list each run of self takes the ranks that it has, one after the other; of a
+// list as self each run of ranks is a part, from the entry of its first rank to that of its last.
 ghost use mathlib.Core.Path.{_≡_};
-ghost use mathlib.Core.Bool.{true};
-ghost use mathlib.Core.List.{[], _∷_};
-ghost use Prim.Native.Nat.{_+_, _-_, _≤_, _<_};
+ghost use Prim.Native.Nat.{_+_, _-_, _^_, _≤_};
 ghost use lib.ListN.{length, take, drop};
 ghost use denote.Ref.{now};
 ghost use Rattle.rows.specs.Rows.{count, compose};
 ghost use Rattle.rows.specs.Words.{Below};
-ghost use Rattle.rows.specs.Lists.{listed, Ascending, setRows, select};
+ghost use Rattle.rows.specs.Lists.{listed, Ascending, setRows};
 ghost use Rattle.rows.specs.Runs.{inRuns, runLengths, Apart};
-ghost use Rattle.rows.specs.Laid.{laid, marked};
+ghost use Rattle.rows.specs.Laid.{marked};
 ghost use Rattle.rows.specs.Asks.{Room};
-ghost use Rattle.kept.specs.Places.{Passed, Holds};
+ghost use Rattle.kept.specs.Taken.{Taken};
 use books::inner::mark_row;
 use rows::Rank;
 use rows::Row;
 
-// A place in the walk over runs: the number of the first run not passed, and the rank of its first row.
-pub struct Place {
-    pub run: usize,
-    pub passed: Rank,
-}
-
-// From a place that is not past the rank on, the place whose run holds it.
-fn seek_run(runs: &[u32], len: u64, from: Place, rank: Rank) -> Place
-    requires { ⌜ Apart 0 len (now runs) × (len ≤ 1048576) × Passed (now runs) from × (from .passed .0 ≤ rank .0) × (rank .0 < runLengths (now runs)) ⌝ }
-    ensures { λ r. ⌜ Holds (now (runs .entry)) r rank ⌝ }
+// The listed ranks from number next on that a run has, marked: its first row has rank passed, and the rank behind its last is end. Which is the
+// first that it has not.
+fn mark_in_run(
+    ranks: &[u32],
+    next: usize,
+    first: Row,
+    passed: Rank,
+    end: Rank,
+    at: u64,
+    out: &mut [u64],
+) -> usize
+    requires { ⌜ (next ≤ length (now ranks)) × Ascending (passed .0) (2 ^ 32) (drop next (now ranks)) × Room at (first .0 + (end .0 - passed .0)) (now out) ⌝ }
+    ensures { λ r. ⌜ Taken (now (ranks .entry)) (λ k. first .0 + (k - passed .0)) at next r (end .0) (end .0) (now (out .entry)) (now (out .exit)) ⌝ }
 {
-    let mut run = from.run;
-    let mut passed = from.passed.0;
-    loop {
-        let i = run * 2;
-        let first = runs[i] as u64;
-        let past = runs[i + 1] as u64;
-        let next = passed + (past - first);
-        if rank.0 < next {
-            return Place {
-                run: run,
-                passed: Rank(passed),
-            };
+    let mut i = next;
+    while i < ranks.len() {
+        let entry = ranks[i] as u64;
+        if entry >= end.0 {
+            return i;
         }
-        run += 1;
-        passed = next;
+        let row = first.0 + (entry - passed.0);
+        mark_row(out, at, Row(row));
+        i += 1;
     }
+    i
 }
 
-// The row of a rank that the run at the place holds.
-fn row_in_run(runs: &[u32], len: u64, place: Place, rank: Rank) -> Row
-    requires { ⌜ Apart 0 len (now runs) × (len ≤ 1048576) × Holds (now runs) place rank ⌝ }
-    ensures { λ r. ⌜ r .0 ≡ select (inRuns len (now (runs .entry))) (rank .0) ⌝ }
-{
-    let i = place.run * 2;
-    let first = runs[i] as u64;
-    let row = first + (rank.0 - place.passed.0);
-    Row(row)
-}
-
-// The row of one rank marked, and the place where the walk stands then.
-fn mark_entry(runs: &[u32], len: u64, from: Place, rank: Rank, at: u64, out: &mut [u64]) -> Place
-    requires { ⌜ Apart 0 len (now runs) × (len ≤ 1048576) × Room at len (now out) × Passed (now runs) from
-        × (from .passed .0 ≤ rank .0) × (rank .0 < runLengths (now runs)) ⌝ }
-    ensures { λ r. ⌜ Passed (now (runs .entry)) r × (r .passed .0 ≤ rank .0)
-        × (now (out .exit) ≡ laid (at + select (inRuns len (now (runs .entry))) (rank .0)) (true ∷ []) (now (out .entry))) ⌝ }
-{
-    let place = seek_run(runs, len, from, rank);
-    let row = row_in_run(runs, len, place, rank);
-    mark_row(out, at, row);
-    place
-}
-
-// Self's rows at the listed ranks, marked: row 0 of self at bit at.
+// Self's rows at the listed ranks, marked, run by run: row 0 of self at bit at. While a rank is left, so is a run that has it.
 pub fn mark_entries(runs: &[u32], ranks: &[u32], len: u64, at: u64, out: &mut [u64])
     requires { ⌜ Apart 0 len (now runs) × Ascending 0 (runLengths (now runs)) (now ranks) × (len ≤ 1048576) × Room at len (now out) ⌝ }
     ensures { λ _. ⌜ now (out .exit) ≡ marked at (setRows 0 (compose (inRuns len (now (runs .entry)))
         (listed (runLengths (now (runs .entry))) (now (ranks .entry))))) (now (out .entry)) ⌝ }
 {
-    let mut place = Place {
-        run: 0,
-        passed: Rank(0),
-    };
+    let mut passed: u64 = 0;
+    let mut next: usize = 0;
     let mut i: usize = 0;
-    while i < ranks.len() {
-        let entry = ranks[i] as u64;
-        place = mark_entry(runs, len, place, Rank(entry), at, out);
-        i += 1;
+    while next < ranks.len() {
+        let first = runs[i] as u64;
+        let past = runs[i + 1] as u64;
+        let end = passed + (past - first);
+        next = mark_in_run(ranks, next, Row(first), Rank(passed), Rank(end), at, out);
+        passed = end;
+        i += 2;
     }
 }
 

@@ -73,7 +73,7 @@ pub fn lay_runs(runs: &[u32], len: u64, at: u64, out: &mut [u64])
     requires { ⌜ Apart 0 len (now runs) × Room at len (now out) ⌝ }
     ensures { λ _. ⌜ now (out .exit) ≡ laid at (inRuns len (now (runs .entry))) (now (out .entry)) ⌝ }
 {
-    if runs.len() as u64 > len / 1024 {
+    if runs.len() as u64 > len / 4096 {
         fill_runs(runs, len, at, out);
         return;
     }

@@ -1,28 +1,35 @@
 -- `kept::entries::mark_entries` meets its contract.
--- The invariant: the ranks from i on are left. Assumes nothing.
-use Prim.Native.Nat.{ℕ, _+_, _-_, _≤_}
+-- The invariant: the runs from number i on are left, and the ranks from number next on. Assumes nothing.
+use Prim.Native.Nat.{ℕ, _+_, _-_, _^_, _≤_, _<_}
 use mathlib.Core.Path.{_≡_, refl, sym, ap, _∙_}
-use mathlib.Core.Bool.{true}
-use mathlib.Core.List.{List, [], _∷_, map}
-use native.Mathlib.Numerals.{add-one}
+use mathlib.Core.List.{List, map}
 use native.Mathlib.Omega.{arith}
-use lib.ListN.{length, drop, getD, drop-of-length-le}
-use lib.Seq.{drop-cons}
+use lib.ListN.{length, getD}
 use denote.Ref.{now}
 use Rattle.rows.specs.Lists.{select}
 use Rattle.rows.specs.Runs.{inRuns}
 use Rattle.rows.specs.Laid.{marked}
-use Rattle.rows.proofs.LaidLaws.{laid-length}
-use Rattle.kept.proofs.EntryLaws.{Left, left-turn, entry-rows}
+use Rattle.rows.proofs.RunTurnLaws.{NextRun}
+use Rattle.kept.proofs.EntryLaws.{
+  taken-length,
+  walk-next,
+  walk-few,
+  Marking,
+  marking-none,
+  marking-on,
+  marking-run,
+  marking-all,
+  entry-rows,
+}
 use Rattle.kept.proofs.entries.mark_entries.Statement.{statement}
 use Rattle.kept.proofs.entries.mark_entries.Tie as tie
 
 abbrev Inv-loop : tie.InvT-loop
-Inv-loop runs ranks len at out₀ place₀ i₀ out place i =
-    (i ≤ length ranks) × (length out ≡ length out₀) × Left runs len at place (drop i ranks) out (marked at (map (select (inRuns len runs)) ranks) out₀)
+Inv-loop runs ranks len at out₀ passed₀ next₀ i₀ out passed next i =
+    (length out ≡ length out₀) × Marking runs ranks len at i next passed out (marked at (map (select (inRuns len runs)) ranks) out₀)
 
 abbrev μ-loop : tie.MeasureT-loop
-μ-loop runs ranks len at out₀ place₀ i₀ out place i = length ranks - i
+μ-loop runs ranks len at out₀ passed₀ next₀ i₀ out passed next i = length runs - i
 
 -- ---- the places, each from the one after it
 
@@ -35,90 +42,141 @@ start c = entry (c .before)
 abbrev head : tie.In-loop Inv-loop μ-loop → tie.At-loop Inv-loop μ-loop
 head c = c .before
 
-abbrev turn : tie.After-mark-entry-arg Inv-loop μ-loop → tie.In-loop Inv-loop μ-loop
-turn c = c .before .before
+abbrev both : tie.After-shared-slice-known4 Inv-loop μ-loop → tie.In-loop Inv-loop μ-loop
+both c = c .before .before
 
-abbrev back : tie.After-slice-known2 Inv-loop μ-loop → tie.After-mark-entry Inv-loop μ-loop
+abbrev turn : tie.After-mark-in-run Inv-loop μ-loop → tie.In-loop Inv-loop μ-loop
+turn c = both (c .before .before)
+
+abbrev back : tie.After-slice-known2 Inv-loop μ-loop → tie.After-mark-in-run Inv-loop μ-loop
 back c = c .before .before
 
--- ---- a turn: its rank is the first that is left
+-- ---- what is walked
 
-module _ (c : tie.In-loop Inv-loop μ-loop) where
-  abbrev s : tie.Start Inv-loop μ-loop
-  s = start (head c)
-
+module _ (c : tie.At-loop Inv-loop μ-loop) where
   abbrev runs : List ℕ
-  runs = now (s .args .runs)
+  runs = now (start c .args .runs)
 
   abbrev ranks : List ℕ
-  ranks = now (s .args .ranks)
-
-  abbrev rank : ℕ
-  rank = getD ranks (head c .loop .i) 0
-
-  abbrev others : List ℕ
-  others = drop (head c .loop .i + 1) ranks
+  ranks = now (start c .args .ranks)
 
   -- the output once all ranks are marked
   abbrev goal : List ℕ
-  goal = marked (s .args .at) (map (select (inRuns (s .args .len) runs)) ranks) (now (s .args .out))
+  goal = marked (start c .args .at) (map (select (inRuns (start c .args .len) runs)) ranks) (now (start c .args .out))
 
-  left : Left runs (s .args .len) (s .args .at) (head c .loop .place) (rank ∷ others) (head c .loop .out) goal
-  left = rw (add-one (head c .loop .i)) (rw (drop-cons ranks (head c .loop .i) 0 (omega arith)) at (head c .loop .inv .2))
+-- ---- a turn's run
+
+module _ (c : tie.In-loop Inv-loop μ-loop) where
+  abbrev h : tie.At-loop Inv-loop μ-loop
+  h = head c
+
+  abbrev s : tie.Start Inv-loop μ-loop
+  s = start (head c)
+
+  abbrev i : ℕ
+  i = head c .loop .i
+
+  abbrev passed : ℕ
+  passed = head c .loop .passed
+
+  abbrev first : ℕ
+  first = getD (runs (head c)) i 0
+
+  abbrev own : ℕ
+  own = getD (runs (head c)) (i + 1) 0 - first
+
+  there : i < length (runs h)
+  there =
+      let l = h .loop in
+      marking-on (runs h) (ranks h) (s .args .len) (s .args .at) i (l .next) passed (l .out) (goal h) (l .inv .1) (s .pre .0) (s .pre .1) (omega arith)
+
+  next : NextRun (h .loop .inv .1 .walk .row) (s .args .len) i (runs h)
+  next = walk-next (runs h) (s .args .len) i passed (h .loop .inv .1 .walk) there
+
+  -- the number of the run behind it is a number
+  fits : i + 2 < 2 ^ 64
+  fits = omega (arith, next .pair)
+
+  few : passed + own ≤ s .args .len
+  few = walk-few (runs h) (s .args .len) i passed (h .loop .inv .1 .walk) there
 
 -- ---- the answers
 
 loop-holds : tie.Need-loop-holds Inv-loop μ-loop
-loop-holds c = (omega arith, refl, record { passed = refl; ahead = entry c .pre .1; marks = refl })
+loop-holds c =
+    let s = entry c in
+    let a = s .args in
+    (refl, marking-none (now (a .runs)) (now (a .ranks)) (a .len) (a .at) (now (a .out)) (s .pre .0) (s .pre .2) (s .pre .1))
 
-mul-entry : tie.Need-mul-entry Inv-loop μ-loop
-mul-entry c = omega arith
+mul-first : tie.Need-mul-first Inv-loop μ-loop
+mul-first c = omega (arith, there c)
 
-shared-slice-read-entry : tie.Need-shared-slice-read-entry Inv-loop μ-loop
-shared-slice-read-entry c = omega arith
+shared-slice-read-first : tie.Need-shared-slice-read-first Inv-loop μ-loop
+shared-slice-read-first c = there (c .before)
 
-cast-entry : tie.Need-cast-entry Inv-loop μ-loop
-cast-entry c = omega (arith, c .shared-slice-known3 .given (c .before .before .loop .i))
+cast-first : tie.Need-cast-first Inv-loop μ-loop
+cast-first c = omega (arith, c .shared-slice-known3 .given (i (c .before)))
 
-mark-entry-requires : tie.Need-mark-entry-requires Inv-loop μ-loop
-mark-entry-requires c κs =
-    let t = turn c in
-    let l = left t in
-    let pre = s t .pre in
-    (pre .0, pre .2, (omega (arith, head t .loop .inv .1, pre .3 .0), pre .3 .1), l .passed, l .ahead .0, l .ahead .1)
+add-past : tie.Need-add-past Inv-loop μ-loop
+add-past c = omega (arith, next (c .before) .pair)
+
+mul-past : tie.Need-mul-past Inv-loop μ-loop
+mul-past c = omega (arith, next (c .before) .pair)
+
+shared-slice-read-past : tie.Need-shared-slice-read-past Inv-loop μ-loop
+shared-slice-read-past c = next (both c) .pair
+
+cast-past : tie.Need-cast-past Inv-loop μ-loop
+cast-past c = omega (arith, c .shared-slice-known4 .given (i (both c) + 1))
+
+sub-end : tie.Need-sub-end Inv-loop μ-loop
+sub-end c = omega (arith, next (both c) .some)
+
+add-end : tie.Need-add-end Inv-loop μ-loop
+add-end c = omega (arith, few (both c), s (both c) .pre .2)
+
+mark-in-run-requires : tie.Need-mark-in-run-requires Inv-loop μ-loop
+mark-in-run-requires c κs =
+    let t = both (c .before) in
+    let l = head t .loop in
+    let room = s t .pre .3 in
+    let r = next t in
+    let upto : first t + (passed t + own t - passed t) ≤ s t .args .len = omega (arith, r .some, r .within) in (
+      l .inv .1 .within,
+      l .inv .1 .ahead,
+      (omega (arith, upto, l .inv .0, room .0), omega (arith, upto, room .1)),
+    )
 
 add-i : tie.Need-add-i Inv-loop μ-loop
-add-i c = omega arith
+add-i c = omega (arith, fits (turn (back c)))
 
 loop-less : tie.Need-loop-less Inv-loop μ-loop
-loop-less c = omega arith
+loop-less c = omega (arith, there (turn (back c)))
 
 loop-again : tie.Need-loop-again Inv-loop μ-loop
 loop-again c =
-    let t = turn (back c .before) in
+    let t = turn (back c) in
+    let k = head t in
     let a = s t .args in
-    let l = head t .loop in
-    let m = back c .mark-entry in
-    let place : ℕ = a .at + select (inRuns (a .len) (runs t)) (rank t) in (
-      omega arith,
-      ap length (m .ensures .2) ∙ laid-length 64 place (true ∷ []) (l .out) ∙ l .inv .1,
-      left-turn (runs t) (a .len) (a .at) (l .place) (m .result) (rank t) (others t) (l .out) _ (goal t) (left t)
-          (m .ensures .0) (m .ensures .1) (m .ensures .2),
+    let l = k .loop in
+    let row : ℕ → ℕ = λ r. first t + (r - passed t) in
+    let end : ℕ = passed t + own t in
+    let m = back c .mark-in-run in (
+      taken-length (ranks k) row (a .at) (l .next) end end (l .out) (m .result) _ (m .ensures) ∙ l .inv .0,
+      marking-run (runs k) (ranks k) (a .len) (a .at) (i t) (l .next) (passed t) (l .out) (goal k) (l .inv .1) (there t) (m .result) _ (m .ensures),
     )
 
 same-length : tie.Need-same-length Inv-loop μ-loop
-same-length c = c .before .loop .inv .1
+same-length c = c .before .loop .inv .0
 
 returns : tie.Need-returns Inv-loop μ-loop
 returns c =
-    let h = c .before in
-    let s = start h in
+    let k = c .before in
+    let s = start k in
     let a = s .args in
-    let ranks = now (a .ranks) in
-    let runs = now (a .runs) in
-    let none : drop (h .loop .i) ranks ≡ [] = drop-of-length-le ranks {i = h .loop .i} (omega arith) in
-    sym (ap (λ (rs : List ℕ). marked (a .at) (map (select (inRuns (a .len) runs)) rs) (h .loop .out)) none) ∙ h .loop .inv .2 .marks
-    ∙ ap (λ (rs : List ℕ). marked (a .at) rs (now (a .out))) (sym (entry-rows runs ranks (a .len) (s .pre .0) (s .pre .1)))
+    let l = k .loop in
+    marking-all (runs k) (ranks k) (a .len) (a .at) (l .i) (l .next) (l .passed) (l .out) (goal k) (l .inv .1) (omega arith)
+    ∙ ap (λ (rs : List ℕ). marked (a .at) rs (now (a .out))) (sym (entry-rows (runs k) (ranks k) (a .len) (s .pre .0) (s .pre .1)))
 
 pub mark-entries-spec : {M : Type 1} → statement M
 mark-entries-spec =
@@ -127,10 +185,16 @@ mark-entries-spec =
     Inv-loop
     μ-loop
     loop-holds
-    mul-entry
-    shared-slice-read-entry
-    cast-entry
-    mark-entry-requires
+    mul-first
+    shared-slice-read-first
+    cast-first
+    add-past
+    mul-past
+    shared-slice-read-past
+    cast-past
+    sub-end
+    add-end
+    mark-in-run-requires
     add-i
     loop-less
     loop-again
