@@ -164,14 +164,7 @@ fn keeps_runs(route: Route, r: Form) -> bool
 }
 
 // Self is words and the rank mask runs: self is laid, and what each run of ranks has of it is kept.
-fn keep_in_words(
-    s: Form,
-    swords: &[u64],
-    srows: &[u32],
-    rruns: &[u32],
-    at: u64,
-    out: &mut [u64],
-)
+fn keep_in_words(s: Form, swords: &[u64], srows: &[u32], rruns: &[u32], at: u64, out: &mut [u64])
     requires { ⌜ Accepted (lent s (now swords) (now srows)) × InWords (lent s (now swords) (now srows))
         × Apart 0 (countOf (lent s (now swords) (now srows))) (now rruns) × Room at (lengthOf s) (now out) ⌝ }
     ensures { λ _. ⌜ now (out .exit) ≡ laid at (compose (rowsOf (lent s (now (swords .entry)) (now (srows .entry)))) (inRuns (countOf (lent s (now (swords .entry)) (now (srows .entry)))) (now (rruns .entry)))) (now (out .entry)) ⌝ }
@@ -195,14 +188,7 @@ fn keep_in_list(s: Form, srows: &[u32], rruns: &[u32], at: u64, out: &mut [u64])
 }
 
 // The rank mask is runs: a kernel for each form of self.
-fn keep_ranks(
-    s: Form,
-    swords: &[u64],
-    srows: &[u32],
-    rruns: &[u32],
-    at: u64,
-    out: &mut [u64],
-)
+fn keep_ranks(s: Form, swords: &[u64], srows: &[u32], rruns: &[u32], at: u64, out: &mut [u64])
     requires { ⌜ Accepted (lent s (now swords) (now srows)) × ((countsAsList s ≡ true) ⊎ InWords (lent s (now swords) (now srows)))
         × Apart 0 (countOf (lent s (now swords) (now srows))) (now rruns) × Room at (lengthOf s) (now out) ⌝ }
     ensures { λ _. ⌜ now (out .exit) ≡ laid at (compose (rowsOf (lent s (now (swords .entry)) (now (srows .entry)))) (inRuns (countOf (lent s (now (swords .entry)) (now (srows .entry)))) (now (rruns .entry)))) (now (out .entry)) ⌝ }
