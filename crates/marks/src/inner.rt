@@ -1,7 +1,7 @@
 // The kernels of routes 4, 5 and 6, with one promise: the composition is laid from bit at on. That part of the output is cleared first, and the
 // rows are marked in it.
 ghost use mathlib.Core.Path.{_≡_};
-ghost use Prim.Native.Nat.{_+_, _*_, _/_, _≤_, _<_};
+ghost use Prim.Native.Nat.{_+_, _*_, _≤_, _<_};
 ghost use lib.ListN.{length, drop};
 ghost use denote.Ref.{now};
 ghost use Rattle.rows.specs.Rows.{count, compose};
@@ -9,7 +9,7 @@ ghost use Rattle.rows.specs.Words.{bitsOfAll, view};
 ghost use Rattle.rows.specs.Lists.{listed, Ascending, select};
 ghost use Rattle.rows.specs.Laid.{laid};
 ghost use Rattle.rows.specs.Asks.{Room, InView};
-ghost use Rattle.marks.specs.Driven.{HasRows, Walked, Holds};
+ghost use Rattle.marks.specs.Driven.{HasRows, Walked, foundAt};
 use super::driven::intersect_mask_driven_list;
 use super::driven::intersect_mask_driven_words;
 use super::driven::row_in;
@@ -36,8 +36,7 @@ pub struct Found {
 pub fn row_from(words: &[u64], start: u64, len: u64, from: Place, rank: Rank) -> Found
     requires { ⌜ HasRows start len (now words) × Walked (view start len (now words)) from
         × (from .passed .0 ≤ rank .0) × (rank .0 < count (view start len (now words))) ⌝ }
-    ensures { λ r. ⌜ (r .row .0 ≡ select (view start len (now (words .entry))) (rank .0)) × (r .place .done .0 ≡ r .row .0 / 64 * 64)
-        × Holds (view start len (now (words .entry))) (r .place) rank ⌝ }
+    ensures { λ r. ⌜ r ≡ foundAt (view start len (now (words .entry))) rank ⌝ }
 {
     let place = seek(words, start, len, from, rank);
     let row = row_in(words, start, len, place, rank);

@@ -10,10 +10,13 @@ use denote.Ref.{now}
 use borrow.Author.Needs.{needs}
 use Rattle.rows.specs.Rows.{count, rankAt}
 use Rattle.rows.specs.Words.{view}
+use Rattle.rows.specs.Lists.{select}
 use Rattle.rows.specs.Laid.{laid}
 use Rattle.rows.proofs.LaidLaws.{below-all}
 use Rattle.rows.proofs.RunTurnLaws.{NextRun}
+use Rattle.marks.specs.declared.inner.Found.{Found}
 use Rattle.marks.specs.Driven.{Walked}
+use Rattle.marks.proofs.DrivenLaws.{found-row, found-walked, found-reached}
 use Rattle.kept.proofs.KeepLaws.{
   Keeping,
   Spans,
@@ -121,14 +124,44 @@ module _ (c : tie.In-loop Inv-loop μ-loop) where
       let l = head c .loop in
       keeping-spans ranks (s .args .len) (s .args .at) self out (s .pre .2) (s .pre .1 .0) done i (rankAt self done) (l .sum) (l .out) (l .inv .0) (omega arith)
 
--- ---- behind the turn's run
+-- ---- the row of the run's first rank
+
+module _ (c : tie.After-row-from Inv-loop μ-loop) where
+  abbrev from : Found
+  from = c .row-from .result
+
+  from-row : from .row .0 ≡ select (self (turn c)) (first (turn c))
+  from-row = found-row (self (turn c)) (record { 0 = first (turn c) }) from (c .row-from .ensures)
+
+  from-walked : Walked (self (turn c)) (from .place)
+  from-walked = found-walked (self (turn c)) (record { 0 = first (turn c) }) from (c .row-from .ensures)
+
+  from-reached : from .place .passed .0 ≤ first (turn c)
+  from-reached =
+      let t = turn c in
+      found-reached (self t) (record { 0 = first t }) from (c .row-from .ensures) (omega (arith, next t .some, next t .within))
+
+-- ---- the row of its last, and what is behind it
 
 module _ (c : tie.After-struct-known2 Inv-loop μ-loop) where
   abbrev t : tie.In-loop Inv-loop μ-loop
   t = turn (around c)
 
+  abbrev to : Found
+  to = back c .row-from2 .result
+
+  to-row : to .row .0 ≡ select (self t) (past t - 1)
+  to-row = found-row (self t) (record { 0 = past t - 1 }) to (back c .row-from2 .ensures)
+
+  to-walked : Walked (self t) (to .place)
+  to-walked = found-walked (self t) (record { 0 = past t - 1 }) to (back c .row-from2 .ensures)
+
+  to-reached : to .place .passed .0 ≤ past t - 1
+  to-reached =
+      found-reached (self t) (record { 0 = past t - 1 }) to (back c .row-from2 .ensures) (omega (arith, next t .some, next t .within))
+
   abbrev behind : ℕ
-  behind = back c .row-from2 .result .row .0 + 1
+  behind = to .row .0 + 1
 
   abbrev then : List ℕ
   then = gone (back c .before) .clear-rows .last .0
@@ -140,9 +173,9 @@ module _ (c : tie.After-struct-known2 Inv-loop μ-loop) where
   kept =
       let l = head t .loop in
       keeping-rows (ranks t) (s t .args .len) (s t .args .at) (self t) (out t) (s t .pre .2) (s t .pre .1 .0) (done t) (i t) (rankAt (self t) (done t))
-      (l .sum) (l .out) (l .inv .0) (omega arith) behind then (ap (λ (n : ℕ). n + 1) (back c .row-from2 .ensures .0))
+      (l .sum) (l .out) (l .inv .0) (omega arith) behind then (ap (λ (n : ℕ). n + 1) to-row)
       (gone (back c .before) .clear-rows .ensures
-      ∙ ap (λ (n : ℕ). laid (s t .args .at + done t) (replicate (n - done t) false) (l .out)) (around c .row-from .ensures .0))
+      ∙ ap (λ (n : ℕ). laid (s t .args .at + done t) (replicate (n - done t) false) (l .out)) (from-row (around c)))
 
   rank : rankAt (self t) behind ≡ past t
   rank = keeping-rank (ranks t) (s t .args .len) (s t .args .at) (self t) (out t) (s t .pre .2) (s t .pre .1 .0) behind (i t + 2) (past t) sum then kept
@@ -190,14 +223,14 @@ row-from-requires c κs =
 sub-gap : tie.Need-sub-gap Inv-loop μ-loop
 sub-gap c =
     let f = c .before in
-    omega (arith, f .row-from .ensures .0, spans (turn f) .from)
+    omega (arith, from-row f, spans (turn f) .from)
 
 clear-rows-requires : tie.Need-clear-rows-requires Inv-loop μ-loop
 clear-rows-requires c κs =
     let f = sought c in
     let t = turn f in
     let room = s t .pre .1 in
-    let e = f .row-from .ensures .0 in
+    let e = from-row f in
     let r = spans t in
     (omega (arith, e, r .from, r .upto, r .within, head t .loop .inv .0 .progress .long, room .0), omega (arith, e, r .from, r .upto, r .within, room .1))
 
@@ -210,35 +243,33 @@ row-from-requires-2 c κs =
     let t = turn f in
     let in-words = s t .pre .0 in
     let r = next t in
-    let holds = f .row-from .ensures .2 in
-    ((in-words .0, in-words .2), holds .walked, omega (arith, holds .reached, r .some), omega (arith, r .some, r .within))
+    ((in-words .0, in-words .2), from-walked f, omega (arith, from-reached f, r .some), omega (arith, r .some, r .within))
 
 add-done : tie.Need-add-done Inv-loop μ-loop
 add-done c =
-    let t = turn (around c) in
-    omega (arith, back c .row-from2 .ensures .0, spans t .within, s t .pre .0 .0)
+    let k = t c in
+    omega (arith, to-row c, spans k .within, s k .pre .0 .0)
 
 sub-sum : tie.Need-sub-sum Inv-loop μ-loop
-sub-sum c = omega (arith, next (turn (around c)) .some)
+sub-sum c = omega (arith, next (t c) .some)
 
 add-sum : tie.Need-add-sum Inv-loop μ-loop
 add-sum c =
-    let t = turn (around c) in
-    omega (arith, few t, s t .pre .0 .0)
+    let k = t c in
+    omega (arith, few k, s k .pre .0 .0)
 
 add-i : tie.Need-add-i Inv-loop μ-loop
-add-i c = omega (arith, fits (turn (around c)))
+add-i c = omega (arith, fits (t c))
 
 loop-less : tie.Need-loop-less Inv-loop μ-loop
-loop-less c = omega (arith, next (turn (around c)) .pair)
+loop-less c = omega (arith, next (t c) .pair)
 
 loop-again : tie.Need-loop-again Inv-loop μ-loop
 loop-again c =
-    let k = t c in
-    let to = back c .row-from2 .ensures .2 in (
+    let k = t c in (
       subst (λ (r : ℕ). Keeping (ranks k) (s k .args .len) (s k .args .at) (self k) (out k) (behind c) (i k + 2) r (sum c) (then c)) (sym (rank c)) (kept c),
-      to .walked,
-      omega (arith, to .reached, rank c, next k .some),
+      to-walked c,
+      omega (arith, to-reached c, rank c, next k .some),
     )
 
 sub-left : tie.Need-sub-left Inv-loop μ-loop

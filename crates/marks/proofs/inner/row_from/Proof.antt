@@ -1,11 +1,9 @@
 -- `marks::inner::row_from` meets its contract.
 -- The chunk that holds the rank is the one that has its row. Assumes nothing.
-use Prim.Native.Nat.{ℕ, _*_, _/_}
-use mathlib.Core.Path.{sym, ap, _∙_}
 use denote.Ref.{now}
 use borrow.Author.Needs.{needs}
 use Rattle.rows.specs.Words.{view}
-use Rattle.marks.proofs.DrivenLaws.{row-chunk}
+use Rattle.marks.proofs.DrivenLaws.{row-found}
 use Rattle.marks.proofs.inner.row_from.Statement.{statement}
 use Rattle.marks.proofs.inner.row_from.Tie as tie
 
@@ -30,8 +28,7 @@ returns c =
     let k = sought c in
     let a = start k .args in
     let v = view (a .start) (a .len) (now (a .words)) in
-    let e = c .row-in .ensures in
-    (e, row-chunk v (k .seek .result) (a .rank) (k .seek .ensures) ∙ ap (λ (x : ℕ). x / 64 * 64) (sym e), k .seek .ensures)
+    row-found v (k .seek .result) (a .rank) (k .seek .ensures) (c .row-in .result) (c .row-in .ensures)
 
 pub row-from-spec : {M : Type 1} → statement M
 row-from-spec = tie.close (tie.spec seek-requires row-in-requires returns)
