@@ -77,14 +77,6 @@ pub fn put_rows(out: &mut [u64], at: u64, row: Row, n: u64, bits: u64)
     put(out, at + row.0, n, bits);
 }
 
-// Which bit a row is; row 0 is at bit at.
-pub fn row_bit(at: u64, row: Row) -> u64
-    requires { ⌜ at + row .0 < 2 ^ 64 ⌝ }
-    ensures { λ r. ⌜ r ≡ at + row .0 ⌝ }
-{
-    at + row.0
-}
-
 // Zeros over the output from a row on, n of them; row 0 is at bit at.
 pub fn clear_rows(out: &mut [u64], at: u64, row: Row, n: u64)
     requires { ⌜ Room (at + row .0) n (now out) ⌝ }

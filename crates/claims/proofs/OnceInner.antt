@@ -142,8 +142,6 @@ use Rattle.intersect_by_rank.proofs.inner.judge.judge.Kinds as intersect-by-ran
 use Rattle.intersect_by_rank.proofs.inner.judge.judge.Reads as intersect-by-rank-judge
 use Rattle.laid.proofs.inner.copy_words.Kinds as laid-copy-words-kinds
 use Rattle.laid.proofs.inner.copy_words.Reads as laid-copy-words
-use Rattle.books.proofs.inner.row_bit.Kinds as books-row-bit-kinds
-use Rattle.books.proofs.inner.row_bit.Reads as books-row-bit
 use Rattle.books.proofs.inner.clear_rows.Kinds as books-clear-rows-kinds
 use Rattle.books.proofs.inner.clear_rows.Reads as books-clear-rows
 use Rattle.fills.proofs.inner.lay.lay_runs.Kinds as fills-lay-runs-kinds
@@ -152,16 +150,22 @@ use Rattle.fills.proofs.inner.list.list_runs.Kinds as fills-list-runs-kinds
 use Rattle.fills.proofs.inner.list.list_runs.Reads as fills-list-runs
 use Rattle.kept.proofs.inner.lay_ranks_under_runs.Kinds as ranks-under-runs-kinds
 use Rattle.kept.proofs.inner.lay_ranks_under_runs.Reads as ranks-under-runs
-use Rattle.kept.proofs.inner.keep_runs.Kinds as kept-keep-runs-kinds
-use Rattle.kept.proofs.inner.keep_runs.Reads as kept-keep-runs
+use Rattle.fills.proofs.inner.lay.set_run.Kinds as fills-set-run-kinds
+use Rattle.fills.proofs.inner.lay.set_run.Reads as fills-set-run
+use Rattle.marks.proofs.inner.row_from.Kinds as marks-row-from-kinds
+use Rattle.marks.proofs.inner.row_from.Reads as marks-row-from
+use Rattle.kept.proofs.inner.lay_runs_in_runs.Kinds as runs-in-runs-kinds
+use Rattle.kept.proofs.inner.lay_runs_in_runs.Reads as runs-in-runs
+use Rattle.kept.proofs.inner.lay_entries_by_runs.Kinds as entries-by-runs-kinds
+use Rattle.kept.proofs.inner.lay_entries_by_runs.Reads as entries-by-runs
+use Rattle.kept.proofs.inner.keep_words.Kinds as kept-keep-words-kinds
+use Rattle.kept.proofs.inner.keep_words.Reads as kept-keep-words
 use Rattle.kept.proofs.inner.lay_entries_in_runs.Kinds as entries-in-runs-kinds
 use Rattle.kept.proofs.inner.lay_entries_in_runs.Reads as entries-in-runs
 use Rattle.laid.proofs.inner.lay_same.Kinds as laid-lay-same-kinds
 use Rattle.laid.proofs.inner.lay_same.Reads as laid-lay-same
 use Rattle.laid.proofs.inner.fill.Kinds as laid-fill-kinds
 use Rattle.laid.proofs.inner.fill.Reads as laid-fill
-use Rattle.marks.proofs.inner.row_of.Kinds as marks-row-of-kinds
-use Rattle.marks.proofs.inner.row_of.Reads as marks-row-of
 use Rattle.operand.proofs.inner.counts.tell.Kinds as operand-tell-kinds
 use Rattle.operand.proofs.inner.counts.tell.Reads as operand-tell
 use Rattle.operand.proofs.inner.forms.has_runs.Kinds as operand-has-runs-kinds
@@ -381,14 +385,14 @@ intersect-by-rank-judge-one κs a p x y v w hv hw = (hv ∙ sym hw, refl)
 pub laid-copy-words-one : OneAnswer 2 laid-copy-words-kinds.ps laid-copy-words-kinds.r laid-copy-words.Pre laid-copy-words.Post
 laid-copy-words-one κs a p x y v w hv hw = (refl, ap (λ (l : List ℕ). (tt, (tt, (tt, (l, tt))))) (hv ∙ sym hw))
 
-pub books-row-bit-one : OneAnswer 0 books-row-bit-kinds.ps books-row-bit-kinds.r books-row-bit.Pre books-row-bit.Post
-books-row-bit-one κs a p x y v w hv hw = (hv ∙ sym hw, refl)
-
 pub books-clear-rows-one : OneAnswer 1 books-clear-rows-kinds.ps books-clear-rows-kinds.r books-clear-rows.Pre books-clear-rows.Post
 books-clear-rows-one κs a p x y v w hv hw = (refl, ap (λ (l : List ℕ). (l, (tt, (tt, (tt, tt))))) (hv ∙ sym hw))
 
 pub fills-lay-runs-one : OneAnswer 2 fills-lay-runs-kinds.ps fills-lay-runs-kinds.r fills-lay-runs.Pre fills-lay-runs.Post
 fills-lay-runs-one κs a p x y v w hv hw = (refl, ap (λ (l : List ℕ). (tt, (tt, (tt, (l, tt))))) (hv ∙ sym hw))
+
+pub fills-set-run-one : OneAnswer 1 fills-set-run-kinds.ps fills-set-run-kinds.r fills-set-run.Pre fills-set-run.Post
+fills-set-run-one κs a p x y v w hv hw = (refl, ap (λ (l : List ℕ). (l, (tt, (tt, (tt, tt))))) (hv ∙ sym hw))
 
 pub fills-list-runs-one : OneAnswer 2 fills-list-runs-kinds.ps fills-list-runs-kinds.r fills-list-runs.Pre fills-list-runs.Post
 fills-list-runs-one κs a p x y v w hv hw = (refl, ap (λ (l : List ℕ). (tt, (tt, (l, tt)))) (hv ∙ sym hw))
@@ -396,8 +400,17 @@ fills-list-runs-one κs a p x y v w hv hw = (refl, ap (λ (l : List ℕ). (tt, (
 pub kept-lay-ranks-under-runs-one : OneAnswer 3 ranks-under-runs-kinds.ps ranks-under-runs-kinds.r ranks-under-runs.Pre ranks-under-runs.Post
 kept-lay-ranks-under-runs-one κs a p x y v w hv hw = (hv .0 ∙ sym (hw .0), ap (λ (l : List ℕ). (tt, (tt, (tt, (tt, (tt, (l, tt))))))) (hv .1 ∙ sym (hw .1)))
 
-pub kept-keep-runs-one : OneAnswer 2 kept-keep-runs-kinds.ps kept-keep-runs-kinds.r kept-keep-runs.Pre kept-keep-runs.Post
-kept-keep-runs-one κs a p x y v w hv hw = (hv .0 ∙ sym (hw .0), ap (λ (l : List ℕ). (tt, (tt, (tt, (l, tt))))) (hv .1 ∙ sym (hw .1)))
+pub kept-keep-words-one : OneAnswer 3 kept-keep-words-kinds.ps kept-keep-words-kinds.r kept-keep-words.Pre kept-keep-words.Post
+kept-keep-words-one κs a p x y v w hv hw = (hv .0 ∙ sym (hw .0), ap (λ (l : List ℕ). (tt, (tt, (tt, (tt, (tt, (l, tt))))))) (hv .1 ∙ sym (hw .1)))
+
+pub kept-lay-runs-in-runs-one : OneAnswer 3 runs-in-runs-kinds.ps runs-in-runs-kinds.r runs-in-runs.Pre runs-in-runs.Post
+kept-lay-runs-in-runs-one κs a p x y v w hv hw = (hv .0 ∙ sym (hw .0), ap (λ (l : List ℕ). (tt, (tt, (tt, (tt, (l, tt)))))) (hv .1 ∙ sym (hw .1)))
+
+pub kept-lay-entries-by-runs-one : OneAnswer 3 entries-by-runs-kinds.ps entries-by-runs-kinds.r entries-by-runs.Pre entries-by-runs.Post
+kept-lay-entries-by-runs-one κs a p x y v w hv hw = (hv .0 ∙ sym (hw .0), ap (λ (l : List ℕ). (tt, (tt, (tt, (tt, (l, tt)))))) (hv .1 ∙ sym (hw .1)))
+
+pub marks-row-from-one : OneAnswer 1 marks-row-from-kinds.ps marks-row-from-kinds.r marks-row-from.Pre marks-row-from.Post
+marks-row-from-one κs a p x y v w hv hw = (hv ∙ sym hw, refl)
 
 pub kept-lay-entries-in-runs-one : OneAnswer 3 entries-in-runs-kinds.ps entries-in-runs-kinds.r entries-in-runs.Pre entries-in-runs.Post
 kept-lay-entries-in-runs-one κs a p x y v w hv hw = (hv .0 ∙ sym (hw .0), ap (λ (l : List ℕ). (tt, (tt, (tt, (tt, (l, tt)))))) (hv .1 ∙ sym (hw .1)))
@@ -411,9 +424,6 @@ laid-fill-one κs a p x y v w hv hw = (refl, ap (λ (l : List ℕ). (l, (tt, (tt
 -- a row is its number
 abbrev rowOf : ℕ → Row
 rowOf n = record { 0 = n }
-
-pub marks-row-of-one : OneAnswer 1 marks-row-of-kinds.ps marks-row-of-kinds.r marks-row-of.Pre marks-row-of.Post
-marks-row-of-one κs a p x y v w hv hw = (ap rowOf (hv ∙ sym hw), refl)
 
 pub operand-tell-one : OneAnswer 0 operand-tell-kinds.ps operand-tell-kinds.r operand-tell.Pre operand-tell.Post
 operand-tell-one κs a p x y v w hv hw = (hv ∙ sym hw, refl)

@@ -23,7 +23,6 @@ use Rattle.rows.proofs.RunTurnLaws.{NextRun, next-run, rows-next, rows-none, le
 use Rattle.rows.proofs.ComposeRunLaws.{compose-by-unset, compose-by-set}
 use Rattle.rows.proofs.BehindLaws.{view-behind, view-from, laid-own, below-laid}
 use Rattle.rows.proofs.ProgressLaws.{Progress, progress-none, progress-as, progress-part, progress-last}
-use Rattle.kept.specs.Keep.{behind}
 
 -- ---- one run: `gap` ranks before it, and some of its own
 
@@ -73,17 +72,6 @@ module _ (s : List Bool) (gap held : ℕ) (some : 0 < held) (enough : gap + held
       compose-by-unset gap s (replicate held true ++ r) gap-in
       ∙ ap (λ (l : List Bool). replicate row false ++ l)
       (ap (λ (n : ℕ). compose after (replicate n true ++ r)) more ∙ compose-by-set (held - 1) after r last-in)
-
--- the rows behind those that were cleared
-pub cleared-view : (at done len row : ℕ) (out then : List ℕ) → done + row ≤ len → then ≡ laid (at + done) (replicate row false) out
-    → view (at + (done + row)) (len - (done + row)) then ≡ drop row (view (at + done) (len - done) out)
-cleared-view at done len row out then h t =
-    let place : at + (done + row) ≡ at + done + row = omega arith in
-    let left : len - (done + row) ≡ len - done - row = omega arith in
-    ap (view (at + (done + row)) (len - (done + row))) t
-    ∙ view-behind (at + done) (at + (done + row)) (len - (done + row)) (replicate row false) out
-    (place ∙ ap (λ (k : ℕ). at + done + k) (sym (length-replicate row false)))
-    ∙ ap₂ (λ (x y : ℕ). view x y out) place left ∙ view-from (at + done) row (len - done) out (omega arith)
 
 -- ---- over runs
 
@@ -152,9 +140,6 @@ module _ (runs : List ℕ) (len at : ℕ) (self : List Bool) (out₀ : List ℕ)
     left-long done = length-drop done self ∙ ap (λ (n : ℕ). n - done) long
 
     module _ (done i rank sum : ℕ) (out : List ℕ) (k : Keeping done i rank sum out) where
-      pub keeping-view : view (at + done) (len - done) out ≡ drop done self
-      keeping-view = still done (rest done i rank) out (k .within) (k .progress)
-
       pub keeping-rank : rankAt self done ≡ rank
       keeping-rank = omega (arith, k .passed, count-append (take done self) (drop done self), ap count (take-append-drop done self))
 
@@ -188,9 +173,6 @@ module _ (runs : List ℕ) (len at : ℕ) (self : List Bool) (out₀ : List ℕ)
         keeping-few a =
             let lengths = lengths-next rank (count self) i runs keeping-next in
             omega (arith, k .counted, lengths, runs-few 0 (count self) runs a (omega arith), count-le-length self, long)
-
-        pub keeping-asks : getD runs i 0 - rank + (getD runs (i + 1) 0 - getD runs i 0) ≤ count (view (at + done) (len - done) out)
-        keeping-asks = omega (arith, enough, ap count keeping-view)
 
         abbrev cut : ℕ
         cut = select (drop done self) gap
@@ -257,16 +239,7 @@ module _ (runs : List ℕ) (len at : ℕ) (self : List Bool) (out₀ : List ℕ)
               progress = two;
             }
 
-        pub keeping-run : (next : ℕ) (then : List ℕ)
-            → next ≡ done + behind (view (at + done) (len - done) out) (getD runs i 0 - rank) (getD runs (i + 1) 0 - getD runs i 0)
-            → then ≡ laid (at + done) (replicate (select (view (at + done) (len - done) out) (getD runs i 0 - rank)) false) out
-            → Keeping next (i + 2) (getD runs (i + 1) 0) (sum + (getD runs (i + 1) 0 - getD runs i 0)) then
-        keeping-run next then e t =
-            let next-is : next ≡ done + cut + suc span = e ∙ ap (λ (l : List Bool). done + behind l gap own) keeping-view ∙ omega arith in
-            subst (λ (n : ℕ). Keeping n (i + 2) past (sum + own) then) (sym next-is)
-            (kept-run then (t ∙ ap (λ (l : List Bool). laid (at + done) (replicate (select l gap) false) out) keeping-view))
-
-        -- ---- the same where the rows are sought among all of self's
+        -- ---- its rows among all of self's
 
         first-is : select self first ≡ done + cut
         first-is =

@@ -6,7 +6,7 @@ ghost use lib.ListN.{length, drop};
 ghost use denote.Ref.{now};
 ghost use Rattle.rows.specs.Rows.{count, compose};
 ghost use Rattle.rows.specs.Words.{bitsOfAll, view};
-ghost use Rattle.rows.specs.Lists.{listed, Ascending, select};
+ghost use Rattle.rows.specs.Lists.{listed, Ascending};
 ghost use Rattle.rows.specs.Laid.{laid};
 ghost use Rattle.rows.specs.Asks.{Room, InView};
 ghost use Rattle.marks.specs.Driven.{HasRows, Walked, foundAt};
@@ -44,19 +44,6 @@ pub fn row_from(words: &[u64], start: u64, len: u64, from: Place, rank: Rank) ->
         row: row,
         place: place,
     }
-}
-
-// The row of a rank in rows that lie from any bit on. The walk begins at the first of them.
-pub fn row_of(words: &[u64], start: u64, len: u64, rank: Rank) -> Row
-    requires { ⌜ HasRows start len (now words) × (rank .0 < count (view start len (now words))) ⌝ }
-    ensures { λ r. ⌜ r .0 ≡ select (view start len (now (words .entry))) (rank .0) ⌝ }
-{
-    let from = Place {
-        done: Row(0),
-        passed: Rank(0),
-    };
-    let place = seek(words, start, len, from, rank);
-    row_in(words, start, len, place, rank)
 }
 
 // Route 4.
