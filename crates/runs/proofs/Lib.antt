@@ -1,0 +1,7 @@
+pub mod NumbersLaws
+pub mod Kit
+pub mod Again
+pub mod Walk
+pub mod Values
+pub mod Each
+pub mod Passing
