@@ -4,4 +4,5 @@ pub mod Again
 pub mod Walk
 pub mod Values
 pub mod Each
+pub mod Plainly
 pub mod Passing

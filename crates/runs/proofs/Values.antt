@@ -34,3 +34,14 @@ writing = record {
   last = λ x. tt;
   silent = λ x f. refl;
 }
+
+abbrev pub refusal : Value R.the-row
+refusal = record {
+  ty = R′.mir;
+  spell = SL.val R.the-type R′.the-laws;
+  tells = SL.tells R.the-type R′.the-laws;
+  typed = λ 𝓤 H A W x v is. SL.lawful R.the-type R′.the-laws 𝓤 H A W .typed x _ is .0;
+  makes = λ 𝓤 H A W. SL.makes R.the-type R′.the-plain 𝓤 H A;
+  last = λ x. tt;
+  silent = λ x f. refl;
+}
