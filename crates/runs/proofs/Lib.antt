@@ -1,4 +1,5 @@
 pub mod NumbersLaws
+pub mod RecordsLaws
 pub mod Kit
 pub mod Again
 pub mod Walk
