@@ -7,3 +7,4 @@ pub mod Values
 pub mod Each
 pub mod Plainly
 pub mod Passing
+pub mod Acting

@@ -1,18 +1,29 @@
 // Runs as records at the edge: a lent slice of runs to numbers and to words, and numbers and masks to records.
 ghost use mathlib.Core.Path.{_≡_};
 ghost use denote.Ref.{now};
-ghost use Rattle.rules.specs.Records.{toNumbers, toNumbersOut, toRecords, toRecordsOut};
+ghost use mathlib.Core.List.{[]};
+ghost use Rattle.rules.specs.declared.Form.the-variants.{Runs};
+ghost use Rattle.rules.specs.Operand.{lent};
+ghost use Rattle.rules.specs.Convert.{toWords, toWordsOut};
+ghost use Rattle.rules.specs.Records.{numbersOf, toNumbers, toNumbersOut, toRecords, toRecordsOut};
 use numbers::start_numbers;
 use numbers::told_by;
 use numbers::write_numbers;
 use records::judge_records;
 use records::pairs_for;
 use records::write_records;
+use words::begin_laying;
+use words::finish_laying;
+use words::lay_each;
+use words::start_sweep;
+use words::weigh_each;
 use rows::Refusal;
+use rules::Answer;
 use rules::Run;
 
 mod numbers;
 mod records;
+mod words;
 
 // Records to numbers: two for each run, over the front of out; later numbers stay.
 pub fn to_numbers(runs: &[Run], out: &mut [u32]) -> Refusal
@@ -30,4 +41,16 @@ pub fn to_records(numbers: &[u32], out: &mut [Run]) -> Refusal
     let told = judge_records(numbers.len(), out.len());
     write_records(numbers, pairs_for(told, numbers.len()), out);
     told
+}
+
+// Records to words: what `to_words` tells and writes of their numbers.
+pub fn runs_to_words(length: u64, runs: &[Run], out: &mut [u64]) -> Answer
+    ensures { λ a. ⌜ (a ≡ toWords (lent (Runs length) [] (numbersOf (now (runs .entry)))) (now (out .entry)))
+        × (now (out .exit) ≡ toWordsOut (lent (Runs length) [] (numbersOf (now (runs .entry)))) (now (out .entry))) ⌝ }
+{
+    let started = start_sweep(length);
+    let weighed = weigh_each(runs, started, out);
+    let begun = begin_laying(weighed, out);
+    let laid = lay_each(runs, begun, out);
+    finish_laying(laid, out)
 }
