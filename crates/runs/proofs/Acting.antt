@@ -90,7 +90,7 @@ module _ (J X G : RattleType) (one : One (X .mir)) (D : Value J) (D′ : Value G
           let e₁ = P .left j zs u (ws .1 .0) e in
           subst (λ (l : List (X .Denot)). Seq K W (‵ (finally X δ l) ∷ ‵ (flft κ′ q′) ∷ Γ) (lands C Λ E d v rest p)) (sym e₁)
           (subst (λ (z : Val). Seq K W (‵ (finally X δ last) ∷ ‵ (flft κ′ q′) ∷ Γ) (lands C Λ E d z rest p)) (sym (spelt G D′ u result v e₀ is))
-          (k (is-spelt G D′ u result v e₀ is) (ap length (sym e₁) ∙ same) (P .learnt j zs u (ws .1 .0) e))))))))
+          (k (is-spelt G D′ u result v e₀ is) (ap length (sym e₁) ∙ same) (P .learnt j zs u (ws .1 .0) e)))))))))
 
     module _ {K : Type 0} {Γ : List (Item 𝓤)} {E : Env 𝓤 H} {C : Calls 𝓤 H} {f : Name} {xs : List Operand} {Λ : Loops 𝓤 H} {p : Post 𝓤 H}
         {d : Place} {rest : Body} where

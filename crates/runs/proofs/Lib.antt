@@ -1,5 +1,6 @@
 pub mod NumbersLaws
 pub mod RecordsLaws
+pub mod SweepLaws
 pub mod Kit
 pub mod Again
 pub mod Walk

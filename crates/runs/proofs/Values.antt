@@ -3,7 +3,7 @@
 use mathlib.Core.Path.{refl}
 use mir.Syntax.{w64, tyInt}
 use mir.Val.{vint}
-use denote.Builtin.{usize}
+use denote.Builtin.{usize, u64}
 use denote.Plain.{uint-makes, uint-tells, uint-lawful}
 use denote.Enum.Laws as EL
 use denote.Struct.Laws as SL
@@ -12,6 +12,10 @@ use Rattle.rows.proofs.Refusal.Laws as R′
 use Rattle.runs.proofs.Walk.{Value}
 use Rattle.runs.proofs.numbers.Writing as N
 use Rattle.runs.proofs.numbers.Writing.Laws as N′
+use Rattle.rules.proofs.Answer as A
+use Rattle.rules.proofs.Answer.Laws as A′
+use Rattle.runs.proofs.words.Sweep as S
+use Rattle.runs.proofs.words.Sweep.Laws as S′
 
 abbrev pub number : Value usize
 number = record {
@@ -42,6 +46,39 @@ refusal = record {
   tells = SL.tells R.the-type R′.the-laws;
   typed = λ 𝓤 H A W x v is. SL.lawful R.the-type R′.the-laws 𝓤 H A W .typed x _ is .0;
   makes = λ 𝓤 H A W. SL.makes R.the-type R′.the-plain 𝓤 H A;
+  last = λ x. tt;
+  silent = λ x f. refl;
+}
+
+abbrev pub length : Value u64
+length = record {
+  ty = tyInt w64;
+  spell = vint w64;
+  tells = uint-tells w64;
+  typed = λ 𝓤 H A W x v is. uint-lawful 𝓤 H A W w64 .typed x _ is .0;
+  makes = λ 𝓤 H A W. uint-makes 𝓤 H A W w64;
+  last = λ x. tt;
+  silent = λ x f. refl;
+}
+
+abbrev pub sweep : Value S.the-row
+sweep = record {
+  ty = S′.mir;
+  spell = EL.val S.the-type S′.the-laws;
+  tells = EL.tells S.the-type S′.the-laws;
+  typed = λ 𝓤 H A W x v is. EL.lawful S.the-type S′.the-laws 𝓤 H A W tt .typed x _ is .0;
+  makes = λ 𝓤 H A W. EL.makes S.the-type S′.the-plain 𝓤 H A;
+  last = λ x. tt;
+  silent = λ x f. refl;
+}
+
+abbrev pub answer : Value A.the-row
+answer = record {
+  ty = A′.mir;
+  spell = SL.val A.the-type A′.the-laws;
+  tells = SL.tells A.the-type A′.the-laws;
+  typed = λ 𝓤 H 𝓐 W x v is. SL.lawful A.the-type A′.the-laws 𝓤 H 𝓐 W .typed x _ is .0;
+  makes = λ 𝓤 H 𝓐 W. SL.makes A.the-type A′.the-plain 𝓤 H 𝓐;
   last = λ x. tt;
   silent = λ x f. refl;
 }
