@@ -1,3 +1,4 @@
 pub mod Numbered
 pub mod Packed
 pub mod Swept
+pub mod Searched

@@ -23,6 +23,7 @@ use rules::Run;
 
 mod numbers;
 mod records;
+mod search;
 mod words;
 
 // Records to numbers: two for each run, over the front of out; later numbers stay.
