@@ -2,6 +2,7 @@ pub mod NumbersLaws
 pub mod RecordsLaws
 pub mod SweepLaws
 pub mod SearchLaws
+pub mod FoundLaws
 pub mod Kit
 pub mod Again
 pub mod Walk

@@ -4,14 +4,20 @@ ghost use denote.Ref.{now};
 ghost use mathlib.Core.List.{[]};
 ghost use Rattle.rules.specs.declared.Form.the-variants.{Runs};
 ghost use Rattle.rules.specs.Operand.{lent};
-ghost use Rattle.rules.specs.Convert.{toWords, toWordsOut};
+ghost use Rattle.rules.specs.Convert.{toWords, toWordsOut, toRuns, toRunsOut};
 ghost use Rattle.rules.specs.Records.{numbersOf, toNumbers, toNumbersOut, toRecords, toRecordsOut};
 use numbers::start_numbers;
 use numbers::told_by;
 use numbers::write_numbers;
+use plan::plan_runs;
+use plan::runs_of;
+use plan::with_room;
+use plan::written_of;
 use records::judge_records;
 use records::pairs_for;
 use records::write_records;
+use search::start_cursor;
+use search::write_found;
 use words::begin_laying;
 use words::finish_laying;
 use words::lay_each;
@@ -19,9 +25,12 @@ use words::start_sweep;
 use words::weigh_each;
 use rows::Refusal;
 use rules::Answer;
+use rules::Form;
 use rules::Run;
+use rules::Written;
 
 mod numbers;
+mod plan;
 mod records;
 mod search;
 mod words;
@@ -54,4 +63,15 @@ pub fn runs_to_words(length: u64, runs: &[Run], out: &mut [u64]) -> Answer
     let begun = begin_laying(weighed, out);
     let laid = lay_each(runs, begun, out);
     finish_laying(laid, out)
+}
+
+// Any form to records: what `to_runs` tells and writes, a record for each run; later records stay.
+pub fn to_run_records(form: Form, words: &[u64], rows: &[u32], out: &mut [Run]) -> Written
+    ensures { λ w. ⌜ (w ≡ toRuns (lent form (now (words .entry)) (now (rows .entry))) (numbersOf (now (out .entry))))
+        × (numbersOf (now (out .exit)) ≡ toRunsOut (lent form (now (words .entry)) (now (rows .entry))) (numbersOf (now (out .entry)))) ⌝ }
+{
+    let found = plan_runs(words, rows, form);
+    let plan = with_room(found, out.len());
+    write_found(words, rows, start_cursor(form), runs_of(plan), out);
+    written_of(plan)
 }

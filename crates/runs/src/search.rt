@@ -8,7 +8,7 @@ ghost use Rattle.rows.specs.Word.{bitsOf, wordOf};
 ghost use Rattle.rows.specs.Words.{view, Below};
 ghost use Rattle.rows.specs.Asks.{InView, Chunk};
 ghost use Rattle.rules.specs.Operand.{lent, Accepted};
-ghost use Rattle.runs.specs.Searched.{hits, seekRow, foundWords, foundList, foundRuns, foundBy, leftBy, cursorBy, startCursor, SearchAsks, runOf};
+ghost use Rattle.runs.specs.Searched.{hits, seekRow, foundWords, foundList, foundRuns, foundBy, leftBy, cursorBy, startCursor, SearchAsks, SearchReady, runOf, storedFrom};
 use lent::inner::chunk;
 use lent::inner::chunk_len;
 use lent::inner::ones;
@@ -168,4 +168,19 @@ pub fn run_of(cursor: Cursor) -> Run
         first: cursor.first,
         past: cursor.past,
     }
+}
+
+// The records of the first n runs that are found over the front of out, and how many they are: the loop that is proved by hand.
+pub fn write_found(words: &[u64], rows: &[u32], cursor: Cursor, n: usize, out: &mut [Run]) -> usize
+    requires { ⌜ SearchReady (now words) (now rows) cursor n × (n ≤ length (now out)) ⌝ }
+    ensures { λ r. ⌜ (r ≡ n) × (now (out .exit) ≡ storedFrom (now (words .entry)) (now (rows .entry)) 0 cursor n (now (out .entry))) ⌝ }
+{
+    let mut c = cursor;
+    let mut i: usize = 0;
+    while i < n {
+        c = next_run(words, rows, c);
+        out[i] = run_of(c);
+        i = i + 1;
+    }
+    n
 }
