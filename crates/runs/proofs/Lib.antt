@@ -11,3 +11,5 @@ pub mod Each
 pub mod Plainly
 pub mod Passing
 pub mod Acting
+pub mod Reading
+pub mod Filling
