@@ -17,7 +17,7 @@ use Rattle.runs.proofs.Plainly.{spelt}
 module _ (R₁ R₂ J X : RattleType) (one₁ : One (R₁ .mir)) (one₂ : One (R₂ .mir)) (one₃ : One (X .mir)) (D : Value J)
     (Asks : List (R₁ .Denot) → List (R₂ .Denot) → J .Denot → ℕ → List (X .Denot) → Type 0)
     (leaves : List (R₁ .Denot) → List (R₂ .Denot) → J .Denot → ℕ → List (X .Denot) → List (X .Denot)) where
-  abbrev fillsEnded : Ended
+  abbrev pub fillsEnded : Ended
   fillsEnded = record {
     signature = record {
       lifetimes = 3;
@@ -29,7 +29,7 @@ module _ (R₁ R₂ J X : RattleType) (one₁ : One (R₁ .mir)) (one₂ : One (
     kept = (yes, (yes, (yes, (yes, (yes, tt)))));
   }
 
-  abbrev fillsClauses : {M : Type 1} (𝓤 : URA M) → Clauses 𝓤 fillsEnded
+  abbrev pub fillsClauses : {M : Type 1} (𝓤 : URA M) → Clauses 𝓤 fillsEnded
   fillsClauses 𝓤 κs a = record {
     ghost = Unit {0};
     requires = λ g. fact 𝓤 (Asks (now (a .0)) (now (a .1 .0)) (a .1 .1 .0) (a .1 .1 .1 .0) (now (a .1 .1 .1 .1 .0)));

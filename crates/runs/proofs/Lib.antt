@@ -13,3 +13,4 @@ pub mod Passing
 pub mod Acting
 pub mod Reading
 pub mod Filling
+pub mod Storing
