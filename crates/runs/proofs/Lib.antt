@@ -14,3 +14,4 @@ pub mod Acting
 pub mod Reading
 pub mod Filling
 pub mod Storing
+pub mod Drafting
