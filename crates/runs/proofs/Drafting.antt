@@ -39,7 +39,8 @@ module _ (φ γ π ρ : Ty) (plan room start count fill tells : Name) where
     lifetimes = 3;
     outlives = [];
     params = 4;
-    locals = local ρ valueLocal ∷ local φ valueLocal ∷ local slice₁ valueLocal ∷ local slice₂ valueLocal ∷ local mslice valueLocal ∷ local π valueLocal ∷ local π valueLocal
+    locals = local ρ valueLocal ∷ local φ valueLocal ∷ local slice₁ valueLocal ∷ local slice₂ valueLocal ∷ local mslice valueLocal ∷ local π valueLocal
+    ∷ local π valueLocal
         ∷ local word valueLocal ∷ local γ valueLocal ∷ local word valueLocal ∷ local again valueLocal ∷ local (sliceTy again) valueLocal ∷ [];
     body =
         seq (call plan (copy (place 2 []) ∷ copy (place 3 []) ∷ copy (place 1 []) ∷ []) (place 5 []))
@@ -119,7 +120,8 @@ module _ (F C P G : RattleType) (DF : Value F) (DC : Value C) (DP : Value P) (DG
     abbrev pub Tells : Contract 𝓤
     Tells = One P G DP DG (X .tells) 𝓤 H A
 
-  module _ {M : Type 1} (𝓤 : URA M) (H : Heap 𝓤) (A : Atoms 𝓤) (W : Given 𝓤 H A) (#plan #room #start #count #fill #tells : Name) (κ₁ κ₂ κ₃ : Lft) (q₁ q₂ q₃ : Share)
+  module _ {M : Type 1} (𝓤 : URA M) (H : Heap 𝓤) (A : Atoms 𝓤) (W : Given 𝓤 H A) (#plan #room #start #count #fill #tells : Name) (κ₁ κ₂ κ₃ : Lft)
+      (q₁ q₂ q₃ : Share)
       (f : F .Denot) (s₁ s₂ : RefT (List ℕ)) (b o : ℕ) (γ : GName) (ys : List Run) where
     abbrev ws : List ℕ
     ws = now s₁
@@ -186,25 +188,35 @@ module _ (F C P G : RattleType) (DF : Value F) (DC : Value C) (DP : Value P) (DG
         move ! (25 ∷ []) $ fsplit ! $ drop ! $ fsplit ! $ move ! (1 ∷ []) $ fsplit ! $ move ! (1 ∷ []) $ fsplit ! $
         move ! (28 ∷ []) $ split ! $ move ! (1 ∷ []) $ split ! $ move ! (1 ∷ []) $ split ! $
         -- [out's token; true; rows's token; words's token; out; true; rows; words; _11; …]
-        keep ! (4 ∷ 0 ∷ 7 ∷ 3 ∷ 6 ∷ 2 ∷ 30 ∷ 28 ∷ 26 ∷ 24 ∷ 22 ∷ 20 ∷ 18 ∷ 16 ∷ 14 ∷ 12 ∷ 10 ∷ 8 ∷ 31 ∷ 29 ∷ 27 ∷ 25 ∷ 23 ∷ 21 ∷ 19 ∷ 17 ∷ 15 ∷ 13 ∷ 11 ∷ 9 ∷ []) $
+        keep ! (4 ∷ 0 ∷ 7 ∷ 3 ∷ 6 ∷ 2 ∷ 30 ∷ 28 ∷ 26 ∷ 24 ∷ 22 ∷ 20 ∷ 18 ∷ 16 ∷ 14 ∷ 12 ∷ 10 ∷ 8 ∷ 31 ∷ 29 ∷ 27 ∷ 25 ∷ 23 ∷ 21 ∷ 19 ∷ 17 ∷ 15 ∷ 13 ∷ 11 ∷ 9
+        ∷ []) $
         -- the plan, held against the room
         move ! (2 ∷ 3 ∷ 4 ∷ 5 ∷ []) $ calls-reading u64 u32 F P tt tt DF DP Free (X .plan) W κ₁ κ₂ q₁ q₂ s₁ s₂ f ! fm false known-plan g tt
-        (and-then ! (load ! (from ! (stop !)) (look ! 7 refl)) (and-then ! (load ! (from ! (stop !)) (look ! 8 refl)) (and-then ! (load ! (from ! (stop !)) (look ! 6 refl)) (no-more !)))) (λ is-found.
+        (and-then ! (load ! (from ! (stop !)) (look ! 7 refl))
+        (and-then ! (load ! (from ! (stop !)) (look ! 8 refl)) (and-then ! (load ! (from ! (stop !)) (look ! 6 refl)) (no-more !)))) (λ is-found.
         land ! (from ! (stop !)) (init ! 11 refl (DP .typed 𝓤 H A W found _ is-found)) $ move ! (4 ∷ 5 ∷ []) $
-        assigns ! (of-opd ! (load ! (from ! (fld ! refl (stop !))) (look-in ! 10 (sub ! 1 refl (whole !))))) (from ! (stop !)) (init ! 13 refl (tt, record { fits = gy .0 })) $
-        calls-two P usize P DP number DP (X .room) W found m ! fm known-room is-found (refl, gy .0) (and-then ! (load ! (from ! (stop !)) (look ! 12 refl)) (and-then ! (load ! (from ! (stop !)) (look ! 14 refl)) (no-more !))) (λ is-planned.
+        assigns ! (of-opd ! (load ! (from ! (fld ! refl (stop !))) (look-in ! 10 (sub ! 1 refl (whole !))))) (from ! (stop !))
+        (init ! 13 refl (tt, record { fits = gy .0 })) $
+        calls-two P usize P DP number DP (X .room) W found m ! fm known-room is-found (refl, gy .0)
+        (and-then ! (load ! (from ! (stop !)) (look ! 12 refl)) (and-then ! (load ! (from ! (stop !)) (look ! 14 refl)) (no-more !))) (λ is-planned.
         land ! (from ! (stop !)) (init ! 12 refl (DP .typed 𝓤 H A W planned _ is-planned)) $
         -- where the search starts, and how many runs it finds
         calls-one F C DF DC (X .start) W f ! fm known-start g (and-then ! (load ! (from ! (stop !)) (look ! 8 refl)) (no-more !)) (λ is-start.
         land ! (from ! (stop !)) (init ! 14 refl (DC .typed 𝓤 H A W (X .start f) _ is-start)) $
-        calls-one P usize DP number (X .count) W planned ! fm known-count is-planned (and-then ! (load ! (from ! (stop !)) (look ! 13 refl)) (no-more !)) (λ is-count.
+        calls-one P usize DP number (X .count) W planned ! fm known-count is-planned (and-then ! (load ! (from ! (stop !)) (look ! 13 refl)) (no-more !))
+        (λ is-count.
         land ! (from ! (stop !)) (init ! 15 refl (number .typed 𝓤 H A W n _ is-count)) $
         -- the records
         assigns ! (addr ! (from ! (fld ! refl (hop ! (look-in ! 10 (sub ! 0 refl (whole !))) (stop !))))) (from ! (stop !)) (init ! 16 refl (tt, tt)) $
-        assigns ! (agg ! (and-then ! (load ! (from ! (stop !)) (look ! 16 refl)) (and-then ! (load ! (from ! (fld ! refl (stop !))) (look-in ! 10 (sub ! 1 refl (whole !)))) (no-more !))))
+        assigns ! (agg ! (and-then ! (load ! (from ! (stop !)) (look ! 16 refl))
+        (and-then ! (load ! (from ! (fld ! refl (stop !))) (look-in ! 10 (sub ! 1 refl (whole !)))) (no-more !))))
         (from ! (stop !)) (init ! 17 refl (tt, (tt, (record { fits = gy .0 }, tt)))) $
-        calls-filling u64 u32 C T.the-row tt tt tt DC (X .Asks) (X .leaves) W κ₁ κ₂ κ₃ q₁ q₂ q₃ s₁ s₂ b o γ m (X .start f) n ys ! fm known-fill is-start (is-count .1) (X .fits f ws es ys) refl gy
-        (λ ν δ. and-then ! (load ! (from ! (stop !)) (look ! 6 refl)) (and-then ! (load ! (from ! (stop !)) (look ! 7 refl)) (and-then ! (load ! (from ! (stop !)) (look ! 12 refl)) (and-then ! (load ! (from ! (stop !)) (look ! 13 refl)) (and-then ! (load ! (from ! (stop !)) (look ! 15 refl)) (no-more !)))))) (λ same.
+        calls-filling u64 u32 C T.the-row tt tt tt DC (X .Asks) (X .leaves) W κ₁ κ₂ κ₃ q₁ q₂ q₃ s₁ s₂ b o γ m (X .start f) n ys ! fm known-fill is-start
+        (is-count .1) (X .fits f ws es ys) refl gy
+        (λ ν δ. and-then ! (load ! (from ! (stop !)) (look ! 6 refl))
+        (and-then ! (load ! (from ! (stop !)) (look ! 7 refl))
+        (and-then ! (load ! (from ! (stop !)) (look ! 12 refl))
+        (and-then ! (load ! (from ! (stop !)) (look ! 13 refl)) (and-then ! (load ! (from ! (stop !)) (look ! 15 refl)) (no-more !)))))) (λ same.
         land ! (from ! (stop !)) (store ! 13 refl (number .typed 𝓤 H A W n _ is-count)) $
         -- and what is told
         calls-one P G DP DG (X .tells) W planned ! fm known-tells is-planned (and-then ! (load ! (from ! (stop !)) (look ! 13 refl)) (no-more !)) (λ is-told.
@@ -214,18 +226,22 @@ module _ (F C P G : RattleType) (DF : Value F) (DC : Value C) (DP : Value P) (DG
         move ! (6 ∷ 18 ∷ []) $ free1 ! $ move ! (6 ∷ 17 ∷ []) $ free1 ! $ move ! (6 ∷ 16 ∷ []) $ free1 ! $ move ! (6 ∷ 15 ∷ []) $ free1 ! $
         move ! (6 ∷ 14 ∷ []) $ free1 ! $ move ! (6 ∷ 13 ∷ []) $ free1 ! $ move ! (6 ∷ 12 ∷ []) $ free1 ! $ move ! (6 ∷ 11 ∷ []) $ free1 ! $
         move ! (6 ∷ 10 ∷ []) $ free1 ! $ move ! (6 ∷ 9 ∷ []) $ free1 ! $ move ! (6 ∷ 8 ∷ []) $ free1 ! $ move ! (6 ∷ 7 ∷ []) $ free1 ! $
-        free0 ! $ keep ! (3 ∷ 5 ∷ 1 ∷ 2 ∷ 4 ∷ 0 ∷ []) $ by ! (exits (X .tells planned) (X .leaves ws es (X .start f) n ys) g is-told same (X .says f ws es ys))))))))))))))))))))
+        free0 ! $ keep ! (3 ∷ 5 ∷ 1 ∷ 2 ∷ 4 ∷ 0 ∷ []) $ by ! (exits (X .tells planned) (X .leaves ws es (X .start f) n ys) g is-told same
+        (X .says f ws es ys))))))))))))))))))))
 
   module _ {M : Type 1} (𝓤 : URA M) (H : Heap 𝓤) (A : Atoms 𝓤) (W : Given 𝓤 H A) (#plan #room #start #count #fill #tells : Name) (𝓣 : Tables 𝓤 H)
-      (known-plan : Triple 𝓤 (𝓣 .C #plan) (Plans 𝓤 H A)) (known-room : Triple 𝓤 (𝓣 .C #room) (Rooms 𝓤 H A)) (known-start : Triple 𝓤 (𝓣 .C #start) (Starts 𝓤 H A))
-      (known-count : Triple 𝓤 (𝓣 .C #count) (Counts 𝓤 H A)) (known-fill : Triple 𝓤 (𝓣 .C #fill) (Stores 𝓤 H A)) (known-tells : Triple 𝓤 (𝓣 .C #tells) (Tells 𝓤 H A)) where
+      (known-plan : Triple 𝓤 (𝓣 .C #plan) (Plans 𝓤 H A)) (known-room : Triple 𝓤 (𝓣 .C #room) (Rooms 𝓤 H A))
+      (known-start : Triple 𝓤 (𝓣 .C #start) (Starts 𝓤 H A))
+      (known-count : Triple 𝓤 (𝓣 .C #count) (Counts 𝓤 H A)) (known-fill : Triple 𝓤 (𝓣 .C #fill) (Stores 𝓤 H A))
+      (known-tells : Triple 𝓤 (𝓣 .C #tells) (Tells 𝓤 H A)) where
     abbrev function : Fn
     function = draftFn (DF .ty) (DC .ty) (DP .ty) (DG .ty) #plan #room #start #count #fill #tells
 
     walks : Walks 𝓤 H A ended stayed (WpFn 𝓤 H (𝓣 .C) (𝓣 .Λ) function) (clauses 𝓤)
     walks = walked 𝓤 H A ended stayed (clauses 𝓤) (WpFn 𝓤 H (𝓣 .C) (𝓣 .Λ) function)
         (λ κs. ((λ x. DF .spell x ∷ []), (slice-vals, (slice-vals, (slice-vals, tt)))))
-        (λ κs. (DF .tells, (shr-slice-tells (named 0) (κs .0) u64, (shr-slice-tells (named 1) (κs .1 .0) u32, (mut-slice-tells (named 2) (κs .1 .1 .0) T.the-row, tt)))))
+        (λ κs. (DF .tells, (shr-slice-tells (named 0) (κs .0) u64,
+        (shr-slice-tells (named 1) (κs .1 .0) u32, (mut-slice-tells (named 2) (κs .1 .1 .0) T.the-row, tt)))))
         (λ κs qs bounds a g are. via 𝓤 _ (fst∗ 𝓤 _ (emp 𝓤))
         (walk 𝓤 H A W #plan #room #start #count #fill #tells (κs .0) (κs .1 .0) (κs .1 .1 .0) (qs .0) (qs .1 .0) (qs .1 .1 .0) (a .0) (a .1 .0) (a .1 .1 .0)
         (a .1 .1 .1 .0 .ptr .0) (a .1 .1 .1 .0 .ptr .1) (a .1 .1 .1 .0 .name) (a .1 .1 .1 .0 .now)

@@ -33,7 +33,8 @@ module _ (R₁ R₂ J X : RattleType) (one₁ : One (R₁ .mir)) (one₂ : One (
   fillsClauses 𝓤 κs a = record {
     ghost = Unit {0};
     requires = λ g. fact 𝓤 (Asks (now (a .0)) (now (a .1 .0)) (a .1 .1 .0) (a .1 .1 .1 .0) (now (a .1 .1 .1 .1 .0)));
-    ensures = λ g r e. fact 𝓤 ((r ≡ a .1 .1 .1 .0) × (now (e .1 .1 .1 .1 .0) ≡ leaves (now (a .0)) (now (a .1 .0)) (a .1 .1 .0) (a .1 .1 .1 .0) (now (a .1 .1 .1 .1 .0))));
+    ensures = λ g r e. fact 𝓤 ((r ≡ a .1 .1 .1 .0) × (now (e .1 .1 .1 .1 .0) ≡ leaves (now (a .0)) (now (a .1 .0)) (a .1 .1 .0) (a .1 .1 .1 .0)
+    (now (a .1 .1 .1 .1 .0))));
   }
 
   abbrev pub Fills : {M : Type 1} (𝓤 : URA M) (H : Heap 𝓤) (A : Atoms 𝓤) → Contract 𝓤
@@ -70,7 +71,8 @@ module _ (R₁ R₂ J X : RattleType) (one₁ : One (R₁ .mir)) (one₂ : One (
     )
 
     goes : (κ′ : Lft) (q′ : Share) (δ : GName) → Is J j (D .spell j ∷ []) → n < 2 ^ 64 → Asks (now s₁) (now s₂) j n zs
-        → ent 𝓤 (sep 𝓤 (sem 𝓤 H A Shared₁) (sep 𝓤 (sem 𝓤 H A Shared₂) (sep 𝓤 (sem 𝓤 H A (Out κ′ δ zs)) (sep 𝓤 (A .lft κ₁ q₁) (sep 𝓤 (A .lft κ₂ q₂) (A .lft κ′ q′))))))
+        → ent 𝓤 (sep 𝓤 (sem 𝓤 H A Shared₁) (sep 𝓤 (sem 𝓤 H A Shared₂)
+        (sep 𝓤 (sem 𝓤 H A (Out κ′ δ zs)) (sep 𝓤 (A .lft κ₁ q₁) (sep 𝓤 (A .lft κ₂ q₂) (A .lft κ′ q′))))))
         (Fills 𝓤 H A .pre (to κ′ q′ δ))
     goes κ′ q′ δ g fits asked =
         qed W (‵ Shared₁ ∷ ‵ Shared₂ ∷ ‵ (Out κ′ δ zs) ∷ ‵ (flft κ₁ q₁) ∷ ‵ (flft κ₂ q₂) ∷ ‵ (flft κ′ q′) ∷ []) ∵ says ! asked $
@@ -103,15 +105,18 @@ module _ (R₁ R₂ J X : RattleType) (one₁ : One (R₁ .mir)) (one₂ : One (
           drop t $ split t $ move t (1 ∷ []) $ split t $ move t (1 ∷ []) $ split t $
           -- [out's token; true; s₂'s token; s₁'s token; out's last list; true; …]
           move t (4 ∷ 0 ∷ 3 ∷ 2 ∷ []) $ move t (4 ∷ 5 ∷ []) $ drop t $ drop t $
-          subst (λ (l : List (X .Denot)). Seq K W (‵ (finally X δ l) ∷ ‵ (flft κ′ q′) ∷ ‵ (flft κ₁ q₁) ∷ ‵ (flft κ₂ q₂) ∷ Γ) (lands C Λ E d v rest p)) (sym (e .1))
-          (subst (λ (z : Val). Seq K W (‵ (finally X δ last) ∷ ‵ (flft κ′ q′) ∷ ‵ (flft κ₁ q₁) ∷ ‵ (flft κ₂ q₂) ∷ Γ) (lands C Λ E d z rest p)) (sym (spelt usize number u n v (e .0) is))
+          subst (λ (l : List (X .Denot)). Seq K W (‵ (finally X δ l) ∷ ‵ (flft κ′ q′) ∷ ‵ (flft κ₁ q₁) ∷ ‵ (flft κ₂ q₂) ∷ Γ) (lands C Λ E d v rest p))
+          (sym (e .1))
+          (subst (λ (z : Val). Seq K W (‵ (finally X δ last) ∷ ‵ (flft κ′ q′) ∷ ‵ (flft κ₁ q₁) ∷ ‵ (flft κ₂ q₂) ∷ Γ) (lands C Λ E d z rest p))
+          (sym (spelt usize number u n v (e .0) is))
           (k (ap length (sym (e .1)) ∙ same)))))))))
 
     module _ {K : Type 0} {Γ : List (Item 𝓤)} {E : Env 𝓤 H} {C : Calls 𝓤 H} {f : Name} {xs : List Operand} {Λ : Loops 𝓤 H} {p : Post 𝓤 H}
         {d : Place} {rest : Body} where
       pub calls-filling : K → FmC 𝓤 H (W .laws) C → Triple 𝓤 (C f) (Fills 𝓤 H A) → Is J j (D .spell j ∷ []) → n < 2 ^ 64 → Asks (now s₁) (now s₂) j n zs
           → length zs ≡ m → Room X m
-          → ((ν : ℕ) (δ : GName) → Opds K W (raw (Fills 𝓤 H A .pre (to (ν ∷ []) fullShare δ)) ∷ ‵ Shared₂ ∷ ‵ Shared₁ ∷ ‵ (LentAgain X κ₃ (ν ∷ []) q₃ γ b o δ zs) ∷ Γ) E xs
+          → ((ν : ℕ) (δ : GName) → Opds K W (raw (Fills 𝓤 H A .pre (to (ν ∷ []) fullShare δ)) ∷ ‵ Shared₂ ∷ ‵ Shared₁
+          ∷ ‵ (LentAgain X κ₃ (ν ∷ []) q₃ γ b o δ zs) ∷ Γ) E xs
           (Fills 𝓤 H A .args (to κ₃ q₃ γ)))
           → (length last ≡ m
           → Seq K W (‵ (Out κ₃ γ last) ∷ ‵ (flft κ₃ q₃) ∷ ‵ Shared₁ ∷ ‵ (flft κ₁ q₁) ∷ ‵ Shared₂ ∷ ‵ (flft κ₂ q₂) ∷ Γ) (lands C Λ E d (vint w64 n) rest p))

@@ -81,7 +81,8 @@ runs-at at ns h = omega (arith, length-drop at ns)
 -- ---- the run that is found, and what is left
 
 pub found-next : (f : Form) (ws es : List ℕ) (at : ℕ) → Accepted (lent f ws es) → 2 ≤ length (leftBy f (lent f ws es) at)
-    → leftBy f (lent f ws es) at ≡ foundBy f (lent f ws es) at .first ∷ foundBy f (lent f ws es) at .past ∷ leftBy f (lent f ws es) (foundBy f (lent f ws es) at .at)
+    → leftBy f (lent f ws es) at ≡ foundBy f (lent f ws es) at .first ∷ foundBy f (lent f ws es) at .past ∷ leftBy f (lent f ws es)
+    (foundBy f (lent f ws es) at .at)
 found-next (All n) ws es zero m h = whole-run n (all-at n 0 (lent (All n) ws es) h .1)
 found-next (All n) ws es (suc at) m h = absurd (omega arith)
 found-next (None n) ws es at m h = absurd (omega arith)
@@ -113,14 +114,16 @@ module _ (ws es : List ℕ) where
   abbrev left : Cursor → List ℕ
   left c = leftBy (c .form) (lentTo ws es c) (c .at)
 
-  next : (c : Cursor) (n : ℕ) → Accepted (lentTo ws es c) → length (left c) ≡ suc n * 2 → left c ≡ cursorBy ws es c .first ∷ cursorBy ws es c .past ∷ left (cursorBy ws es c)
+  next : (c : Cursor) (n : ℕ) → Accepted (lentTo ws es c) → length (left c) ≡ suc n * 2 → left c ≡ cursorBy ws es c .first ∷ cursorBy ws es c .past
+      ∷ left (cursorBy ws es c)
   next c n m e = found-next (c .form) ws es (c .at) m (omega (arith, e))
 
   ready-all : (n : ℕ) (c : Cursor) → Accepted (lentTo ws es c) → length (left c) ≡ n * 2 → SearchReady ws es c n
   ready-all zero c m e = tt
   ready-all (suc n) c m e = ((m, omega (arith, e)), ready-all n (cursorBy ws es c) m (omega (arith, e, ap length (next c n m e))))
 
-  stored-all : (n i : ℕ) (c : Cursor) (out : List Run) → Accepted (lentTo ws es c) → length (left c) ≡ n * 2 → storedFrom ws es i c n out ≡ splice i out (recordsOf (left c))
+  stored-all : (n i : ℕ) (c : Cursor) (out : List Run) → Accepted (lentTo ws es c) → length (left c) ≡ n * 2 → storedFrom ws es i c n out
+      ≡ splice i out (recordsOf (left c))
   stored-all zero i c out m e = sym (ap (λ (l : List ℕ). splice i out (recordsOf l)) (no-more (left c) e) ∙ splice-nil i out)
   stored-all (suc n) i c out m e =
       let d = cursorBy ws es c in
@@ -173,7 +176,8 @@ module _ (f : Form) (ws es : List ℕ) (out : List Run) where
       by-room e true t =
           let m = accepted-as 1 o .0 (fine-exactly (operandChecks 1 o) .0 e) in
           let lacks = ltb-true (length out) (runsIn (rowsOf o)) t in
-          let r = runs-refused o (numbersOf out) (refusal 8 0) (runs-no-room o (numbersOf out) m (omega (arith, lacks, numbers-length out, runs-even (rowsOf o)))) in
+          let r = runs-refused o (numbersOf out) (refusal 8 0)
+          (runs-no-room o (numbersOf out) m (omega (arith, lacks, numbers-length out, runs-even (rowsOf o)))) in
           barred (refusal 8 0) (record {
             plans = ap (λ (v : Verdict). roomed (planBy v o) (length out)) e ∙ ap (λ (b : Bool). cond b (noPlan (refusal 8 0)) (planBy Fine o)) t;
             told = r .0;
@@ -191,7 +195,8 @@ module _ (f : Form) (ws es : List ℕ) (out : List Run) where
       by (Refused x) e =
           let r = runs-refused o (numbersOf out) x (runs-barred o (numbersOf out) x e) in
           barred x (record {
-            plans = ap (λ (v : Verdict). roomed (planBy v o) (length out)) e ∙ ap (λ (b : Bool). cond b (noPlan (refusal 8 0)) (noPlan x)) (never-below (length out));
+            plans = ap (λ (v : Verdict). roomed (planBy v o) (length out)) e ∙ ap (λ (b : Bool). cond b (noPlan (refusal 8 0)) (noPlan x))
+            (never-below (length out));
             told = r .0;
             leaves = r .1;
           })
@@ -214,7 +219,8 @@ module _ (f : Form) (ws es : List ℕ) (out : List Run) where
       (λ w. omega (arith, some w, w .room, numbers-length out, runs-even (rowsOf o)))
 
   pub records-told : plan .written ≡ toRuns o (numbersOf out)
-  records-told = by-verdict (λ x b. ap (λ (p : Plan). p .written) (b .plans) ∙ b .told) (λ w. ap (λ (p : Plan). p .written) (w .plans) ∙ runs-written o (numbersOf out) (w .accepts) (w .room) .0)
+  records-told = by-verdict (λ x b. ap (λ (p : Plan). p .written) (b .plans) ∙ b .told)
+      (λ w. ap (λ (p : Plan). p .written) (w .plans) ∙ runs-written o (numbersOf out) (w .accepts) (w .room) .0)
 
   pub records-left : numbersOf stored ≡ toRunsOut o (numbersOf out)
   records-left = by-verdict

@@ -30,7 +30,8 @@ pair-stored xs k first past =
     ∙ ap (λ (l : List ℕ). splice (k + 1) l (past ∷ [])) (sym (splice-one k xs first))
     ∙ splice-append k xs (first ∷ []) (past ∷ [])
 
-pub pair-next : (w : Writing) (first past : ℕ) (ns out : List ℕ) → spliced w (first ∷ past ∷ ns) out ≡ spliced (movedBy 1 w) ns (spliced w (first ∷ past ∷ []) out)
+pub pair-next : (w : Writing) (first past : ℕ) (ns out : List ℕ) → spliced w (first ∷ past ∷ ns) out ≡ spliced (movedBy 1 w) ns
+    (spliced w (first ∷ past ∷ []) out)
 pair-next (At k) first past ns out = sym (splice-append k out (first ∷ past ∷ []) ns)
 pair-next (Barred x) first past ns out = refl
 

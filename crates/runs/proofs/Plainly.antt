@@ -79,12 +79,14 @@ module _ (X Y R : RattleType) (D : Value X) (D₁ : Value Y) (D′ : Value R) (f
         {d : Place} {rest : Body} where
       pub calls-two : K → FmC 𝓤 H (W .laws) C → Triple 𝓤 (C name) (Two 𝓤 H A) → Is X x (D .spell x ∷ []) → Is Y y (D₁ .spell y ∷ [])
           → Opds K W (raw (Two 𝓤 H A .pre to-two) ∷ Γ) E xs (Two 𝓤 H A .args to-two)
-          → (Is R (f x y) (D′ .spell (f x y) ∷ []) → Seq K W Γ (lands C Λ E d (D′ .spell (f x y)) rest p)) → Seq K W Γ (runs C Λ E (seq (call name xs d) rest) p)
+          → (Is R (f x y) (D′ .spell (f x y) ∷ []) → Seq K W Γ (lands C Λ E d (D′ .spell (f x y)) rest p))
+          → Seq K W Γ (runs C Λ E (seq (call name xs d) rest) p)
       calls-two t fm known g g₁ os k =
           nothing t $ owned t Y (Is Y) (D₁ .makes 𝓤 H A W) y _ g₁ $ fjoin t $ owned t X (Is X) (D .makes 𝓤 H A W) x _ g $ fjoin t $
           nothing t $ use2 W (raw (Two 𝓤 H A .pre to-two)) goes-two $
           calls-at t fm (Two 𝓤 H A) known to-two os (λ v.
-          use1 W (later (some (λ (u : R .Denot). (‵ ftrue ⊛ ‵ (R .own u (v ∷ []))) ⊛ raw (ensured 𝓤 H A twoEnded (twoClauses 𝓤) tt (x, (y, tt)) tt u)))) (id⊢ 𝓤 _) $
+          use1 W (later (some (λ (u : R .Denot). (‵ ftrue ⊛ ‵ (R .own u (v ∷ []))) ⊛ raw (ensured 𝓤 H A twoEnded (twoClauses 𝓤) tt (x, (y, tt)) tt u))))
+          (id⊢ 𝓤 _) $
           await t tt $ pick t (λ u.
           split t $ move t (1 ∷ []) $ use1 W (raw (fact 𝓤 (u ≡ f x y))) (said-two u) $ heard t (u ≡ f x y) (λ e.
           split t $ drop t $ peeks t R (Is R) (shows 𝓤 H A R) u (v ∷ []) (λ is. drop t $

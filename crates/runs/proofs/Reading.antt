@@ -76,7 +76,8 @@ module _ (R₁ R₂ J G : RattleType) (one₁ : One (R₁ .mir)) (one₂ : One (
     abbrev result : G .Denot
     result = gives (now s₁) (now s₂) j
 
-    said : (asking : Bool) (u : G .Denot) → ent 𝓤 (ensured 𝓤 H A readsEnded (readsClauses 𝓤 asking) (κ₁, (κ₂, tt)) (s₁, (s₂, (j, tt))) tt u) (fact 𝓤 (u ≡ result))
+    said : (asking : Bool) (u : G .Denot) → ent 𝓤 (ensured 𝓤 H A readsEnded (readsClauses 𝓤 asking) (κ₁, (κ₂, tt)) (s₁, (s₂, (j, tt))) tt u)
+        (fact 𝓤 (u ≡ result))
     said asking u = exE 𝓤 _ (λ w. snd∗ 𝓤 (sem 𝓤 H A (lasts readsEnded (κ₁, (κ₂, tt)) (s₁, (s₂, (j, tt))) w)) (fact 𝓤 (u ≡ result)))
 
     module _ {K : Type 0} {Γ : List (Item 𝓤)} {E : Env 𝓤 H} {C : Calls 𝓤 H} {f : Name} {xs : List Operand} {Λ : Loops 𝓤 H} {p : Post 𝓤 H}

@@ -100,7 +100,8 @@ module _ (ns : List ℕ) (out : List Run) where
 
   none : (x : Refusal) → verdict ≡ Refused x → written ≡ 0
   none x e =
-      sym (pairs-none (judgedBy n (length out)) n (λ z. never (sym e ∙ fine-exactly (recordsChecks ns out) .1 (accepts-exactly (recordsChecks ns out) numbered .0 z))))
+      sym (pairs-none (judgedBy n (length out)) n (λ z. never
+      (sym e ∙ fine-exactly (recordsChecks ns out) .1 (accepts-exactly (recordsChecks ns out) numbered .0 z))))
 
   pub records-room : (written + written ≤ n) × (written ≤ length out)
   records-room = by verdict refl

@@ -59,7 +59,8 @@ split-here row n s = sym (take-drop n (drop row s)) ∙ ap (λ (l : List Bool). 
     take-drop (suc k) (b ∷ l) = ap (λ (m : List Bool). b ∷ m) (take-drop k l)
 
 -- a chunk in which nothing is found is passed, and in one in which something is the lowest bit is it
-module _ (x : Bool) (row n : ℕ) (s : List Bool) (here : ℕ) (short : n ≤ 64) (within : row + n ≤ length s) (is : here ≡ wordOf (hits x (take n (drop row s)))) where
+module _ (x : Bool) (row n : ℕ) (s : List Bool) (here : ℕ) (short : n ≤ 64) (within : row + n ≤ length s) (is : here ≡ wordOf (hits x (take n (drop row s))))
+    where
   abbrev piece : List Bool
   piece = hits x (take n (drop row s))
 
@@ -80,7 +81,8 @@ module _ (x : Bool) (row n : ℕ) (s : List Bool) (here : ℕ) (short : n ≤ 64
 
   low : 0 < here → setRows 0 piece ≡ trailingZeros 64 here ∷ setRows 0 (bitsOf 64 (bitAnd here (here - 1)))
   low h =
-      let small : here < 2 ^ 64 = subst (λ (k : ℕ). k < 2 ^ 64) (sym is) (lt-of-lt-of-le (wordOf-lt piece) (pow-mono {i = length piece} {j = 64} (omega (arith, piece-length)))) in
+      let small : here < 2 ^ 64 = subst (λ (k : ℕ). k < 2 ^ 64) (sym is)
+      (lt-of-lt-of-le (wordOf-lt piece) (pow-mono {i = length piece} {j = 64} (omega (arith, piece-length)))) in
       sym (rows-word 0 64 piece (omega (arith, piece-length))) ∙ ap (λ (k : ℕ). setRows 0 (bitsOf 64 k)) (sym is) ∙ rows-low 0 64 here h small
       ∙ ap (λ (k : ℕ). k ∷ setRows 0 (bitsOf 64 (bitAnd here (here - 1)))) (zero-add (trailingZeros 64 here))
 
@@ -125,7 +127,8 @@ set-run : (b : ℕ) (t : List Bool) → turns true b t ≡ (b + select (map not 
 set-run b [] = ap (λ (k : ℕ). k ∷ []) (sym (add-zero b))
 set-run b (false ∷ t) = ap (λ (k : ℕ). k ∷ turns false k (false ∷ t)) (sym (add-zero b))
 set-run b (true ∷ t) =
-    set-run (suc b) t ∙ ap (λ (k : ℕ). k ∷ turns false k (drop (select (map not t) 0) t)) (suc-add b (select (map not t) 0) ∙ sym (add-suc b (select (map not t) 0)))
+    set-run (suc b) t ∙ ap (λ (k : ℕ). k ∷ turns false k (drop (select (map not t) 0) t))
+    (suc-add b (select (map not t) 0) ∙ sym (add-suc b (select (map not t) 0)))
     ∙ ap (λ (j : ℕ). (b + j) ∷ turns false (b + j) (drop j (true ∷ t))) (sym (select-unset (map not t) 0))
 
 pub words-next : (at : ℕ) (s : List Bool) → 0 < length (turns false at (drop at s))
@@ -159,7 +162,8 @@ gaps-on p (e ∷ es) = by (ℕ-discrete e p) (gaps-on (suc e) es)
 
 pub list-next : (at : ℕ) (es : List ℕ) → at < length es
     → listTurns (drop at es)
-    ≡ getD es at 0 ∷ (suc (getD es at 0) + runOn (suc (getD es at 0)) (drop (suc at) es)) ∷ listTurns (drop (suc at + runOn (suc (getD es at 0)) (drop (suc at) es)) es)
+    ≡ getD es at 0 ∷ (suc (getD es at 0) + runOn (suc (getD es at 0)) (drop (suc at) es))
+    ∷ listTurns (drop (suc at + runOn (suc (getD es at 0)) (drop (suc at) es)) es)
 list-next at es h =
     let f = getD es at 0 in
     let k = runOn (suc f) (drop (suc at) es) in

@@ -151,7 +151,8 @@ module _ (J : RattleType) (D : Value J) (P : Searching (J .Denot)) where
       Λ = 𝓣 .Λ
 
       abbrev En : Env 𝓤 H
-      En = (word, l₀) ∷ (slice₁, l₁) ∷ (slice₂, l₂) ∷ (D .ty, l₃) ∷ (word, l₄) ∷ (mslice, l₅) ∷ (D .ty, l₆) ∷ (word, l₇) ∷ (tyBool, l₈) ∷ (T′.mir, l₉) ∷ (word, l₁₀) ∷ (tyPtr, l₁₁) ∷ []
+      En = (word, l₀) ∷ (slice₁, l₁) ∷ (slice₂, l₂) ∷ (D .ty, l₃) ∷ (word, l₄) ∷ (mslice, l₅) ∷ (D .ty, l₆) ∷ (word, l₇) ∷ (tyBool, l₈) ∷ (T′.mir, l₉)
+          ∷ (word, l₁₀) ∷ (tyPtr, l₁₁) ∷ []
 
       -- i runs are stored, the search stands at c, and out is at zs
       abbrev At : ℕ → J .Denot → List Run → List (Item 𝓤)
@@ -197,14 +198,17 @@ module _ (J : RattleType) (D : Value J) (P : Searching (J .Denot)) where
           let m = scaled-fits i (length ys) 8 inside (gy .1) in
           let nxt = P .next ws es c in
           qed W (At i c zs) ∵ exec ! C Λ En (turn (D .ty) #next #run) (anyQ (afterTurn 𝓤 H Q Left)) $
-          assigns ! (bin ! (load ! (from ! (stop !)) (look ! 15 refl)) (load ! (from ! (stop !)) (look ! 12 refl)) tt) (from ! (stop !)) (init ! 16 refl (tt, tt)) $
+          assigns ! (bin ! (load ! (from ! (stop !)) (look ! 15 refl)) (load ! (from ! (stop !)) (look ! 12 refl)) tt) (from ! (stop !))
+          (init ! 16 refl (tt, tt)) $
           rewrite ! 16 (λ (z : Bool). ‵ (fat fullShare tyBool l₈ 0 (vbool z))) (holds (ltb i n) (lt→ltb i n l)) refl $
           stays ! (load ! (from ! (stop !)) (look ! 16 refl)) $ move ! (4 ∷ 5 ∷ 6 ∷ 7 ∷ []) $
           -- the next run
           calls-reading u64 u32 J J tt tt D D (P .Asks) (P .next) W κ₁ κ₂ q₁ q₂ s₁ s₂ c ! fm true known-next g asked
-          (and-then ! (load ! (from ! (stop !)) (look ! 8 refl)) (and-then ! (load ! (from ! (stop !)) (look ! 9 refl)) (and-then ! (load ! (from ! (stop !)) (look ! 13 refl)) (no-more !))))
+          (and-then ! (load ! (from ! (stop !)) (look ! 8 refl))
+          (and-then ! (load ! (from ! (stop !)) (look ! 9 refl)) (and-then ! (load ! (from ! (stop !)) (look ! 13 refl)) (no-more !))))
           (λ is-next. land ! (from ! (stop !)) (store ! 14 refl (D .typed 𝓤 H A W nxt _ is-next)) $
-          calls-one J T.the-row D record-value (P .run) W nxt ! fm known-run is-next (and-then ! (load ! (from ! (stop !)) (look ! 15 refl)) (no-more !)) (λ is-run.
+          calls-one J T.the-row D record-value (P .run) W nxt ! fm known-run is-next (and-then ! (load ! (from ! (stop !)) (look ! 15 refl)) (no-more !))
+          (λ is-run.
           let wt = record-value .typed 𝓤 H A W (P .run nxt) _ is-run in
           -- [words; its token; rows; its token; the row; the open borrow; obs; auth; _0; …]
           land ! (from ! (stop !)) (init ! 17 refl wt) $
@@ -213,13 +217,18 @@ module _ (J : RattleType) (D : Value J) (P : Searching (J .Denot)) where
           (from ! (stop !)) (init ! 19 refl (tt, tt)) $
           rewrite ! 19 (λ (p : ℕ). ‵ (fat fullShare tyPtr l₁₁ 0 (vptr b p))) (sym (place-is 8 o i)) refl $
           owned ! T.the-row (Is T.the-row) (record-value .makes 𝓤 H A W) (P .run nxt) _ is-run $ move ! (5 ∷ []) $
-          elem-out ! T.the-row (Is T.the-row) (shows 𝓤 H A T.the-row) (LL.vals T.the-type T′.the-laws) (LL.tells T.the-type T′.the-laws) fullShare zs i noRun b o (omega arith) (λ old.
+          elem-out ! T.the-row (Is T.the-row) (shows 𝓤 H A T.the-row) (LL.vals T.the-type T′.the-laws) (LL.tells T.the-type T′.the-laws) fullShare zs i noRun b
+          o (omega arith) (λ old.
           assigns ! (of-opd ! (load ! (from ! (stop !)) (look ! 20 refl))) (from ! (hop ! (look ! 22 refl) (stop !))) (store-raw ! 0 refl wt) $
-          move ! (1 ∷ []) $ drop ! $ move ! (0 ∷ 2 ∷ 1 ∷ []) $ elem-put ! T.the-row fullShare zs i (P .run nxt) (record-value .spell (P .run nxt) ∷ []) b o (omega arith) $
+          move ! (1 ∷ []) $ drop ! $ move ! (0 ∷ 2 ∷ 1 ∷ []) $ elem-put ! T.the-row fullShare zs i (P .run nxt) (record-value .spell (P .run nxt) ∷ []) b o
+          (omega arith) $
           -- [the row; words; its token; rows; its token; the open borrow; obs; auth; _0; …]
-          assigns-last ! (bin ! (load ! (from ! (stop !)) (look ! 15 refl)) (lit ! tt) (record { fits = next-fits })) (from ! (stop !)) (store ! 15 refl (tt, record { fits = next-fits })) $
-          forget ! 16 refl $ forget ! 17 refl $ forget ! 18 refl $ forget ! 19 refl $ rewrite ! 15 (λ (z : ℕ). ‵ (fat fullShare word l₇ 0 (vint w64 z))) (add-one i) refl $
-          keep ! (0 ∷ 5 ∷ 6 ∷ 7 ∷ 1 ∷ 2 ∷ 3 ∷ 4 ∷ 8 ∷ 9 ∷ 10 ∷ 11 ∷ 12 ∷ 13 ∷ 14 ∷ 15 ∷ 16 ∷ 17 ∷ 18 ∷ 19 ∷ 20 ∷ 21 ∷ 22 ∷ 23 ∷ 24 ∷ 25 ∷ 26 ∷ 27 ∷ 28 ∷ 29 ∷ 30 ∷ 31 ∷ []) $ by ! (k is-next))))
+          assigns-last ! (bin ! (load ! (from ! (stop !)) (look ! 15 refl)) (lit ! tt) (record { fits = next-fits })) (from ! (stop !))
+          (store ! 15 refl (tt, record { fits = next-fits })) $
+          forget ! 16 refl $ forget ! 17 refl $ forget ! 18 refl $ forget ! 19 refl $ rewrite ! 15 (λ (z : ℕ). ‵ (fat fullShare word l₇ 0 (vint w64 z)))
+          (add-one i) refl $
+          keep ! (0 ∷ 5 ∷ 6 ∷ 7 ∷ 1 ∷ 2 ∷ 3 ∷ 4 ∷ 8 ∷ 9 ∷ 10 ∷ 11 ∷ 12 ∷ 13 ∷ 14 ∷ 15 ∷ 16 ∷ 17 ∷ 18 ∷ 19 ∷ 20 ∷ 21 ∷ 22 ∷ 23 ∷ 24 ∷ 25 ∷ 26 ∷ 27 ∷ 28 ∷ 29 ∷ 30
+          ∷ 31 ∷ []) $ by ! (k is-next))))
         where
           next-fits : i + 1 < 2 ^ 64
           next-fits = omega (arith, gn)
@@ -230,7 +239,8 @@ module _ (J : RattleType) (D : Value J) (P : Searching (J .Denot)) where
       unfolding afterTurn
       ends c zs Q len e =
           qed W (At n c zs) ∵ exec ! C Λ En (turn (D .ty) #next #run) (anyQ (afterTurn 𝓤 H Q Left)) $
-          assigns ! (bin ! (load ! (from ! (stop !)) (look ! 15 refl)) (load ! (from ! (stop !)) (look ! 12 refl)) tt) (from ! (stop !)) (init ! 16 refl (tt, tt)) $
+          assigns ! (bin ! (load ! (from ! (stop !)) (look ! 15 refl)) (load ! (from ! (stop !)) (look ! 12 refl)) tt) (from ! (stop !))
+          (init ! 16 refl (tt, tt)) $
           rewrite ! 16 (λ (z : Bool). ‵ (fat fullShare tyBool l₈ 0 (vbool z))) (fails (ltb n n) (λ t. lt-irrefl n (ltb→lt n n t))) refl $
           leaves-loop ! (load ! (from ! (stop !)) (look ! 16 refl)) $ exec ! C Λ En (after (D .ty) #next #run) (atRet En Post) $
           assigns ! (of-opd ! (load ! (from ! (stop !)) (look ! 12 refl))) (from ! (stop !)) (init ! 8 refl (tt, record { fits = gn })) $
@@ -248,9 +258,11 @@ module _ (J : RattleType) (D : Value J) (P : Searching (J .Denot)) where
       into m s h = via 𝓤 (guard 𝓤 (Known m (s .0) (s .1 .0) (s .1 .1)) (At-of s)) (guardI 𝓤 (Known m (s .0) (s .1 .0) (s .1 .1)) (At-of s) h)
           (exI 𝓤 (λ (u : ℕ × (J .Denot × List Run)). guard 𝓤 (Known m (u .0) (u .1 .0) (u .1 .1)) (At-of u)) s)
 
-      turn-at : (m i : ℕ) (c : J .Denot) (zs : List Run) → Known m i c zs → ent 𝓤 (⋆ 𝓤 H A (At i c zs)) (Wp 𝓤 H C Λ En (turn (D .ty) #next #run) (afterTurn 𝓤 H (Below m) Left))
+      turn-at : (m i : ℕ) (c : J .Denot) (zs : List Run) → Known m i c zs → ent 𝓤 (⋆ 𝓤 H A (At i c zs))
+          (Wp 𝓤 H C Λ En (turn (D .ty) #next #run) (afterTurn 𝓤 H (Below m) Left))
       turn-at zero i c zs h =
-          subst (λ (z : ℕ). ent 𝓤 (⋆ 𝓤 H A (At z c zs)) (Wp 𝓤 H C Λ En (turn (D .ty) #next #run) (afterTurn 𝓤 H (Below zero) Left))) (sym (sym (add-zero i) ∙ h .left))
+          subst (λ (z : ℕ). ent 𝓤 (⋆ 𝓤 H A (At z c zs)) (Wp 𝓤 H C Λ En (turn (D .ty) #next #run) (afterTurn 𝓤 H (Below zero) Left)))
+          (sym (sym (add-zero i) ∙ h .left))
           (ends c zs (Below zero) (h .long) (sym (P .stored-none ws es i c zs) ∙ h .outs))
       turn-at (suc m) i c zs h =
           let nxt = P .next ws es c in
@@ -282,10 +294,12 @@ module _ (J : RattleType) (D : Value J) (P : Searching (J .Denot)) where
     walk 𝓣 known-next known-run gw ge g₀ gn gy h =
         qed W ((‵ (flft κ₁ q₁) ⊛ (‵ (flft κ₂ q₂) ⊛ (‵ (flft κ₃ q₃) ⊛ ‵ ftrue)))
         ∷ ‵ (owns (ShrSlice (named 0) κ₁ u64 ∷ ShrSlice (named 1) κ₂ u32 ∷ J ∷ usize ∷ MutSlice (named 2) κ₃ T.the-row ∷ []) a at) ∷ []) ∵
-        enter ! (𝓣 .C) (𝓣 .Λ) (fillFn (D .ty) #next #run) (sliceVal (s₁ .ptr) (length ws) ∷ sliceVal (s₂ .ptr) (length es) ∷ D .spell c₀ ∷ vint w64 n ∷ sliceVal (b, o) (length ys) ∷ []) _ $
+        enter ! (𝓣 .C) (𝓣 .Λ) (fillFn (D .ty) #next #run) (sliceVal (s₁ .ptr) (length ws) ∷ sliceVal (s₂ .ptr) (length es) ∷ D .spell c₀ ∷ vint w64 n
+        ∷ sliceVal (b, o) (length ys) ∷ []) _ $
         alloc1 ! (λ l₀. alloc1 ! (λ l₁. alloc1 ! (λ l₂. alloc1 ! (λ l₃. alloc1 ! (λ l₄. alloc1 ! (λ l₅. alloc1 ! (λ l₆. alloc1 ! (λ l₇. alloc1 ! (λ l₈.
         alloc1 ! (λ l₉. alloc1 ! (λ l₁₀. alloc1 ! (λ l₁₁.
-        alloc0 ! $ params1 ! $ pass1 ! (init ! 20 refl (tt, (tt, (record { fits = gw .0 }, tt)))) $ pass1 ! (init ! 18 refl (tt, (tt, (record { fits = ge .0 }, tt)))) $
+        alloc0 ! $ params1 ! $ pass1 ! (init ! 20 refl (tt, (tt, (record { fits = gw .0 }, tt)))) $
+        pass1 ! (init ! 18 refl (tt, (tt, (record { fits = ge .0 }, tt)))) $
         pass1 ! (init ! 16 refl (D .typed 𝓤 H A W c₀ _ g₀)) $ pass1 ! (init ! 14 refl (tt, record { fits = gn })) $
         pass1 ! (init ! 12 refl (tt, (tt, (record { fits = gy .0 }, tt)))) $ pass0 ! $
         assigns ! (of-opd ! (load ! (from ! (stop !)) (look ! 16 refl))) (from ! (stop !)) (init ! 10 refl (D .typed 𝓤 H A W c₀ _ g₀)) $
@@ -296,7 +310,8 @@ module _ (J : RattleType) (D : Value J) (P : Searching (J .Denot)) where
         -- [out's token; true; rows's token; words's token; out; true; rows; words; _11; …]
         move ! (4 ∷ 0 ∷ []) $ opens-mut T.the-row (named 2) κ₃ q₃ γ b o ! tt ys $
         -- [the row; the open borrow; obs; auth; true; rows's token; words's token; true; rows; words; _11; …]
-        keep ! (0 ∷ 1 ∷ 2 ∷ 3 ∷ 9 ∷ 6 ∷ 8 ∷ 5 ∷ 32 ∷ 30 ∷ 28 ∷ 26 ∷ 24 ∷ 22 ∷ 20 ∷ 18 ∷ 16 ∷ 14 ∷ 12 ∷ 10 ∷ 33 ∷ 31 ∷ 29 ∷ 27 ∷ 25 ∷ 23 ∷ 21 ∷ 19 ∷ 17 ∷ 15 ∷ 13 ∷ 11 ∷ []) $
+        keep ! (0 ∷ 1 ∷ 2 ∷ 3 ∷ 9 ∷ 6 ∷ 8 ∷ 5 ∷ 32 ∷ 30 ∷ 28 ∷ 26 ∷ 24 ∷ 22 ∷ 20 ∷ 18 ∷ 16 ∷ 14 ∷ 12 ∷ 10 ∷ 33 ∷ 31 ∷ 29 ∷ 27 ∷ 25 ∷ 23 ∷ 21 ∷ 19 ∷ 17 ∷ 15 ∷ 13
+        ∷ 11 ∷ []) $
         by ! (loops 𝓣 known-next known-run g₀ gn gy (h .1) l₀ l₁ l₂ l₃ l₄ l₅ l₆ l₇ l₈ l₉ l₁₀ l₁₁ (h .0))))))))))))))
 
   module _ {M : Type 1} (𝓤 : URA M) (H : Heap 𝓤) (A : Atoms 𝓤) (W : Given 𝓤 H A) (#next #run : Name) (𝓣 : Tables 𝓤 H)
@@ -304,8 +319,10 @@ module _ (J : RattleType) (D : Value J) (P : Searching (J .Denot)) where
     walks : Walks 𝓤 H A ended stayed (WpFn 𝓤 H (𝓣 .C) (𝓣 .Λ) (fillFn (D .ty) #next #run)) (clauses 𝓤)
     walks = walked 𝓤 H A ended stayed (clauses 𝓤) (WpFn 𝓤 H (𝓣 .C) (𝓣 .Λ) (fillFn (D .ty) #next #run))
         (λ κs. (slice-vals, (slice-vals, ((λ x. D .spell x ∷ []), (uint-vals w64, (slice-vals, tt))))))
-        (λ κs. (shr-slice-tells (named 0) (κs .0) u64, (shr-slice-tells (named 1) (κs .1 .0) u32, (D .tells, (uint-tells w64, (mut-slice-tells (named 2) (κs .1 .1 .0) T.the-row, tt))))))
-        (λ κs qs bounds a g are. needs 𝓤 (P .Ready (now (a .0)) (now (a .1 .0)) (a .1 .1 .0) (a .1 .1 .1 .0) × (a .1 .1 .1 .0 ≤ length (now (a .1 .1 .1 .1 .0)))) _
+        (λ κs. (shr-slice-tells (named 0) (κs .0) u64, (shr-slice-tells (named 1) (κs .1 .0) u32,
+        (D .tells, (uint-tells w64, (mut-slice-tells (named 2) (κs .1 .1 .0) T.the-row, tt))))))
+        (λ κs qs bounds a g are. needs 𝓤 (P .Ready (now (a .0)) (now (a .1 .0)) (a .1 .1 .0) (a .1 .1 .1 .0) ×
+        (a .1 .1 .1 .0 ≤ length (now (a .1 .1 .1 .1 .0)))) _
         (walk 𝓤 H A W #next #run (κs .0) (κs .1 .0) (κs .1 .1 .0) (qs .0) (qs .1 .0) (qs .1 .1 .0) (a .0) (a .1 .0) (a .1 .1 .0) (a .1 .1 .1 .0)
         (a .1 .1 .1 .1 .0 .ptr .0) (a .1 .1 .1 .1 .0 .ptr .1) (a .1 .1 .1 .1 .0 .name) (a .1 .1 .1 .1 .0 .now)
         𝓣 known-next known-run (are .0 .0 .1) (are .1 .0 .0 .1) (are .1 .1 .0) (are .1 .1 .1 .0 .1) (are .1 .1 .1 .1 .0 .0 .1)))

@@ -89,12 +89,14 @@ abbrev ends : ℕ → List Run → ℕ
 ends from [] = from
 ends from (r ∷ rs) = ends (suc (r .past)) rs
 
-weigh-fit : (rs : List Run) (len from sum : ℕ) → runsFit from len (numbersOf rs) ≡ true → weighRuns rs (On len from sum) ≡ On len (ends from rs) (sum + runLengths (numbersOf rs))
+weigh-fit : (rs : List Run) (len from sum : ℕ) → runsFit from len (numbersOf rs) ≡ true → weighRuns rs (On len from sum) ≡ On len (ends from rs)
+    (sum + runLengths (numbersOf rs))
 weigh-fit [] len from sum e = ap (λ (k : ℕ). On len from k) (omega arith)
 weigh-fit (r ∷ rs) len from sum e =
     let f = r .first in
     let p = r .past in
-    let t = both (leb from f && (ltb f p && leb p len)) (runsFit (suc p) len (numbersOf rs)) (sym (regroup (leb from f) (ltb f p) (leb p len) (runsFit (suc p) len (numbersOf rs))) ∙ e) in
+    let t = both (leb from f && (ltb f p && leb p len)) (runsFit (suc p) len (numbersOf rs))
+    (sym (regroup (leb from f) (ltb f p) (leb p len) (runsFit (suc p) len (numbersOf rs))) ∙ e) in
     ap (λ (b : Bool). weighRuns rs (weighBy b len sum f p)) (t .0)
     ∙ weigh-fit rs len (suc p) (sum + (p - f)) (t .1) ∙ ap (λ (k : ℕ). On len (ends (suc p) rs) k) (omega arith)
 
@@ -124,8 +126,7 @@ pub lay-next : (r : Run) (rs : List Run) (s : Sweep) (out : List ℕ) → LayRea
 lay-next r rs (On len from sum) out h =
     let f = r .first in
     let p = r .past in
-    let long = laid-length 64 from (replicate (f - from) false ++ replicate (p - f) true) out in
-    (
+    let long = laid-length 64 from (replicate (f - from) false ++ replicate (p - f) true) out in (
       (h .0 .0, omega (arith, h .0 .1), h .0 .2, h .1),
       (apart-weaker p (suc p) len (numbersOf rs) (omega arith) (h .0 .3), (omega (arith, long, h .1 .0), h .1 .1)),
     )
@@ -156,7 +157,8 @@ laid-on (r ∷ rs) len from sum out a =
     let ns = numbersOf rs in
     let turn = replicate (f - from) false ++ replicate (p - f) true in
     let long : p ≡ from + length turn =
-    omega (arith, a .0, a .1, length-append (replicate (f - from) false) (replicate (p - f) true), length-replicate (f - from) false, length-replicate (p - f) true) in
+    omega (arith, a .0, a .1, length-append (replicate (f - from) false) (replicate (p - f) true), length-replicate (f - from) false, length-replicate (p - f)
+    true) in
     laid-on rs len p sum (laid from turn out) (apart-weaker p (suc p) len ns (omega arith) (a .3))
     ∙ laid-append 64 from p turn (runRows p len ns) out long
 
@@ -274,18 +276,21 @@ module _ (len : ℕ) (rs : List Run) (out : List ℕ) where
         (runs-apart, (omega (arith, c .room, long), omega (arith, c .accepts .0)))
 
   pub lay-ready : LayReady rs sweep cleared
-  lay-ready = cases (λ x b. subst (λ (s : Sweep). LayReady rs s cleared) (sym (b .sweeps)) tt) (λ c. subst (λ (s : Sweep). LayReady rs s cleared) (sym (c .sweeps)) (lays-ready c))
+  lay-ready = cases (λ x b. subst (λ (s : Sweep). LayReady rs s cleared) (sym (b .sweeps)) tt)
+      (λ c. subst (λ (s : Sweep). LayReady rs s cleared) (sym (c .sweeps)) (lays-ready c))
 
   pub finish-asks : FinishAsks (layRuns rs sweep) (layRunsOut rs sweep cleared)
   finish-asks = cases
-      (λ x b. subst (λ (s : Sweep). FinishAsks (layRuns rs s) (layRunsOut rs s cleared)) (sym (b .sweeps)) (subst (λ (s : Sweep). FinishAsks s (layRunsOut rs (Barred x) cleared)) (sym (lay-barred rs x cleared .0)) tt))
+      (λ x b. subst (λ (s : Sweep). FinishAsks (layRuns rs s) (layRunsOut rs s cleared)) (sym (b .sweeps))
+      (subst (λ (s : Sweep). FinishAsks s (layRunsOut rs (Barred x) cleared)) (sym (lay-barred rs x cleared .0)) tt))
       (λ c. subst (λ (s : Sweep). FinishAsks (layRuns rs s) (layRunsOut rs s cleared)) (sym (c .sweeps))
       (finish-on rs len 0 (runLengths ns) cleared (omega arith) (c .accepts .0) (accepted-few o (c .accepts)) (lays-ready c)))
 
   pub words-told : finished (layRuns rs sweep) ≡ toWords o out
   unfolding toWords
   words-told = cases
-      (λ x b. ap (λ (s : Sweep). finished (layRuns rs s)) (b .sweeps) ∙ ap finished (lay-barred rs x out .0) ∙ by-refusal (toWordsVerdict o out) (rowsOf o) noRoute out out x (b .verdict) .0)
+      (λ x b. ap (λ (s : Sweep). finished (layRuns rs s)) (b .sweeps) ∙ ap finished (lay-barred rs x out .0) ∙ by-refusal (toWordsVerdict o out) (rowsOf o)
+      noRoute out out x (b .verdict) .0)
       (λ c. ap (λ (s : Sweep). finished (layRuns rs s)) (c .sweeps) ∙ told-on rs len 0 (runLengths ns) ∙ own-answer o noRoute (c .accepts)
       ∙ by-fine (toWordsVerdict o out) (rowsOf o) noRoute out out (convert-fine o (wordsFor len) (length out) .1 (c .accepts, c .room)) .0)
 
@@ -301,4 +306,5 @@ module _ (len : ℕ) (rs : List Run) (out : List ℕ) where
       ∙ laid-on rs len 0 (runLengths ns) cleared (runs-apart c) ∙ ap (λ (l : List ℕ). laid 0 (runRows 0 len ns) l) (c .leaves)
       ∙ ap (λ (s : List Bool). laid 0 s (lastCleared len out)) (sym (in-runs len ns (runs-apart c)))
       ∙ laid-written len (rowsOf o) out small (accepted-length o (c .accepts)) (c .room)
-      ∙ by-fine (toWordsVerdict o out) (rowsOf o) noRoute (written len (rowsOf o) out) out (convert-fine o (wordsFor len) (length out) .1 (c .accepts, c .room)) .1)
+      ∙ by-fine (toWordsVerdict o out) (rowsOf o) noRoute (written len (rowsOf o) out) out (convert-fine o (wordsFor len) (length out) .1 (c .accepts, c .room))
+      .1)

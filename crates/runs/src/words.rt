@@ -21,11 +21,7 @@ use rules::Run;
 // A pass over runs of so many rows: the row from which the next run may begin, or from which on rows are to be laid, and the lengths summed;
 // or the refusal with which nothing is done.
 pub enum Sweep {
-    On {
-        length: u64,
-        from: u64,
-        sum: u64,
-    },
+    On { length: u64, from: u64, sum: u64 },
     Barred(Refusal),
 }
 
@@ -64,11 +60,7 @@ pub fn weigh_one(sweep: Sweep, first: u32, past: u32, out: &mut [u64]) -> Sweep
     ensures { λ s. ⌜ (s ≡ weighRun sweep first past) × (now (out .exit) ≡ now (out .entry)) ⌝ }
 {
     match sweep {
-        Sweep::On {
-            length,
-            from,
-            sum,
-        } => weigh_on(length, from, sum, first as u64, past as u64),
+        Sweep::On { length, from, sum } => weigh_on(length, from, sum, first as u64, past as u64),
         Sweep::Barred(refusal) => Sweep::Barred(refusal),
     }
 }
@@ -117,11 +109,7 @@ pub fn lay_one(sweep: Sweep, first: u32, past: u32, out: &mut [u64]) -> Sweep
     ensures { λ s. ⌜ (s ≡ layRun sweep first past) × (now (out .exit) ≡ layRunOut sweep first past (now (out .entry))) ⌝ }
 {
     match sweep {
-        Sweep::On {
-            length,
-            from,
-            sum,
-        } => {
+        Sweep::On { length, from, sum } => {
             let next = past as u64;
             lay_run(from, first as u64, next, 0, out);
             Sweep::On {
@@ -154,11 +142,7 @@ pub fn finish_laying(sweep: Sweep, out: &mut [u64]) -> Answer
     ensures { λ a. ⌜ (a ≡ finished sweep) × (now (out .exit) ≡ finishedOut sweep (now (out .entry))) ⌝ }
 {
     match sweep {
-        Sweep::On {
-            length,
-            from,
-            sum,
-        } => {
+        Sweep::On { length, from, sum } => {
             clear(out, from, length - from);
             accepted(sum, NO_ROUTE, length)
         }

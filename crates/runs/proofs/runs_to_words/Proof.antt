@@ -123,7 +123,8 @@ module _ {M : Type 1} (𝓤 : URA M) (H : Heap 𝓤) (A : Atoms 𝓤) (W : Given
       suffices ! _ (ends-at 𝓤 H A f.ended stayed (f.clauses 𝓤 H A mem run) W (((κ, (κ₁, tt)), (q, (q₁, tt)), tt, (len, (s, (out os, tt))), at), tt)
       (answer .spell r) r (tt, (tt, (l, tt))) (tt, (tt, (long, tt)))) $ says ! e $
       nothing ! $ move ! (2 ∷ 0 ∷ []) $ join ! $ move ! (1 ∷ 0 ∷ []) $ join ! $
-      nothing ! $ move ! (3 ∷ 0 ∷ []) $ fjoin ! $ move ! (2 ∷ 0 ∷ []) $ fjoin ! $ owned ! u64 (Is u64) (rows .makes 𝓤 H A W) len _ (refl, fits) $ fjoin ! $ move ! (1 ∷ 0 ∷ []) $
+      nothing ! $ move ! (3 ∷ 0 ∷ []) $ fjoin ! $ move ! (2 ∷ 0 ∷ []) $ fjoin ! $ owned ! u64 (Is u64) (rows .makes 𝓤 H A W) len _ (refl, fits) $ fjoin ! $
+      move ! (1 ∷ 0 ∷ []) $
       frame ! $ frame ! $ owned ! R.the-row (Is R.the-row) (answer .makes 𝓤 H A W) r _ is $ done !
 
   -- the passes: what each call gives, and what it leaves of out
@@ -151,44 +152,57 @@ module _ {M : Type 1} (𝓤 : URA M) (H : Heap 𝓤) (A : Atoms 𝓤) (W : Given
       (WpFn 𝓤 H (𝓣 .C) (𝓣 .Λ) code.function (vint w64 len ∷ sliceVal (s .ptr) n ∷ sliceVal (b, o) m ∷ []) Post)
   walk 𝓣 known-start known-weigh known-begin known-lay known-finish gl gn gm =
       let fm = fmOf 𝓤 H (W .laws) 𝓣 in
-      qed W ((‵ (flft κ q) ⊛ (‵ (flft κ₁ q₁) ⊛ ‵ ftrue)) ∷ ‵ (owns (u64 ∷ ShrSlice (named 0) κ T.the-row ∷ MutSlice (named 1) κ₁ u64 ∷ []) (len, (s, (out os, tt))) at) ∷ []) ∵
+      qed W ((‵ (flft κ q) ⊛ (‵ (flft κ₁ q₁) ⊛ ‵ ftrue)) ∷ ‵ (owns (u64 ∷ ShrSlice (named 0) κ T.the-row ∷ MutSlice (named 1) κ₁ u64 ∷ [])
+      (len, (s, (out os, tt))) at) ∷ []) ∵
       enter ! (𝓣 .C) (𝓣 .Λ) code.function (vint w64 len ∷ sliceVal (s .ptr) n ∷ sliceVal (b, o) m ∷ []) _ $
       alloc1 ! (λ l₀. alloc1 ! (λ l₁. alloc1 ! (λ l₂. alloc1 ! (λ l₃. alloc1 ! (λ l₄. alloc1 ! (λ l₅. alloc1 ! (λ l₆. alloc1 ! (λ l₇. alloc1 ! (λ l₈.
       alloc1 ! (λ l₉. alloc1 ! (λ l₁₀. alloc1 ! (λ l₁₁. alloc1 ! (λ l₁₂. alloc1 ! (λ l₁₃. alloc1 ! (λ l₁₄. alloc1 ! (λ l₁₅.
       alloc0 ! $ params1 ! $ pass1 ! (init ! 28 refl (tt, record { fits = gl })) $
       pass1 ! (init ! 26 refl (tt, (tt, (record { fits = gn .0 }, tt)))) $ pass1 ! (init ! 24 refl (tt, (tt, (record { fits = gm .0 }, tt)))) $ pass0 ! $
       move ! (33 ∷ []) $ fsplit ! $ drop ! $ fsplit ! $ move ! (1 ∷ []) $ fsplit ! $ move ! (35 ∷ []) $ split ! $ move ! (1 ∷ []) $ split ! $
-      keep ! (3 ∷ 0 ∷ 5 ∷ 2 ∷ 36 ∷ 34 ∷ 32 ∷ 30 ∷ 28 ∷ 26 ∷ 24 ∷ 22 ∷ 20 ∷ 18 ∷ 16 ∷ 14 ∷ 12 ∷ 10 ∷ 8 ∷ 6 ∷ 37 ∷ 35 ∷ 33 ∷ 31 ∷ 29 ∷ 27 ∷ 25 ∷ 23 ∷ 21 ∷ 19 ∷ 17 ∷ 15 ∷ 13 ∷ 11 ∷ 9 ∷ 7 ∷ []) $
-      calls-one u64 S.the-row rows sweep startSweep W len ! fm known-start (refl, gl) (and-then ! (load ! (from ! (stop !)) (look ! 6 refl)) (no-more !)) (λ is-started.
+      keep ! (3 ∷ 0 ∷ 5 ∷ 2 ∷ 36 ∷ 34 ∷ 32 ∷ 30 ∷ 28 ∷ 26 ∷ 24 ∷ 22 ∷ 20 ∷ 18 ∷ 16 ∷ 14 ∷ 12 ∷ 10 ∷ 8 ∷ 6 ∷ 37 ∷ 35 ∷ 33 ∷ 31 ∷ 29 ∷ 27 ∷ 25 ∷ 23 ∷ 21 ∷ 19 ∷ 17
+      ∷ 15 ∷ 13 ∷ 11 ∷ 9 ∷ 7 ∷ []) $
+      calls-one u64 S.the-row rows sweep startSweep W len ! fm known-start (refl, gl) (and-then ! (load ! (from ! (stop !)) (look ! 6 refl)) (no-more !))
+      (λ is-started.
       land ! (from ! (stop !)) (init ! 8 refl (sweep .typed 𝓤 H A W started _ is-started)) $
       -- the runs weighed
       assigns ! (addr ! (from ! (fld ! refl (hop ! (look-in ! 7 (sub ! 0 refl (whole !))) (stop !))))) (from ! (stop !)) (init ! 12 refl (tt, tt)) $
-      assigns ! (agg ! (and-then ! (load ! (from ! (stop !)) (look ! 12 refl)) (and-then ! (load ! (from ! (fld ! refl (stop !))) (look-in ! 7 (sub ! 1 refl (whole !)))) (no-more !))))
+      assigns ! (agg ! (and-then ! (load ! (from ! (stop !)) (look ! 12 refl))
+      (and-then ! (load ! (from ! (fld ! refl (stop !))) (look-in ! 7 (sub ! 1 refl (whole !)))) (no-more !))))
       (from ! (stop !)) (init ! 13 refl (tt, (tt, (record { fits = gm .0 }, tt)))) $
-      calls-lent T.the-row S.the-row u64 S.the-row tt tt sweep sweep weighs W κ κ₁ q q₁ s b o γ m started os ! fm known-weigh is-started (start-small len (now s) os) refl gm
-      (λ ν δ. and-then ! (load ! (from ! (stop !)) (look ! 5 refl)) (and-then ! (load ! (from ! (stop !)) (look ! 7 refl)) (and-then ! (load ! (from ! (stop !)) (look ! 12 refl)) (no-more !)))) (λ is-weighed same.
+      calls-lent T.the-row S.the-row u64 S.the-row tt tt sweep sweep weighs W κ κ₁ q q₁ s b o γ m started os ! fm known-weigh is-started
+      (start-small len (now s) os) refl gm
+      (λ ν δ. and-then ! (load ! (from ! (stop !)) (look ! 5 refl))
+      (and-then ! (load ! (from ! (stop !)) (look ! 7 refl)) (and-then ! (load ! (from ! (stop !)) (look ! 12 refl)) (no-more !)))) (λ is-weighed same.
       land ! (from ! (stop !)) (init ! 9 refl (sweep .typed 𝓤 H A W weighed _ is-weighed)) $
       -- between the passes
       assigns ! (addr ! (from ! (fld ! refl (hop ! (look-in ! 7 (sub ! 0 refl (whole !))) (stop !))))) (from ! (stop !)) (init ! 14 refl (tt, tt)) $
-      assigns ! (agg ! (and-then ! (load ! (from ! (stop !)) (look ! 14 refl)) (and-then ! (load ! (from ! (fld ! refl (stop !))) (look-in ! 7 (sub ! 1 refl (whole !)))) (no-more !))))
+      assigns ! (agg ! (and-then ! (load ! (from ! (stop !)) (look ! 14 refl))
+      (and-then ! (load ! (from ! (fld ! refl (stop !))) (look-in ! 7 (sub ! 1 refl (whole !)))) (no-more !))))
       (from ! (stop !)) (init ! 15 refl (tt, (tt, (record { fits = gm .0 }, tt)))) $
       calls-acting S.the-row u64 S.the-row tt sweep sweep begins W κ₁ q₁ b o γ m weighed os ! fm known-begin is-weighed (weighed-small len (now s) os) refl gm
-      (λ ν δ. and-then ! (load ! (from ! (stop !)) (look ! 9 refl)) (and-then ! (load ! (from ! (stop !)) (look ! 15 refl)) (no-more !))) (λ is-laying long small.
+      (λ ν δ. and-then ! (load ! (from ! (stop !)) (look ! 9 refl)) (and-then ! (load ! (from ! (stop !)) (look ! 15 refl)) (no-more !)))
+      (λ is-laying long small.
       land ! (from ! (stop !)) (init ! 10 refl (sweep .typed 𝓤 H A W laying _ is-laying)) $
       -- the runs laid
       assigns ! (addr ! (from ! (fld ! refl (hop ! (look-in ! 7 (sub ! 0 refl (whole !))) (stop !))))) (from ! (stop !)) (init ! 16 refl (tt, tt)) $
-      assigns ! (agg ! (and-then ! (load ! (from ! (stop !)) (look ! 16 refl)) (and-then ! (load ! (from ! (fld ! refl (stop !))) (look-in ! 7 (sub ! 1 refl (whole !)))) (no-more !))))
+      assigns ! (agg ! (and-then ! (load ! (from ! (stop !)) (look ! 16 refl))
+      (and-then ! (load ! (from ! (fld ! refl (stop !))) (look-in ! 7 (sub ! 1 refl (whole !)))) (no-more !))))
       (from ! (stop !)) (init ! 17 refl (tt, (tt, (record { fits = gm .0 }, tt)))) $
       move ! (0 ∷ 1 ∷ 3 ∷ []) $
-      calls-lent T.the-row S.the-row u64 S.the-row tt tt sweep sweep lays W κ κ₁ q q₁ s b o γ m laying cleared ! fm known-lay is-laying (lay-ready len (now s) os) long gm
-      (λ ν δ. and-then ! (load ! (from ! (stop !)) (look ! 5 refl)) (and-then ! (load ! (from ! (stop !)) (look ! 9 refl)) (and-then ! (load ! (from ! (stop !)) (look ! 16 refl)) (no-more !)))) (λ is-laid still.
+      calls-lent T.the-row S.the-row u64 S.the-row tt tt sweep sweep lays W κ κ₁ q q₁ s b o γ m laying cleared ! fm known-lay is-laying
+      (lay-ready len (now s) os) long gm
+      (λ ν δ. and-then ! (load ! (from ! (stop !)) (look ! 5 refl))
+      (and-then ! (load ! (from ! (stop !)) (look ! 9 refl)) (and-then ! (load ! (from ! (stop !)) (look ! 16 refl)) (no-more !)))) (λ is-laid still.
       land ! (from ! (stop !)) (init ! 11 refl (sweep .typed 𝓤 H A W laid _ is-laid)) $
       -- and the end
       assigns ! (addr ! (from ! (fld ! refl (hop ! (look-in ! 7 (sub ! 0 refl (whole !))) (stop !))))) (from ! (stop !)) (init ! 18 refl (tt, tt)) $
-      assigns ! (agg ! (and-then ! (load ! (from ! (stop !)) (look ! 18 refl)) (and-then ! (load ! (from ! (fld ! refl (stop !))) (look-in ! 7 (sub ! 1 refl (whole !)))) (no-more !))))
+      assigns ! (agg ! (and-then ! (load ! (from ! (stop !)) (look ! 18 refl))
+      (and-then ! (load ! (from ! (fld ! refl (stop !))) (look-in ! 7 (sub ! 1 refl (whole !)))) (no-more !))))
       (from ! (stop !)) (init ! 19 refl (tt, (tt, (record { fits = gm .0 }, tt)))) $
       calls-acting S.the-row u64 R.the-row tt sweep answer finishes W κ₁ q₁ b o γ m laid filled ! fm known-finish is-laid (finish-asks len (now s) os) still gm
-      (λ ν δ. and-then ! (load ! (from ! (stop !)) (look ! 11 refl)) (and-then ! (load ! (from ! (stop !)) (look ! 19 refl)) (no-more !))) (λ is-told last learnt.
+      (λ ν δ. and-then ! (load ! (from ! (stop !)) (look ! 11 refl)) (and-then ! (load ! (from ! (stop !)) (look ! 19 refl)) (no-more !)))
+      (λ is-told last learnt.
       land ! (from ! (stop !)) (init ! 4 refl (answer .typed 𝓤 H A W (finished laid) _ is-told)) $ returns ! (look ! 4 refl) $
       forget ! 4 refl $ forget ! 5 refl $ forget ! 6 refl $ forget ! 7 refl $ forget ! 8 refl $ forget ! 9 refl $ forget ! 10 refl $
       forget ! 11 refl $ forget ! 12 refl $ forget ! 13 refl $ forget ! 14 refl $ forget ! 15 refl $ forget ! 16 refl $ forget ! 17 refl $
@@ -201,19 +215,22 @@ module _ {M : Type 1} (𝓤 : URA M) (H : Heap 𝓤) (A : Atoms 𝓤) (W : Given
       (words-told len (now s) os, words-left len (now s) os small)))))))))))))))))))))))
 
 module _ {M : Type 1} (𝓤 : URA M) (H : Heap 𝓤) (A : Atoms 𝓤) (W : Given 𝓤 H A) (mem : Memory → SProp 𝓤) (run : Routine → Fun 𝓤) (𝓣 : Tables 𝓤 H)
-    (known-start : Triple 𝓤 (𝓣 .C #start) (Start 𝓤 H A)) (known-weigh : Triple 𝓤 (𝓣 .C #weigh) (Weigh 𝓤 H A)) (known-begin : Triple 𝓤 (𝓣 .C #begin) (Begin 𝓤 H A))
+    (known-start : Triple 𝓤 (𝓣 .C #start) (Start 𝓤 H A)) (known-weigh : Triple 𝓤 (𝓣 .C #weigh) (Weigh 𝓤 H A))
+    (known-begin : Triple 𝓤 (𝓣 .C #begin) (Begin 𝓤 H A))
     (known-lay : Triple 𝓤 (𝓣 .C #lay) (Lay 𝓤 H A)) (known-finish : Triple 𝓤 (𝓣 .C #finish) (Finish 𝓤 H A)) where
   walks : Walks 𝓤 H A f.ended stayed (WpFn 𝓤 H (𝓣 .C) (𝓣 .Λ) code.function) (f.clauses 𝓤 H A mem run)
   walks = walked 𝓤 H A f.ended stayed (f.clauses 𝓤 H A mem run) (WpFn 𝓤 H (𝓣 .C) (𝓣 .Λ) code.function)
       (λ κs. ((λ x. rows .spell x ∷ []), (slice-vals, (slice-vals, tt))))
       (λ κs. (rows .tells, (shr-slice-tells (named 0) (κs .0) T.the-row, (mut-slice-tells (named 1) (κs .1 .0) u64, tt))))
       (λ κs qs bounds a g are. via 𝓤 _ (fst∗ 𝓤 _ (emp 𝓤))
-      (walk 𝓤 H A W mem run (κs .0) (κs .1 .0) (qs .0) (qs .1 .0) (a .0) (a .1 .0) (a .1 .1 .0 .ptr .0) (a .1 .1 .0 .ptr .1) (a .1 .1 .0 .name) (a .1 .1 .0 .now)
+      (walk 𝓤 H A W mem run (κs .0) (κs .1 .0) (qs .0) (qs .1 .0) (a .0) (a .1 .0) (a .1 .1 .0 .ptr .0) (a .1 .1 .0 .ptr .1) (a .1 .1 .0 .name)
+      (a .1 .1 .0 .now)
       𝓣 known-start known-weigh known-begin known-lay known-finish (are .0 .1) (are .1 .0 .0 .1) (are .1 .1 .0 .0 .1)))
 
   meets : Meets 𝓤 H A f.signature (WpFn 𝓤 H (𝓣 .C) (𝓣 .Λ) code.function) (f.spec 𝓤 H A mem run)
   meets = walk-meets 𝓤 H A f.ended stayed W
-      (goes-none 𝓤 H A W 2 (λ _. u64) yes (λ κs x f. refl), (goes-none-slice 𝓤 H A W 2 (0 ∷ []) tt (plain (λ _. T.the-row)) yes, (goes-slice 𝓤 H A W 2 1 tt (plain (λ _. u64)), tt)))
+      (goes-none 𝓤 H A W 2 (λ _. u64) yes (λ κs x f. refl), (goes-none-slice 𝓤 H A W 2 (0 ∷ []) tt (plain (λ _. T.the-row)) yes,
+      (goes-slice 𝓤 H A W 2 1 tt (plain (λ _. u64)), tt)))
       (f.clauses 𝓤 H A mem run) (WpFn 𝓤 H (𝓣 .C) (𝓣 .Λ) code.function) (WpFn-mono 𝓤 H (W .laws) 𝓣 code.function) walks
 
 pub runs-to-words-spec : {M : Type 1} → stated.statement M

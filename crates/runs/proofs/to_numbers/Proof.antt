@@ -88,7 +88,8 @@ module _ {M : Type 1} (𝓤 : URA M) (H : Heap 𝓤) (A : Atoms 𝓤) (W : Given
       (WpFn 𝓤 H (𝓣 .C) (𝓣 .Λ) code.function (sliceVal (s .ptr) n ∷ sliceVal (b, o) m ∷ []) Post)
   walk 𝓣 known-start known-write known-told gn gm =
       let fm = fmOf 𝓤 H (W .laws) 𝓣 in
-      qed W ((‵ (flft κ q) ⊛ (‵ (flft κ₁ q₁) ⊛ ‵ ftrue)) ∷ ‵ (owns (ShrSlice (named 0) κ T.the-row ∷ MutSlice (named 1) κ₁ u32 ∷ []) (s, (lent os, tt)) at) ∷ []) ∵
+      qed W ((‵ (flft κ q) ⊛ (‵ (flft κ₁ q₁) ⊛ ‵ ftrue)) ∷ ‵ (owns (ShrSlice (named 0) κ T.the-row ∷ MutSlice (named 1) κ₁ u32 ∷ []) (s, (lent os, tt)) at)
+      ∷ []) ∵
       enter ! (𝓣 .C) (𝓣 .Λ) code.function (sliceVal (s .ptr) n ∷ sliceVal (b, o) m ∷ []) _ $
       alloc1 ! (λ l₀. alloc1 ! (λ l₁. alloc1 ! (λ l₂. alloc1 ! (λ l₃. alloc1 ! (λ l₄. alloc1 ! (λ l₅. alloc1 ! (λ l₆. alloc1 ! (λ l₇. alloc1 ! (λ l₈.
       alloc0 ! $ params1 ! $
@@ -96,30 +97,39 @@ module _ {M : Type 1} (𝓤 : URA M) (H : Heap 𝓤) (A : Atoms 𝓤) (W : Given
       move ! (19 ∷ []) $ fsplit ! $ move ! (1 ∷ []) $ fsplit ! $ move ! (21 ∷ []) $ split ! $ move ! (1 ∷ []) $ split ! $
       keep ! (3 ∷ 0 ∷ 5 ∷ 2 ∷ 22 ∷ 20 ∷ 18 ∷ 16 ∷ 14 ∷ 12 ∷ 10 ∷ 8 ∷ 6 ∷ 23 ∷ 21 ∷ 19 ∷ 17 ∷ 15 ∷ 13 ∷ 11 ∷ 9 ∷ 7 ∷ []) $
       -- the lengths, and how the writing starts
-      assigns ! (of-opd ! (load ! (from ! (fld ! refl (stop !))) (look-in ! 5 (sub ! 1 refl (whole !))))) (from ! (stop !)) (init ! 9 refl (tt, record { fits = gn .0 })) $
-      assigns ! (of-opd ! (load ! (from ! (fld ! refl (stop !))) (look-in ! 6 (sub ! 1 refl (whole !))))) (from ! (stop !)) (init ! 10 refl (tt, record { fits = gm .0 })) $
+      assigns ! (of-opd ! (load ! (from ! (fld ! refl (stop !))) (look-in ! 5 (sub ! 1 refl (whole !))))) (from ! (stop !))
+      (init ! 9 refl (tt, record { fits = gn .0 })) $
+      assigns ! (of-opd ! (load ! (from ! (fld ! refl (stop !))) (look-in ! 6 (sub ! 1 refl (whole !))))) (from ! (stop !))
+      (init ! 10 refl (tt, record { fits = gm .0 })) $
       calls-two usize usize N.the-row number number writing startOf W n m ! fm known-start (refl, gn .0) (refl, gm .0)
       (and-then ! (load ! (from ! (stop !)) (look ! 10 refl)) (and-then ! (load ! (from ! (stop !)) (look ! 11 refl)) (no-more !))) (λ started.
       land ! (from ! (stop !)) (init ! 7 refl (writing .typed 𝓤 H A W (startOf n m) _ started)) $
       -- the loop
       assigns ! (addr ! (from ! (fld ! refl (hop ! (look-in ! 6 (sub ! 0 refl (whole !))) (stop !))))) (from ! (stop !)) (init ! 11 refl (tt, tt)) $
-      assigns ! (agg ! (and-then ! (load ! (from ! (stop !)) (look ! 11 refl)) (and-then ! (load ! (from ! (fld ! refl (stop !))) (look-in ! 6 (sub ! 1 refl (whole !)))) (no-more !))))
+      assigns ! (agg ! (and-then ! (load ! (from ! (stop !)) (look ! 11 refl))
+      (and-then ! (load ! (from ! (fld ! refl (stop !))) (look-in ! 6 (sub ! 1 refl (whole !)))) (no-more !))))
       (from ! (stop !)) (init ! 12 refl (tt, (tt, (record { fits = gm .0 }, tt)))) $
-      calls-lent T.the-row N.the-row u32 N.the-row tt tt writing writing writes W κ κ₁ q q₁ s b o γ m (startOf n m) os ! fm known-write started (numbers-room (now s) os) refl gm
-      (λ ν δ. and-then ! (load ! (from ! (stop !)) (look ! 4 refl)) (and-then ! (load ! (from ! (stop !)) (look ! 6 refl)) (and-then ! (load ! (from ! (stop !)) (look ! 11 refl)) (no-more !))))
+      calls-lent T.the-row N.the-row u32 N.the-row tt tt writing writing writes W κ κ₁ q q₁ s b o γ m (startOf n m) os ! fm known-write started
+      (numbers-room (now s) os) refl gm
+      (λ ν δ. and-then ! (load ! (from ! (stop !)) (look ! 4 refl))
+      (and-then ! (load ! (from ! (stop !)) (look ! 6 refl)) (and-then ! (load ! (from ! (stop !)) (look ! 11 refl)) (no-more !))))
       (λ ended same.
       land ! (from ! (stop !)) (init ! 8 refl (writing .typed 𝓤 H A W (movedBy n (startOf n m)) _ ended)) $
       -- what is told
-      calls-one N.the-row R.the-row writing refusal toldBy W (movedBy n (startOf n m)) ! fm known-told ended (and-then ! (load ! (from ! (stop !)) (look ! 9 refl)) (no-more !)) (λ told.
+      calls-one N.the-row R.the-row writing refusal toldBy W (movedBy n (startOf n m)) ! fm known-told ended
+      (and-then ! (load ! (from ! (stop !)) (look ! 9 refl)) (no-more !)) (λ told.
       land ! (from ! (stop !)) (init ! 4 refl (refusal .typed 𝓤 H A W (toldBy (movedBy n (startOf n m))) _ told)) $ returns ! (look ! 4 refl) $
-      forget ! 4 refl $ forget ! 5 refl $ forget ! 6 refl $ forget ! 7 refl $ forget ! 8 refl $ forget ! 9 refl $ forget ! 10 refl $ forget ! 11 refl $ forget ! 12 refl $
-      move ! (4 ∷ 13 ∷ []) $ free1 ! $ move ! (4 ∷ 12 ∷ []) $ free1 ! $ move ! (4 ∷ 11 ∷ []) $ free1 ! $ move ! (4 ∷ 10 ∷ []) $ free1 ! $ move ! (4 ∷ 9 ∷ []) $ free1 ! $
+      forget ! 4 refl $ forget ! 5 refl $ forget ! 6 refl $ forget ! 7 refl $ forget ! 8 refl $ forget ! 9 refl $ forget ! 10 refl $ forget ! 11 refl $
+      forget ! 12 refl $
+      move ! (4 ∷ 13 ∷ []) $ free1 ! $ move ! (4 ∷ 12 ∷ []) $ free1 ! $ move ! (4 ∷ 11 ∷ []) $ free1 ! $ move ! (4 ∷ 10 ∷ []) $ free1 ! $ move ! (4 ∷ 9 ∷ []) $
+      free1 ! $
       move ! (4 ∷ 8 ∷ []) $ free1 ! $ move ! (4 ∷ 7 ∷ []) $ free1 ! $ move ! (4 ∷ 6 ∷ []) $ free1 ! $ move ! (4 ∷ 5 ∷ []) $ free1 ! $ free0 ! $
       keep ! (2 ∷ 1 ∷ 3 ∷ 0 ∷ []) $ by ! (exits (toldBy (movedBy n (startOf n m))) (spliced (startOf n m) (numbersOf (now s)) os) told same
       (numbers-told (now s) os, numbers-left (now s) os))))))))))))))
 
 module _ {M : Type 1} (𝓤 : URA M) (H : Heap 𝓤) (A : Atoms 𝓤) (W : Given 𝓤 H A) (mem : Memory → SProp 𝓤) (run : Routine → Fun 𝓤) (𝓣 : Tables 𝓤 H)
-    (known-start : Triple 𝓤 (𝓣 .C #start) (Start 𝓤 H A)) (known-write : Triple 𝓤 (𝓣 .C #write) (Write 𝓤 H A)) (known-told : Triple 𝓤 (𝓣 .C #told) (Told 𝓤 H A)) where
+    (known-start : Triple 𝓤 (𝓣 .C #start) (Start 𝓤 H A)) (known-write : Triple 𝓤 (𝓣 .C #write) (Write 𝓤 H A)) (known-told : Triple 𝓤 (𝓣 .C #told) (Told 𝓤 H A))
+    where
   walks : Walks 𝓤 H A f.ended stayed (WpFn 𝓤 H (𝓣 .C) (𝓣 .Λ) code.function) (f.clauses 𝓤 H A mem run)
   walks = walked 𝓤 H A f.ended stayed (f.clauses 𝓤 H A mem run) (WpFn 𝓤 H (𝓣 .C) (𝓣 .Λ) code.function) (λ κs. (slice-vals, (slice-vals, tt)))
       (λ κs. (shr-slice-tells (named 0) (κs .0) T.the-row, (mut-slice-tells (named 1) (κs .1 .0) u32, tt)))
@@ -128,7 +138,8 @@ module _ {M : Type 1} (𝓤 : URA M) (H : Heap 𝓤) (A : Atoms 𝓤) (W : Given
       𝓣 known-start known-write known-told (are .0 .0 .1) (are .1 .0 .0 .1)))
 
   meets : Meets 𝓤 H A f.signature (WpFn 𝓤 H (𝓣 .C) (𝓣 .Λ) code.function) (f.spec 𝓤 H A mem run)
-  meets = walk-meets 𝓤 H A f.ended stayed W (goes-none-slice 𝓤 H A W 2 (0 ∷ []) tt (plain (λ _. T.the-row)) yes, (goes-slice 𝓤 H A W 2 1 tt (plain (λ _. u32)), tt))
+  meets = walk-meets 𝓤 H A f.ended stayed W (goes-none-slice 𝓤 H A W 2 (0 ∷ []) tt (plain (λ _. T.the-row)) yes,
+      (goes-slice 𝓤 H A W 2 1 tt (plain (λ _. u32)), tt))
       (f.clauses 𝓤 H A mem run) (WpFn 𝓤 H (𝓣 .C) (𝓣 .Λ) code.function) (WpFn-mono 𝓤 H (W .laws) 𝓣 code.function) walks
 
 pub to-numbers-spec : {M : Type 1} → stated.statement M

@@ -92,7 +92,8 @@ module _ {M : Type 1} (𝓤 : URA M) (H : Heap 𝓤) (A : Atoms 𝓤) (W : Given
       (WpFn 𝓤 H (𝓣 .C) (𝓣 .Λ) code.function (sliceVal (s .ptr) n ∷ sliceVal (b, o) m ∷ []) Post)
   walk 𝓣 known-judge known-pairs known-write gn gm =
       let fm = fmOf 𝓤 H (W .laws) 𝓣 in
-      qed W ((‵ (flft κ q) ⊛ (‵ (flft κ₁ q₁) ⊛ ‵ ftrue)) ∷ ‵ (owns (ShrSlice (named 0) κ u32 ∷ MutSlice (named 1) κ₁ T.the-row ∷ []) (s, (lent os, tt)) at) ∷ []) ∵
+      qed W ((‵ (flft κ q) ⊛ (‵ (flft κ₁ q₁) ⊛ ‵ ftrue)) ∷ ‵ (owns (ShrSlice (named 0) κ u32 ∷ MutSlice (named 1) κ₁ T.the-row ∷ []) (s, (lent os, tt)) at)
+      ∷ []) ∵
       enter ! (𝓣 .C) (𝓣 .Λ) code.function (sliceVal (s .ptr) n ∷ sliceVal (b, o) m ∷ []) _ $
       alloc1 ! (λ l₀. alloc1 ! (λ l₁. alloc1 ! (λ l₂. alloc1 ! (λ l₃. alloc1 ! (λ l₄. alloc1 ! (λ l₅. alloc1 ! (λ l₆. alloc1 ! (λ l₇. alloc1 ! (λ l₈.
       alloc0 ! $ params1 ! $
@@ -100,32 +101,42 @@ module _ {M : Type 1} (𝓤 : URA M) (H : Heap 𝓤) (A : Atoms 𝓤) (W : Given
       move ! (19 ∷ []) $ fsplit ! $ move ! (1 ∷ []) $ fsplit ! $ move ! (21 ∷ []) $ split ! $ move ! (1 ∷ []) $ split ! $
       keep ! (3 ∷ 0 ∷ 5 ∷ 2 ∷ 22 ∷ 20 ∷ 18 ∷ 16 ∷ 14 ∷ 12 ∷ 10 ∷ 8 ∷ 6 ∷ 23 ∷ 21 ∷ 19 ∷ 17 ∷ 15 ∷ 13 ∷ 11 ∷ 9 ∷ 7 ∷ []) $
       -- the lengths, and what is told
-      assigns ! (of-opd ! (load ! (from ! (fld ! refl (stop !))) (look-in ! 5 (sub ! 1 refl (whole !))))) (from ! (stop !)) (init ! 8 refl (tt, record { fits = gn .0 })) $
-      assigns ! (of-opd ! (load ! (from ! (fld ! refl (stop !))) (look-in ! 6 (sub ! 1 refl (whole !))))) (from ! (stop !)) (init ! 9 refl (tt, record { fits = gm .0 })) $
+      assigns ! (of-opd ! (load ! (from ! (fld ! refl (stop !))) (look-in ! 5 (sub ! 1 refl (whole !))))) (from ! (stop !))
+      (init ! 8 refl (tt, record { fits = gn .0 })) $
+      assigns ! (of-opd ! (load ! (from ! (fld ! refl (stop !))) (look-in ! 6 (sub ! 1 refl (whole !))))) (from ! (stop !))
+      (init ! 9 refl (tt, record { fits = gm .0 })) $
       calls-two usize usize R.the-row number number refusal judgedBy W n m ! fm known-judge (refl, gn .0) (refl, gm .0)
       (and-then ! (load ! (from ! (stop !)) (look ! 9 refl)) (and-then ! (load ! (from ! (stop !)) (look ! 10 refl)) (no-more !))) (λ is-told.
       land ! (from ! (stop !)) (init ! 7 refl (refusal .typed 𝓤 H A W told _ is-told)) $
       -- how many pairs are written
-      assigns ! (of-opd ! (load ! (from ! (fld ! refl (stop !))) (look-in ! 5 (sub ! 1 refl (whole !))))) (from ! (stop !)) (init ! 10 refl (tt, record { fits = gn .0 })) $
+      assigns ! (of-opd ! (load ! (from ! (fld ! refl (stop !))) (look-in ! 5 (sub ! 1 refl (whole !))))) (from ! (stop !))
+      (init ! 10 refl (tt, record { fits = gn .0 })) $
       calls-two R.the-row usize usize refusal number number pairsFor W told n ! fm known-pairs is-told (refl, gn .0)
       (and-then ! (load ! (from ! (stop !)) (look ! 8 refl)) (and-then ! (load ! (from ! (stop !)) (look ! 11 refl)) (no-more !))) (λ is-written.
       land ! (from ! (stop !)) (store ! 9 refl (number .typed 𝓤 H A W written _ is-written)) $
       -- the loop
       assigns ! (addr ! (from ! (fld ! refl (hop ! (look-in ! 6 (sub ! 0 refl (whole !))) (stop !))))) (from ! (stop !)) (init ! 11 refl (tt, tt)) $
-      assigns ! (agg ! (and-then ! (load ! (from ! (stop !)) (look ! 11 refl)) (and-then ! (load ! (from ! (fld ! refl (stop !))) (look-in ! 6 (sub ! 1 refl (whole !)))) (no-more !))))
+      assigns ! (agg ! (and-then ! (load ! (from ! (stop !)) (look ! 11 refl))
+      (and-then ! (load ! (from ! (fld ! refl (stop !))) (look-in ! 6 (sub ! 1 refl (whole !)))) (no-more !))))
       (from ! (stop !)) (init ! 12 refl (tt, (tt, (record { fits = gm .0 }, tt)))) $
-      calls-lent u32 usize T.the-row usize tt tt number number writes W κ κ₁ q q₁ s b o γ m written os ! fm known-write is-written (records-room (now s) os) refl gm
-      (λ ν δ. and-then ! (load ! (from ! (stop !)) (look ! 4 refl)) (and-then ! (load ! (from ! (stop !)) (look ! 8 refl)) (and-then ! (load ! (from ! (stop !)) (look ! 11 refl)) (no-more !))))
+      calls-lent u32 usize T.the-row usize tt tt number number writes W κ κ₁ q q₁ s b o γ m written os ! fm known-write is-written (records-room (now s) os)
+      refl gm
+      (λ ν δ. and-then ! (load ! (from ! (stop !)) (look ! 4 refl))
+      (and-then ! (load ! (from ! (stop !)) (look ! 8 refl)) (and-then ! (load ! (from ! (stop !)) (look ! 11 refl)) (no-more !))))
       (λ is-done same.
       land ! (from ! (stop !)) (store ! 8 refl (number .typed 𝓤 H A W written _ is-done)) $
-      assigns ! (of-opd ! (load ! (from ! (stop !)) (look ! 7 refl))) (from ! (stop !)) (init ! 4 refl (refusal .typed 𝓤 H A W told _ is-told)) $ returns ! (look ! 4 refl) $
-      forget ! 4 refl $ forget ! 5 refl $ forget ! 6 refl $ forget ! 7 refl $ forget ! 8 refl $ forget ! 9 refl $ forget ! 10 refl $ forget ! 11 refl $ forget ! 12 refl $
-      move ! (4 ∷ 13 ∷ []) $ free1 ! $ move ! (4 ∷ 12 ∷ []) $ free1 ! $ move ! (4 ∷ 11 ∷ []) $ free1 ! $ move ! (4 ∷ 10 ∷ []) $ free1 ! $ move ! (4 ∷ 9 ∷ []) $ free1 ! $
+      assigns ! (of-opd ! (load ! (from ! (stop !)) (look ! 7 refl))) (from ! (stop !)) (init ! 4 refl (refusal .typed 𝓤 H A W told _ is-told)) $
+      returns ! (look ! 4 refl) $
+      forget ! 4 refl $ forget ! 5 refl $ forget ! 6 refl $ forget ! 7 refl $ forget ! 8 refl $ forget ! 9 refl $ forget ! 10 refl $ forget ! 11 refl $
+      forget ! 12 refl $
+      move ! (4 ∷ 13 ∷ []) $ free1 ! $ move ! (4 ∷ 12 ∷ []) $ free1 ! $ move ! (4 ∷ 11 ∷ []) $ free1 ! $ move ! (4 ∷ 10 ∷ []) $ free1 ! $ move ! (4 ∷ 9 ∷ []) $
+      free1 ! $
       move ! (4 ∷ 8 ∷ []) $ free1 ! $ move ! (4 ∷ 7 ∷ []) $ free1 ! $ move ! (4 ∷ 6 ∷ []) $ free1 ! $ move ! (4 ∷ 5 ∷ []) $ free1 ! $ free0 ! $
       keep ! (2 ∷ 1 ∷ 3 ∷ 0 ∷ []) $ by ! (exits told (packed (now s) written os) is-told same (records-told (now s) os, records-left (now s) os))))))))))))))
 
 module _ {M : Type 1} (𝓤 : URA M) (H : Heap 𝓤) (A : Atoms 𝓤) (W : Given 𝓤 H A) (mem : Memory → SProp 𝓤) (run : Routine → Fun 𝓤) (𝓣 : Tables 𝓤 H)
-    (known-judge : Triple 𝓤 (𝓣 .C #judge) (Judge 𝓤 H A)) (known-pairs : Triple 𝓤 (𝓣 .C #pairs) (Pairs 𝓤 H A)) (known-write : Triple 𝓤 (𝓣 .C #write) (Write 𝓤 H A)) where
+    (known-judge : Triple 𝓤 (𝓣 .C #judge) (Judge 𝓤 H A)) (known-pairs : Triple 𝓤 (𝓣 .C #pairs) (Pairs 𝓤 H A))
+    (known-write : Triple 𝓤 (𝓣 .C #write) (Write 𝓤 H A)) where
   walks : Walks 𝓤 H A f.ended stayed (WpFn 𝓤 H (𝓣 .C) (𝓣 .Λ) code.function) (f.clauses 𝓤 H A mem run)
   walks = walked 𝓤 H A f.ended stayed (f.clauses 𝓤 H A mem run) (WpFn 𝓤 H (𝓣 .C) (𝓣 .Λ) code.function) (λ κs. (slice-vals, (slice-vals, tt)))
       (λ κs. (shr-slice-tells (named 0) (κs .0) u32, (mut-slice-tells (named 1) (κs .1 .0) T.the-row, tt)))
@@ -134,7 +145,8 @@ module _ {M : Type 1} (𝓤 : URA M) (H : Heap 𝓤) (A : Atoms 𝓤) (W : Given
       𝓣 known-judge known-pairs known-write (are .0 .0 .1) (are .1 .0 .0 .1)))
 
   meets : Meets 𝓤 H A f.signature (WpFn 𝓤 H (𝓣 .C) (𝓣 .Λ) code.function) (f.spec 𝓤 H A mem run)
-  meets = walk-meets 𝓤 H A f.ended stayed W (goes-none-slice 𝓤 H A W 2 (0 ∷ []) tt (plain (λ _. u32)) yes, (goes-slice 𝓤 H A W 2 1 tt (plain (λ _. T.the-row)), tt))
+  meets = walk-meets 𝓤 H A f.ended stayed W (goes-none-slice 𝓤 H A W 2 (0 ∷ []) tt (plain (λ _. u32)) yes,
+      (goes-slice 𝓤 H A W 2 1 tt (plain (λ _. T.the-row)), tt))
       (f.clauses 𝓤 H A mem run) (WpFn 𝓤 H (𝓣 .C) (𝓣 .Λ) code.function) (WpFn-mono 𝓤 H (W .laws) 𝓣 code.function) walks
 
 pub to-records-spec : {M : Type 1} → stated.statement M

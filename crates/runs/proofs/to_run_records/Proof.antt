@@ -62,16 +62,23 @@ unfolding code.routine tablesOf
 to-run-records-spec 𝓤 H 𝓜 𝓖 𝓡 =
     let 𝓣 = tables 𝓤 H 𝓜 𝓡 code.env in
     entered 𝓤 H (tripleOf 𝓤 H (𝓖 .A) f.signature (f.spec 𝓤 H (𝓖 .A) (𝓜 .mem) (𝓡 .run))) (𝓣 .C) (𝓣 .Λ) #to-run-records code.function (code.unfolded 𝓤 H 𝓜 𝓡)
-    (draft-meets F.the-row C.the-row P.the-row W.the-row form cursor plan written drafts 𝓤 H (𝓖 .A) (givenOf 𝓤 H 𝓜 𝓖) #plan #room #start #count #fill #tells (tablesOf 𝓤 H 𝓜 𝓣)
-    (cited 𝓤 H (Plans F.the-row C.the-row P.the-row W.the-row form cursor plan written drafts 𝓤 H (𝓖 .A)) 𝓜 𝓡 code.env #plan plan-def.routine code.calls-runs·plan·plan-runs
+    (draft-meets F.the-row C.the-row P.the-row W.the-row form cursor plan written drafts 𝓤 H (𝓖 .A) (givenOf 𝓤 H 𝓜 𝓖) #plan #room #start #count #fill #tells
+    (tablesOf 𝓤 H 𝓜 𝓣)
+    (cited 𝓤 H (Plans F.the-row C.the-row P.the-row W.the-row form cursor plan written drafts 𝓤 H (𝓖 .A)) 𝓜 𝓡 code.env #plan plan-def.routine
+    code.calls-runs·plan·plan-runs
     (plan-thm.met 𝓤 H 𝓜 𝓖 𝓡))
-    (cited 𝓤 H (Rooms F.the-row C.the-row P.the-row W.the-row form cursor plan written drafts 𝓤 H (𝓖 .A)) 𝓜 𝓡 code.env #room room-def.routine code.calls-runs·plan·with-room
+    (cited 𝓤 H (Rooms F.the-row C.the-row P.the-row W.the-row form cursor plan written drafts 𝓤 H (𝓖 .A)) 𝓜 𝓡 code.env #room room-def.routine
+    code.calls-runs·plan·with-room
     (room-thm.met 𝓤 H 𝓜 𝓖 𝓡))
-    (cited 𝓤 H (Starts F.the-row C.the-row P.the-row W.the-row form cursor plan written drafts 𝓤 H (𝓖 .A)) 𝓜 𝓡 code.env #start start-def.routine code.calls-runs·search·start-cursor
+    (cited 𝓤 H (Starts F.the-row C.the-row P.the-row W.the-row form cursor plan written drafts 𝓤 H (𝓖 .A)) 𝓜 𝓡 code.env #start start-def.routine
+    code.calls-runs·search·start-cursor
     (start-thm.met 𝓤 H 𝓜 𝓖 𝓡))
-    (cited 𝓤 H (Counts F.the-row C.the-row P.the-row W.the-row form cursor plan written drafts 𝓤 H (𝓖 .A)) 𝓜 𝓡 code.env #count count-def.routine code.calls-runs·plan·runs-of
+    (cited 𝓤 H (Counts F.the-row C.the-row P.the-row W.the-row form cursor plan written drafts 𝓤 H (𝓖 .A)) 𝓜 𝓡 code.env #count count-def.routine
+    code.calls-runs·plan·runs-of
     (count-thm.met 𝓤 H 𝓜 𝓖 𝓡))
-    (cited 𝓤 H (Stores F.the-row C.the-row P.the-row W.the-row form cursor plan written drafts 𝓤 H (𝓖 .A)) 𝓜 𝓡 code.env #fill fill-def.routine code.calls-runs·search·write-found
+    (cited 𝓤 H (Stores F.the-row C.the-row P.the-row W.the-row form cursor plan written drafts 𝓤 H (𝓖 .A)) 𝓜 𝓡 code.env #fill fill-def.routine
+    code.calls-runs·search·write-found
     (fill-thm.met 𝓤 H 𝓜 𝓖 𝓡))
-    (cited 𝓤 H (Tells F.the-row C.the-row P.the-row W.the-row form cursor plan written drafts 𝓤 H (𝓖 .A)) 𝓜 𝓡 code.env #tells tells-def.routine code.calls-runs·plan·written-of
+    (cited 𝓤 H (Tells F.the-row C.the-row P.the-row W.the-row form cursor plan written drafts 𝓤 H (𝓖 .A)) 𝓜 𝓡 code.env #tells tells-def.routine
+    code.calls-runs·plan·written-of
     (tells-thm.met 𝓤 H 𝓜 𝓖 𝓡)))

@@ -61,8 +61,7 @@ same-length c = search needs
 returns : tie.Need-returns
 returns c =
     let a = start c .args in
-    let e = sym (at c) in
-    (
+    let e = sym (at c) in (
       ap (movedBy 1) e,
       pair-stored (now (a .out)) (k c) (a .first) (a .past) ∙ ap (λ (w : Writing). spliced w (a .first ∷ a .past ∷ []) (now (a .out))) e,
     )

@@ -21,12 +21,14 @@ returns : tie.Need-returns
 returns c =
     let t = c .before .before in
     let a = t .before .before .args in
-    c .no-plan .ensures ∙ ap noPlan (c .before .refusal .ensures) ∙ ap (λ (b : Bool). cond b (noPlan (refusal 8 0)) (a .plan)) (sym (holds (ltb (a .room) (a .plan .runs)) (lt→ltb (a .room) (a .plan .runs) (t .if1 .taken))))
+    c .no-plan .ensures ∙ ap noPlan (c .before .refusal .ensures) ∙ ap (λ (b : Bool). cond b (noPlan (refusal 8 0)) (a .plan))
+    (sym (holds (ltb (a .room) (a .plan .runs)) (lt→ltb (a .room) (a .plan .runs) (t .if1 .taken))))
 
 returns-2 : tie.Need-returns-2
 returns-2 c =
     let a = c .before .before .args in
-    ap (λ (b : Bool). cond b (noPlan (refusal 8 0)) (a .plan)) (sym (fails (ltb (a .room) (a .plan .runs)) (λ t. omega (arith, ltb→lt (a .room) (a .plan .runs) t, c .if1 .left))))
+    ap (λ (b : Bool). cond b (noPlan (refusal 8 0)) (a .plan))
+    (sym (fails (ltb (a .room) (a .plan .runs)) (λ t. omega (arith, ltb→lt (a .room) (a .plan .runs) t, c .if1 .left))))
 
 pub with-room-spec : {M : Type 1} → statement M
 with-room-spec = tie.close (tie.spec refusal-requires no-plan-requires returns returns-2)

@@ -41,7 +41,8 @@ module _ {M : Type 1} (𝓤 : URA M) (H : Heap 𝓤) (A : Atoms 𝓤) (mem : Mem
   abbrev Pair : Contract 𝓤
   Pair = tripleOf 𝓤 H A pair.signature (pair.spec 𝓤 H A mem run)
 
-module _ {M : Type 1} (𝓤 : URA M) (H : Heap 𝓤) (A : Atoms 𝓤) (W : Given 𝓤 H A) (mem : Memory → SProp 𝓤) (run : Routine → Fun 𝓤) (κ κ₁ : Lft) (q q₁ : Share) (b o b₁ o₁ : ℕ) (γ γ₁ : GName) (fs : List ℕ) (n : ℕ) (ys : List Run) where
+module _ {M : Type 1} (𝓤 : URA M) (H : Heap 𝓤) (A : Atoms 𝓤) (W : Given 𝓤 H A) (mem : Memory → SProp 𝓤) (run : Routine → Fun 𝓤) (κ κ₁ : Lft) (q q₁ : Share)
+    (b o b₁ o₁ : ℕ) (γ γ₁ : GName) (fs : List ℕ) (n : ℕ) (ys : List Run) where
   abbrev x : RefT (List ℕ)
   x = record { ptr = (b, o); name = γ; now = fs }
 
@@ -63,9 +64,11 @@ module _ {M : Type 1} (𝓤 : URA M) (H : Heap 𝓤) (A : Atoms 𝓤) (W : Given
   exits : n < 2 ^ 64 → ent 𝓤 (⋆ 𝓤 H A (‵ (flft κ q) ∷ ‵ (flft κ₁ q₁) ∷ ‵ Flat ∷ ‵ (Own (packed fs n ys)) ∷ [])) (Post (vint w64 n))
   exits gn =
       qed W (‵ (flft κ q) ∷ ‵ (flft κ₁ q₁) ∷ ‵ Flat ∷ ‵ (Own (packed fs n ys)) ∷ []) ∵
-      suffices ! _ (ends-at 𝓤 H A f.ended stayed (f.clauses 𝓤 H A mem run) W (((κ, (κ₁, tt)), (q, (q₁, tt)), tt, a, at), tt) (vint w64 n) n (tt, (tt, (packed fs n ys, tt))) (tt, (tt, (packed-length fs n ys, tt)))) $ says ! (refl, refl) $
+      suffices ! _ (ends-at 𝓤 H A f.ended stayed (f.clauses 𝓤 H A mem run) W (((κ, (κ₁, tt)), (q, (q₁, tt)), tt, a, at), tt) (vint w64 n) n
+      (tt, (tt, (packed fs n ys, tt))) (tt, (tt, (packed-length fs n ys, tt)))) $ says ! (refl, refl) $
       nothing ! $ move ! (2 ∷ 0 ∷ []) $ join ! $ move ! (1 ∷ 0 ∷ []) $ join ! $
-      nothing ! $ move ! (3 ∷ 0 ∷ []) $ fjoin ! $ owned ! usize (Is usize) (uint-makes 𝓤 H A W w64) n _ (refl, gn) $ fjoin ! $ move ! (2 ∷ 0 ∷ []) $ fjoin ! $ move ! (1 ∷ 0 ∷ []) $
+      nothing ! $ move ! (3 ∷ 0 ∷ []) $ fjoin ! $ owned ! usize (Is usize) (uint-makes 𝓤 H A W w64) n _ (refl, gn) $ fjoin ! $ move ! (2 ∷ 0 ∷ []) $ fjoin ! $
+      move ! (1 ∷ 0 ∷ []) $
       frame ! $ frame ! $ owned ! usize (Is usize) (uint-makes 𝓤 H A W w64) n _ (refl, gn) $ done !
 
   -- what `pair_at` is passed
@@ -80,7 +83,8 @@ module _ {M : Type 1} (𝓤 : URA M) (H : Heap 𝓤) (A : Atoms 𝓤) (W : Given
   said : (i : ℕ) (r : Run) → ent 𝓤 (ensured 𝓤 H A pair.ended (pair.clauses 𝓤 H A mem run) (κ, tt) (x, (i, tt)) tt r) (fact 𝓤 (r ≡ runAt fs i))
   said i r = exE 𝓤 _ (λ ws. snd∗ 𝓤 (sem 𝓤 H A (lasts pair.ended (κ, tt) (x, (i, tt)) ws)) (fact 𝓤 (r ≡ runAt fs i)))
 
-  module _ (𝓣 : Tables 𝓤 H) (known : Triple 𝓤 (𝓣 .C #pair-at) (Pair 𝓤 H A mem run)) (gf : Room u32 (length fs)) (gn : n < 2 ^ 64) (gy : Room T.the-row (length ys)) (enough : n + n ≤ length fs) (fits : n ≤ length ys)
+  module _ (𝓣 : Tables 𝓤 H) (known : Triple 𝓤 (𝓣 .C #pair-at) (Pair 𝓤 H A mem run)) (gf : Room u32 (length fs)) (gn : n < 2 ^ 64)
+      (gy : Room T.the-row (length ys)) (enough : n + n ≤ length fs) (fits : n ≤ length ys)
       (l₀ l₁ l₂ l₃ l₄ l₅ l₆ l₇ l₈ : ℕ) where
     abbrev C : Calls 𝓤 H
     C = 𝓣 .C
@@ -93,10 +97,14 @@ module _ {M : Type 1} (𝓤 : URA M) (H : Heap 𝓤) (A : Atoms 𝓤) (W : Given
 
     -- i runs are stored, and out is at zs
     abbrev At : ℕ → List Run → List (Item 𝓤)
-    At i zs = ‵ (row T.the-row fullShare zs b₁ o₁) ∷ ‵ (Opened T.the-row (named 1) κ₁ q₁ γ₁ b₁ o₁ ys) ∷ ‵ (fobs γ₁ (codedHoleys T.the-row .code (heres T.the-row ys))) ∷ ‵ (fauth γ₁ (codedHoleys T.the-row .code (heres T.the-row ys))) ∷ ‵ Flat ∷ ‵ (flft κ q)
-        ∷ ‵ (froom word l₀ 0) ∷ ‵ (fat fullShare slice l₁ 0 (sliceVal (b, o) (length fs))) ∷ ‵ (fat fullShare word l₂ 0 (vint w64 n)) ∷ ‵ (fat fullShare mslice l₃ 0 (sliceVal (b₁, o₁) (length ys)))
+    At i zs = ‵ (row T.the-row fullShare zs b₁ o₁) ∷ ‵ (Opened T.the-row (named 1) κ₁ q₁ γ₁ b₁ o₁ ys)
+        ∷ ‵ (fobs γ₁ (codedHoleys T.the-row .code (heres T.the-row ys))) ∷ ‵ (fauth γ₁ (codedHoleys T.the-row .code (heres T.the-row ys))) ∷ ‵ Flat
+        ∷ ‵ (flft κ q)
+        ∷ ‵ (froom word l₀ 0) ∷ ‵ (fat fullShare slice l₁ 0 (sliceVal (b, o) (length fs))) ∷ ‵ (fat fullShare word l₂ 0 (vint w64 n))
+        ∷ ‵ (fat fullShare mslice l₃ 0 (sliceVal (b₁, o₁) (length ys)))
         ∷ ‵ (fat fullShare word l₄ 0 (vint w64 i)) ∷ ‵ (froom tyBool l₅ 0) ∷ ‵ (froom T′.mir l₆ 0) ∷ ‵ (froom word l₇ 0) ∷ ‵ (froom tyPtr l₈ 0)
-        ∷ ‵ (fdies word l₀) ∷ ‵ (fdies slice l₁) ∷ ‵ (fdies word l₂) ∷ ‵ (fdies mslice l₃) ∷ ‵ (fdies word l₄) ∷ ‵ (fdies tyBool l₅) ∷ ‵ (fdies T′.mir l₆) ∷ ‵ (fdies word l₇) ∷ ‵ (fdies tyPtr l₈) ∷ []
+        ∷ ‵ (fdies word l₀) ∷ ‵ (fdies slice l₁) ∷ ‵ (fdies word l₂) ∷ ‵ (fdies mslice l₃) ∷ ‵ (fdies word l₄) ∷ ‵ (fdies tyBool l₅) ∷ ‵ (fdies T′.mir l₆)
+        ∷ ‵ (fdies word l₇) ∷ ‵ (fdies tyPtr l₈) ∷ []
 
     abbrev Inv : ℕ → SProp 𝓤
     Inv m = ex 𝓤 (λ (i : ℕ). guard 𝓤 (i + m ≡ n) (⋆ 𝓤 H A (At i (packed fs i ys))))
@@ -115,27 +123,36 @@ module _ {M : Type 1} (𝓤 : URA M) (H : Heap 𝓤) (A : Atoms 𝓤) (W : Given
         let inside : i < length ys = omega arith in
         let m = scaled-fits i (length ys) 8 inside (gy .1) in
         qed W (At i zs) ∵ exec ! C Λ En cm.turn-1 (anyQ (afterTurn 𝓤 H Q Left)) $
-        assigns ! (bin ! (load ! (from ! (stop !)) (look ! 10 refl)) (load ! (from ! (stop !)) (look ! 8 refl)) tt) (from ! (stop !)) (init ! 11 refl (tt, tt)) $
+        assigns ! (bin ! (load ! (from ! (stop !)) (look ! 10 refl)) (load ! (from ! (stop !)) (look ! 8 refl)) tt) (from ! (stop !))
+        (init ! 11 refl (tt, tt)) $
         rewrite ! 11 (λ (z : Bool). ‵ (fat fullShare tyBool l₅ 0 (vbool z))) (holds (ltb i n) (lt→ltb i n l)) refl $
         stays ! (load ! (from ! (stop !)) (look ! 11 refl)) $
         -- [flat; flat; its token; the row; …]: one copy is passed
-        move ! (4 ∷ 5 ∷ []) $ use1 W (‵ Flat ⊛ ‵ Flat) (shr-slice-copy 𝓤 H A W (named 0) κ u32 .twice x (at .0)) $ split ! $ move ! (0 ∷ 2 ∷ []) $ use2 W (raw (Pair 𝓤 H A mem run .pre (to i))) (goes i (omega (arith, gn)) (omega arith)) $
-        calls-at ! (fmOf 𝓤 H (W .laws) 𝓣) (Pair 𝓤 H A mem run) known (to i) (and-then ! (load ! (from ! (stop !)) (look ! 7 refl)) (and-then ! (load ! (from ! (stop !)) (look ! 10 refl)) (no-more !))) (λ v.
-        use1 W (later (some (λ (u : Run). ((‵ (flft κ q) ⊛ ‵ ftrue) ⊛ ‵ (T.the-row .own u (v ∷ []))) ⊛ raw (ensured 𝓤 H A pair.ended (pair.clauses 𝓤 H A mem run) (κ, tt) (x, (i, tt)) tt u)))) (id⊢ 𝓤 _) $ await ! tt $ pick ! (λ u.
+        move ! (4 ∷ 5 ∷ []) $ use1 W (‵ Flat ⊛ ‵ Flat) (shr-slice-copy 𝓤 H A W (named 0) κ u32 .twice x (at .0)) $ split ! $ move ! (0 ∷ 2 ∷ []) $
+        use2 W (raw (Pair 𝓤 H A mem run .pre (to i))) (goes i (omega (arith, gn)) (omega arith)) $
+        calls-at ! (fmOf 𝓤 H (W .laws) 𝓣) (Pair 𝓤 H A mem run) known (to i)
+        (and-then ! (load ! (from ! (stop !)) (look ! 7 refl)) (and-then ! (load ! (from ! (stop !)) (look ! 10 refl)) (no-more !))) (λ v.
+        use1 W (later (some (λ (u : Run). ((‵ (flft κ q) ⊛ ‵ ftrue) ⊛ ‵ (T.the-row .own u (v ∷ []))) ⊛ raw
+        (ensured 𝓤 H A pair.ended (pair.clauses 𝓤 H A mem run) (κ, tt) (x, (i, tt)) tt u)))) (id⊢ 𝓤 _) $ await ! tt $ pick ! (λ u.
         split ! $ move ! (1 ∷ []) $ use1 W (raw (fact 𝓤 (u ≡ runAt fs i))) (said i u) $ heard ! (u ≡ runAt fs i) (λ e. split ! $ move ! (1 ∷ []) $
         peeks ! T.the-row (Is T.the-row) (shows 𝓤 H A T.the-row) u (v ∷ []) (λ is.
         let wt = LL.lawful T.the-type T′.the-laws 𝓤 H A W .typed u (v ∷ []) is .0 in
         -- [the run; the token; flat; the row; the open borrow; obs; auth; _0; …]
         land ! (from ! (stop !)) (init ! 13 refl wt) $
         assigns ! (bin ! (load ! (from ! (stop !)) (look ! 11 refl)) (lit ! tt) m) (from ! (stop !)) (init ! 14 refl (tt, m)) $
-        assigns ! (bin ! (load ! (from ! (fld ! refl (stop !))) (look-in ! 10 (sub ! 0 refl (whole !)))) (load ! (from ! (stop !)) (look ! 14 refl)) tt) (from ! (stop !)) (init ! 15 refl (tt, tt)) $
+        assigns ! (bin ! (load ! (from ! (fld ! refl (stop !))) (look-in ! 10 (sub ! 0 refl (whole !)))) (load ! (from ! (stop !)) (look ! 14 refl)) tt)
+        (from ! (stop !)) (init ! 15 refl (tt, tt)) $
         rewrite ! 15 (λ (p : ℕ). ‵ (fat fullShare tyPtr l₈ 0 (vptr b₁ p))) (sym (place-is 8 o₁ i)) refl $ move ! (3 ∷ []) $
-        elem-out ! T.the-row (Is T.the-row) (shows 𝓤 H A T.the-row) (LL.vals T.the-type T′.the-laws) (LL.tells T.the-type T′.the-laws) fullShare zs i noRun b₁ o₁ (omega arith) (λ old.
+        elem-out ! T.the-row (Is T.the-row) (shows 𝓤 H A T.the-row) (LL.vals T.the-type T′.the-laws) (LL.tells T.the-type T′.the-laws) fullShare zs i noRun b₁
+        o₁ (omega arith) (λ old.
         assigns ! (of-opd ! (load ! (from ! (stop !)) (look ! 15 refl))) (from ! (hop ! (look ! 17 refl) (stop !))) (store-raw ! 0 refl wt) $
-        move ! (1 ∷ []) $ drop ! $ move ! (0 ∷ 2 ∷ 1 ∷ []) $ elem-put ! T.the-row fullShare zs i u (v ∷ []) b₁ o₁ (omega arith) $ rewrite ! 0 (λ (r : Run). ‵ (row T.the-row fullShare (set zs i r) b₁ o₁)) e refl $
+        move ! (1 ∷ []) $ drop ! $ move ! (0 ∷ 2 ∷ 1 ∷ []) $ elem-put ! T.the-row fullShare zs i u (v ∷ []) b₁ o₁ (omega arith) $
+        rewrite ! 0 (λ (r : Run). ‵ (row T.the-row fullShare (set zs i r) b₁ o₁)) e refl $
         -- [the row; the token; flat; the open borrow; obs; auth; _0; …]
-        assigns-last ! (bin ! (load ! (from ! (stop !)) (look ! 10 refl)) (lit ! tt) (record { fits = next-fits })) (from ! (stop !)) (store ! 10 refl (tt, record { fits = next-fits })) $
-        forget ! 11 refl $ forget ! 12 refl $ forget ! 13 refl $ forget ! 14 refl $ rewrite ! 10 (λ (c : ℕ). ‵ (fat fullShare word l₄ 0 (vint w64 c))) (add-one i) refl $ move ! (1 ∷ []) $ split ! $
+        assigns-last ! (bin ! (load ! (from ! (stop !)) (look ! 10 refl)) (lit ! tt) (record { fits = next-fits })) (from ! (stop !))
+        (store ! 10 refl (tt, record { fits = next-fits })) $
+        forget ! 11 refl $ forget ! 12 refl $ forget ! 13 refl $ forget ! 14 refl $ rewrite ! 10 (λ (c : ℕ). ‵ (fat fullShare word l₄ 0 (vint w64 c)))
+        (add-one i) refl $ move ! (1 ∷ []) $ split ! $
         keep ! (2 ∷ 4 ∷ 5 ∷ 6 ∷ 3 ∷ 0 ∷ 7 ∷ 8 ∷ 9 ∷ 10 ∷ 11 ∷ 12 ∷ 13 ∷ 14 ∷ 15 ∷ 16 ∷ 17 ∷ 18 ∷ 19 ∷ 20 ∷ 21 ∷ 22 ∷ 23 ∷ 24 ∷ []) $ by ! k)))))
       where
         next-fits : i + 1 < 2 ^ 64
@@ -146,59 +163,78 @@ module _ {M : Type 1} (𝓤 : URA M) (H : Heap 𝓤) (A : Atoms 𝓤) (W : Given
     unfolding afterTurn
     ends Q =
         qed W (At n (packed fs n ys)) ∵ exec ! C Λ En cm.turn-1 (anyQ (afterTurn 𝓤 H Q Left)) $
-        assigns ! (bin ! (load ! (from ! (stop !)) (look ! 10 refl)) (load ! (from ! (stop !)) (look ! 8 refl)) tt) (from ! (stop !)) (init ! 11 refl (tt, tt)) $
+        assigns ! (bin ! (load ! (from ! (stop !)) (look ! 10 refl)) (load ! (from ! (stop !)) (look ! 8 refl)) tt) (from ! (stop !))
+        (init ! 11 refl (tt, tt)) $
         rewrite ! 11 (λ (z : Bool). ‵ (fat fullShare tyBool l₅ 0 (vbool z))) (fails (ltb n n) (λ t. lt-irrefl n (ltb→lt n n t))) refl $
         leaves-loop ! (load ! (from ! (stop !)) (look ! 11 refl)) $ exec ! C Λ En cm.t-3 (atRet En Post) $
-        assigns ! (of-opd ! (load ! (from ! (stop !)) (look ! 8 refl))) (from ! (stop !)) (init ! 6 refl (tt, record { fits = gn })) $ closes-mut T.the-row (named 1) κ₁ q₁ γ₁ b₁ o₁ ! tt ys (packed fs n ys) (packed-length fs n ys) gy $
+        assigns ! (of-opd ! (load ! (from ! (stop !)) (look ! 8 refl))) (from ! (stop !)) (init ! 6 refl (tt, record { fits = gn })) $
+        closes-mut T.the-row (named 1) κ₁ q₁ γ₁ b₁ o₁ ! tt ys (packed fs n ys) (packed-length fs n ys) gy $
         -- [out; its token; flat; its token; _0; …]
         returns ! (look ! 4 refl) $ forget ! 4 refl $ forget ! 5 refl $ forget ! 6 refl $ forget ! 7 refl $ forget ! 8 refl $ forget ! 9 refl $
-        move ! (4 ∷ 13 ∷ []) $ free1 ! $ move ! (4 ∷ 12 ∷ []) $ free1 ! $ move ! (4 ∷ 11 ∷ []) $ free1 ! $ move ! (4 ∷ 10 ∷ []) $ free1 ! $ move ! (4 ∷ 9 ∷ []) $ free1 ! $ move ! (4 ∷ 8 ∷ []) $ free1 ! $ move ! (4 ∷ 7 ∷ []) $ free1 ! $ move ! (4 ∷ 6 ∷ []) $ free1 ! $ move ! (4 ∷ 5 ∷ []) $ free1 ! $ free0 ! $
+        move ! (4 ∷ 13 ∷ []) $ free1 ! $ move ! (4 ∷ 12 ∷ []) $ free1 ! $ move ! (4 ∷ 11 ∷ []) $ free1 ! $ move ! (4 ∷ 10 ∷ []) $ free1 ! $
+        move ! (4 ∷ 9 ∷ []) $ free1 ! $ move ! (4 ∷ 8 ∷ []) $ free1 ! $ move ! (4 ∷ 7 ∷ []) $ free1 ! $ move ! (4 ∷ 6 ∷ []) $ free1 ! $ move ! (4 ∷ 5 ∷ []) $
+        free1 ! $ free0 ! $
         keep ! (3 ∷ 1 ∷ 2 ∷ 0 ∷ []) $ by ! (exits gn)
 
     into : (m i : ℕ) → i + m ≡ n → ent 𝓤 (⋆ 𝓤 H A (At i (packed fs i ys))) (Inv m)
-    into m i e = via 𝓤 (guard 𝓤 (i + m ≡ n) (⋆ 𝓤 H A (At i (packed fs i ys)))) (guardI 𝓤 (i + m ≡ n) (⋆ 𝓤 H A (At i (packed fs i ys))) e) (exI 𝓤 (λ (j : ℕ). guard 𝓤 (j + m ≡ n) (⋆ 𝓤 H A (At j (packed fs j ys)))) i)
+    into m i e = via 𝓤 (guard 𝓤 (i + m ≡ n) (⋆ 𝓤 H A (At i (packed fs i ys)))) (guardI 𝓤 (i + m ≡ n) (⋆ 𝓤 H A (At i (packed fs i ys))) e)
+        (exI 𝓤 (λ (j : ℕ). guard 𝓤 (j + m ≡ n) (⋆ 𝓤 H A (At j (packed fs j ys)))) i)
 
     turn-at : (m i : ℕ) → i + m ≡ n → ent 𝓤 (⋆ 𝓤 H A (At i (packed fs i ys))) (Wp 𝓤 H C Λ En cm.turn-1 (afterTurn 𝓤 H (Below m) Left))
     unfolding packed
-    turn-at zero i e = subst (λ (c : ℕ). ent 𝓤 (⋆ 𝓤 H A (At c (packed fs c ys))) (Wp 𝓤 H C Λ En cm.turn-1 (afterTurn 𝓤 H (Below zero) Left))) (sym e ∙ add-zero i) (ends (Below zero))
+    turn-at zero i e = subst (λ (c : ℕ). ent 𝓤 (⋆ 𝓤 H A (At c (packed fs c ys))) (Wp 𝓤 H C Λ En cm.turn-1 (afterTurn 𝓤 H (Below zero) Left)))
+        (sym e ∙ add-zero i) (ends (Below zero))
     turn-at (suc m) i e =
         more i (packed fs i ys) (Below (suc m)) (packed-length fs i ys) (omega arith)
-        (via 𝓤 (Inv m) (into m (suc i) (suc-add i m ∙ sym (add-suc i m) ∙ e)) (via 𝓤 (guard 𝓤 (m < suc m) (Inv m)) (guardI 𝓤 (m < suc m) (Inv m) (lt-suc-self m)) (exI 𝓤 (λ (u : ℕ). guard 𝓤 (u < suc m) (Inv u)) m)))
+        (via 𝓤 (Inv m) (into m (suc i) (suc-add i m ∙ sym (add-suc i m) ∙ e))
+        (via 𝓤 (guard 𝓤 (m < suc m) (Inv m)) (guardI 𝓤 (m < suc m) (Inv m) (lt-suc-self m)) (exI 𝓤 (λ (u : ℕ). guard 𝓤 (u < suc m) (Inv u)) m)))
 
     turns : (m : ℕ) → ent 𝓤 (Inv m) (Wp 𝓤 H C Λ En cm.turn-1 (afterTurn 𝓤 H (Below m) Left))
-    turns m = exE 𝓤 (λ (i : ℕ). guard 𝓤 (i + m ≡ n) (⋆ 𝓤 H A (At i (packed fs i ys)))) (λ i. guardE 𝓤 (i + m ≡ n) (⋆ 𝓤 H A (At i (packed fs i ys))) (λ e. turn-at m i e))
+    turns m = exE 𝓤 (λ (i : ℕ). guard 𝓤 (i + m ≡ n) (⋆ 𝓤 H A (At i (packed fs i ys))))
+        (λ i. guardE 𝓤 (i + m ≡ n) (⋆ 𝓤 H A (At i (packed fs i ys))) (λ e. turn-at m i e))
 
     loops : ent 𝓤 (⋆ 𝓤 H A (At 0 ys)) (Wp 𝓤 H C Λ En (loop cm.turn-1) Left)
     unfolding packed
     loops = via 𝓤 (Inv n) (into n 0 (zero-add n)) (loop-rule 𝓤 H (W .laws) 𝓣 _<_ (Nat·lt-wfRel .wf) En cm.turn-1 Left Inv turns n)
 
-  walk : (𝓣 : Tables 𝓤 H) → Triple 𝓤 (𝓣 .C #pair-at) (Pair 𝓤 H A mem run) → Room u32 (length fs) → n < 2 ^ 64 → Room T.the-row (length ys) → (n + n ≤ length fs) × (n ≤ length ys)
-      → ent 𝓤 (onEntry 𝓤 H A f.signature (κ, (κ₁, tt)) (q, (q₁, tt)) a at) (WpFn 𝓤 H (𝓣 .C) (𝓣 .Λ) code.function (sliceVal (b, o) (length fs) ∷ vint w64 n ∷ sliceVal (b₁, o₁) (length ys) ∷ []) Post)
+  walk : (𝓣 : Tables 𝓤 H) → Triple 𝓤 (𝓣 .C #pair-at) (Pair 𝓤 H A mem run) → Room u32 (length fs) → n < 2 ^ 64 → Room T.the-row (length ys) → (n + n ≤ length fs)
+      × (n ≤ length ys)
+      → ent 𝓤 (onEntry 𝓤 H A f.signature (κ, (κ₁, tt)) (q, (q₁, tt)) a at)
+      (WpFn 𝓤 H (𝓣 .C) (𝓣 .Λ) code.function (sliceVal (b, o) (length fs) ∷ vint w64 n ∷ sliceVal (b₁, o₁) (length ys) ∷ []) Post)
   walk 𝓣 known gf gn gy h =
-      qed W ((‵ (flft κ q) ⊛ (‵ (flft κ₁ q₁) ⊛ ‵ ftrue)) ∷ ‵ (owns (ShrSlice (named 0) κ u32 ∷ usize ∷ MutSlice (named 1) κ₁ T.the-row ∷ []) a at) ∷ []) ∵ enter ! (𝓣 .C) (𝓣 .Λ) code.function (sliceVal (b, o) (length fs) ∷ vint w64 n ∷ sliceVal (b₁, o₁) (length ys) ∷ []) _ $
-      alloc1 ! (λ l₀. alloc1 ! (λ l₁. alloc1 ! (λ l₂. alloc1 ! (λ l₃. alloc1 ! (λ l₄. alloc1 ! (λ l₅. alloc1 ! (λ l₆. alloc1 ! (λ l₇. alloc1 ! (λ l₈. alloc0 ! $ params1 ! $
-      pass1 ! (init ! 14 refl (tt, (tt, (record { fits = gf .0 }, tt)))) $ pass1 ! (init ! 12 refl (tt, record { fits = gn })) $ pass1 ! (init ! 10 refl (tt, (tt, (record { fits = gy .0 }, tt)))) $ pass0 ! $
+      qed W ((‵ (flft κ q) ⊛ (‵ (flft κ₁ q₁) ⊛ ‵ ftrue)) ∷ ‵ (owns (ShrSlice (named 0) κ u32 ∷ usize ∷ MutSlice (named 1) κ₁ T.the-row ∷ []) a at) ∷ []) ∵ enter
+      ! (𝓣 .C) (𝓣 .Λ) code.function (sliceVal (b, o) (length fs) ∷ vint w64 n ∷ sliceVal (b₁, o₁) (length ys) ∷ []) _ $
+      alloc1 ! (λ l₀. alloc1 ! (λ l₁. alloc1 ! (λ l₂. alloc1 ! (λ l₃. alloc1
+      ! (λ l₄. alloc1 ! (λ l₅. alloc1 ! (λ l₆. alloc1 ! (λ l₇. alloc1 ! (λ l₈. alloc0 ! $ params1 ! $
+      pass1 ! (init ! 14 refl (tt, (tt, (record { fits = gf .0 }, tt)))) $ pass1 ! (init ! 12 refl (tt, record { fits = gn })) $
+      pass1 ! (init ! 10 refl (tt, (tt, (record { fits = gy .0 }, tt)))) $ pass0 ! $
       assigns ! (of-opd ! (lit ! tt)) (from ! (stop !)) (init ! 8 refl (tt, record { fits = lit< tt })) $
       -- [_8; …; _0; …; the tokens; what flat, n and out own]
       move ! (19 ∷ []) $ fsplit ! $ move ! (1 ∷ []) $ fsplit ! $ drop ! $ fsplit ! $ move ! (21 ∷ []) $ split ! $ move ! (1 ∷ []) $ split ! $
       -- [out's token; true; flat's token; out; true; flat; _8; …]
       move ! (3 ∷ 0 ∷ []) $ opens-mut T.the-row (named 1) κ₁ q₁ γ₁ b₁ o₁ ! tt ys $
       -- [the row; the open borrow; obs; auth; true; flat's token; true; flat; _8; …]
-      keep ! (0 ∷ 1 ∷ 2 ∷ 3 ∷ 7 ∷ 5 ∷ 24 ∷ 22 ∷ 20 ∷ 18 ∷ 16 ∷ 14 ∷ 12 ∷ 10 ∷ 8 ∷ 25 ∷ 23 ∷ 21 ∷ 19 ∷ 17 ∷ 15 ∷ 13 ∷ 11 ∷ 9 ∷ []) $ by ! (loops 𝓣 known gf gn gy (h .0) (h .1) l₀ l₁ l₂ l₃ l₄ l₅ l₆ l₇ l₈))))))))))
+      keep ! (0 ∷ 1 ∷ 2 ∷ 3 ∷ 7 ∷ 5 ∷ 24 ∷ 22 ∷ 20 ∷ 18 ∷ 16 ∷ 14 ∷ 12 ∷ 10 ∷ 8 ∷ 25 ∷ 23 ∷ 21 ∷ 19 ∷ 17 ∷ 15 ∷ 13 ∷ 11 ∷ 9 ∷ []) $
+      by ! (loops 𝓣 known gf gn gy (h .0) (h .1) l₀ l₁ l₂ l₃ l₄ l₅ l₆ l₇ l₈))))))))))
 
-module _ {M : Type 1} (𝓤 : URA M) (H : Heap 𝓤) (A : Atoms 𝓤) (W : Given 𝓤 H A) (mem : Memory → SProp 𝓤) (run : Routine → Fun 𝓤) (𝓣 : Tables 𝓤 H) (known : Triple 𝓤 (𝓣 .C #pair-at) (Pair 𝓤 H A mem run)) where
+module _ {M : Type 1} (𝓤 : URA M) (H : Heap 𝓤) (A : Atoms 𝓤) (W : Given 𝓤 H A) (mem : Memory → SProp 𝓤) (run : Routine → Fun 𝓤) (𝓣 : Tables 𝓤 H)
+    (known : Triple 𝓤 (𝓣 .C #pair-at) (Pair 𝓤 H A mem run)) where
   walks : Walks 𝓤 H A f.ended stayed (WpFn 𝓤 H (𝓣 .C) (𝓣 .Λ) code.function) (f.clauses 𝓤 H A mem run)
-  walks = walked 𝓤 H A f.ended stayed (f.clauses 𝓤 H A mem run) (WpFn 𝓤 H (𝓣 .C) (𝓣 .Λ) code.function) (λ κs. (slice-vals, (uint-vals w64, (slice-vals, tt)))) (λ κs. (shr-slice-tells (named 0) (κs .0) u32, (uint-tells w64, (mut-slice-tells (named 1) (κs .1 .0) T.the-row, tt))))
+  walks = walked 𝓤 H A f.ended stayed (f.clauses 𝓤 H A mem run) (WpFn 𝓤 H (𝓣 .C) (𝓣 .Λ) code.function) (λ κs. (slice-vals, (uint-vals w64, (slice-vals, tt))))
+      (λ κs. (shr-slice-tells (named 0) (κs .0) u32, (uint-tells w64, (mut-slice-tells (named 1) (κs .1 .0) T.the-row, tt))))
       (λ κs qs bounds a g are. needs 𝓤 ((a .1 .0 + a .1 .0 ≤ length (now (a .0))) × (a .1 .0 ≤ length (now (a .1 .1 .0)))) _
-      (walk 𝓤 H A W mem run (κs .0) (κs .1 .0) (qs .0) (qs .1 .0) (a .0 .ptr .0) (a .0 .ptr .1) (a .1 .1 .0 .ptr .0) (a .1 .1 .0 .ptr .1) (a .0 .name) (a .1 .1 .0 .name) (a .0 .now) (a .1 .0) (a .1 .1 .0 .now) 𝓣 known (are .0 .0 .1) (are .1 .0 .1) (are .1 .1 .0 .0 .1)))
+      (walk 𝓤 H A W mem run (κs .0) (κs .1 .0) (qs .0) (qs .1 .0) (a .0 .ptr .0) (a .0 .ptr .1) (a .1 .1 .0 .ptr .0) (a .1 .1 .0 .ptr .1) (a .0 .name)
+      (a .1 .1 .0 .name) (a .0 .now) (a .1 .0) (a .1 .1 .0 .now) 𝓣 known (are .0 .0 .1) (are .1 .0 .1) (are .1 .1 .0 .0 .1)))
 
   meets : Meets 𝓤 H A f.signature (WpFn 𝓤 H (𝓣 .C) (𝓣 .Λ) code.function) (f.spec 𝓤 H A mem run)
-  meets = walk-meets 𝓤 H A f.ended stayed W (goes-none-slice 𝓤 H A W 2 (0 ∷ []) tt (plain (λ _. u32)) yes, (goes-none 𝓤 H A W 2 (λ _. usize) yes (λ κs x f. refl), (goes-slice 𝓤 H A W 2 1 tt (plain (λ _. T.the-row)), tt))) (f.clauses 𝓤 H A mem run)
+  meets = walk-meets 𝓤 H A f.ended stayed W (goes-none-slice 𝓤 H A W 2 (0 ∷ []) tt (plain (λ _. u32)) yes,
+      (goes-none 𝓤 H A W 2 (λ _. usize) yes (λ κs x f. refl), (goes-slice 𝓤 H A W 2 1 tt (plain (λ _. T.the-row)), tt))) (f.clauses 𝓤 H A mem run)
       (WpFn 𝓤 H (𝓣 .C) (𝓣 .Λ) code.function) (WpFn-mono 𝓤 H (W .laws) 𝓣 code.function) walks
 
 pub write-records-spec : {M : Type 1} → stated.statement M
 unfolding code.routine tablesOf
 write-records-spec 𝓤 H 𝓜 𝓖 𝓡 =
-    entered 𝓤 H (tripleOf 𝓤 H (𝓖 .A) f.signature (f.spec 𝓤 H (𝓖 .A) (𝓜 .mem) (𝓡 .run))) (tables 𝓤 H 𝓜 𝓡 code.env .C) (tables 𝓤 H 𝓜 𝓡 code.env .Λ) #write-records code.function (code.unfolded 𝓤 H 𝓜 𝓡)
+    entered 𝓤 H (tripleOf 𝓤 H (𝓖 .A) f.signature (f.spec 𝓤 H (𝓖 .A) (𝓜 .mem) (𝓡 .run))) (tables 𝓤 H 𝓜 𝓡 code.env .C) (tables 𝓤 H 𝓜 𝓡 code.env .Λ) #write-records
+    code.function (code.unfolded 𝓤 H 𝓜 𝓡)
     (meets 𝓤 H (𝓖 .A) (givenOf 𝓤 H 𝓜 𝓖) (𝓜 .mem) (𝓡 .run) (tablesOf 𝓤 H 𝓜 (tables 𝓤 H 𝓜 𝓡 code.env))
     (cited 𝓤 H (Pair 𝓤 H (𝓖 .A) (𝓜 .mem) (𝓡 .run)) 𝓜 𝓡 code.env #pair-at pair-def.routine code.calls-runs·records·pair-at (pair-thm.met 𝓤 H 𝓜 𝓖 𝓡)))

@@ -98,8 +98,7 @@ chunk-requires c κs = (some c, few c)
 
 matching-requires : tie.Need-matching-requires Inv-loop μ-loop
 matching-requires c κs =
-    let t = c .before in
-    (
+    let t = c .before in (
       (some t, few t),
       subst (λ (k : ℕ). k < 2 ^ n t) (sym (word c)) (subst (λ (k : ℕ). wordOf (part t) < 2 ^ k) (part-length t) (wordOf-lt (part t))),
     )
@@ -116,7 +115,8 @@ add-result c =
     let t = sized m in
     let h = head t in
     record {
-      fits = omega (arith, hit-within (set m) (row t) (n t) (rows h) (m .matching .result) (few t) (room t) (hit m) (omega (arith, c .if1 .taken)), room t, long h, start h .pre .0 .0);
+      fits = omega (arith, hit-within (set m) (row t) (n t) (rows h) (m .matching .result) (few t) (room t) (hit m) (omega (arith, c .if1 .taken)), room t, long
+      h, start h .pre .0 .0);
     }
 
 returns : tie.Need-returns Inv-loop μ-loop
@@ -134,8 +134,7 @@ loop-less c = let t = sized (c .before) in omega (arith, some t, room t, long (h
 loop-again : tie.Need-loop-again Inv-loop μ-loop
 loop-again c =
     let m = c .before in
-    let t = sized m in
-    (
+    let t = sized m in (
       omega (arith, room t, long (head t)),
       sym (seek-none (set m) (row t) (n t) (rows (head t)) (m .matching .result) (few t) (room t) (hit m) (omega (arith, c .if1 .left))) ∙ head t .loop .inv .1,
     )

@@ -66,8 +66,7 @@ returns c =
     let w = c .before .before in
     let o = out (known (told w)) in
     let e = sym (told w .sweep .given .1) in
-    let b = begun-barred (len w) (from w) (sum w) o (omega (arith, c .before .if1 .taken, w .words-for .ensures)) in
-    (
+    let b = begun-barred (len w) (from w) (sum w) o (omega (arith, c .before .if1 .taken, w .words-for .ensures)) in (
       ap Barred (c .refusal .ensures) ∙ b .0 ∙ ap (λ (s : Sweep). begun s o) e,
       b .1 ∙ ap (λ (s : Sweep). begunOut s o) e,
       small (known (told w)),

@@ -55,10 +55,10 @@ returns c =
     let k = told l in
     let a = start k .args in
     let e = sym (k .sweep .given .1) in
-    let turn = replicate (a .first - from k) false ++ replicate (a .past - a .first) true in
-    (
+    let turn = replicate (a .first - from k) false ++ replicate (a .past - a .first) true in (
       ap (λ (s : Sweep). layRun s (a .first) (a .past)) e,
-      l .lay-run .ensures ∙ ap (λ (at : ℕ). laid at turn (now (a .out))) (zero-add (from k)) ∙ ap (λ (s : Sweep). layRunOut s (a .first) (a .past) (now (a .out))) e,
+      l .lay-run .ensures ∙ ap (λ (at : ℕ). laid at turn (now (a .out))) (zero-add (from k))
+      ∙ ap (λ (s : Sweep). layRunOut s (a .first) (a .past) (now (a .out))) e,
     )
 
 returns-2 : tie.Need-returns-2

@@ -20,14 +20,16 @@ module _ (c : tie.Then1) where
   abbrev start : tie.Start
   start = c .before .before
 
-  unfit : (leb (start .args .from) (start .args .first) && (ltb (start .args .first) (start .args .past) && leb (start .args .past) (start .args .length))) ≡ false
+  unfit : (leb (start .args .from) (start .args .first) && (ltb (start .args .first) (start .args .past) && leb (start .args .past) (start .args .length)))
+      ≡ false
   unfit = sym (c .before .run-fits .ensures) ∙ not-true _ (c .if1 .taken)
 
 module _ (c : tie.Else1) where
   abbrev begun : tie.Start
   begun = c .before .before
 
-  fits : (leb (begun .args .from) (begun .args .first) && (ltb (begun .args .first) (begun .args .past) && leb (begun .args .past) (begun .args .length))) ≡ true
+  fits : (leb (begun .args .from) (begun .args .first) && (ltb (begun .args .first) (begun .args .past) && leb (begun .args .past) (begun .args .length)))
+      ≡ true
   fits = sym (c .before .run-fits .ensures) ∙ not-false _ (c .if1 .left)
 
   bounds : (begun .args .from ≤ begun .args .first) × (begun .args .first < begun .args .past) × (begun .args .past ≤ begun .args .length)
