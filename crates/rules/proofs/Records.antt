@@ -11,7 +11,7 @@ use lib.ListN.{length}
 use Rattle.rows.specs.declared.Refusal.{Refusal}
 use Rattle.rows.specs.declared.Verdict.{Verdict}
 use Rattle.rows.specs.declared.Verdict.the-variants.{Fine, Refused}
-use Rattle.rows.specs.Table.{First, Met, refusal, told, ifFine}
+use Rattle.rows.specs.Table.{First, refusal, told, ifFine}
 use Rattle.rows.proofs.TableLaws.{same-refusal, told-exactly, accepts-exactly, line-refuses, alone-exactly}
 use Rattle.rules.specs.declared.Run.{Run}
 use Rattle.rules.specs.Records.{numbersOf, recordsOf, numbersChecks, toNumbersVerdict, toNumbers, toNumbersOut, recordsChecks, toRecordsVerdict, toRecords, toRecordsOut}

@@ -28,8 +28,13 @@ pub record Acting (J X G : Type 0) : Type 1 where
 module _ (J X G : RattleType) (one : One (X .mir)) (D : Value J) (D′ : Value G) (P : Acting (J .Denot) (X .Denot) (G .Denot)) where
   abbrev actsEnded : Ended
   actsEnded = record {
-    signature = record { lifetimes = 1; outlives = []; params = plain (λ _. J) ∷ SliceRefMutOf (0 ∷ []) tt (plain (λ _. X)) (λ _. one) ∷ []; result = plain
-    (λ _. G) };
+    signature = record {
+      lifetimes = 1;
+      outlives = [];
+      params = plain (λ _. J) ∷ SliceRefMutOf (0 ∷ []) tt (plain (λ _. X)) (λ _. one) ∷ [];
+      result = plain
+          (λ _. G);
+    };
     kept = (yes, (yes, tt));
   }
 

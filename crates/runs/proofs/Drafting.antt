@@ -7,7 +7,7 @@
 use mathlib.Core.Bool.{false}
 use base.Logic.{emp, fst∗}
 use mir.Syntax.{Fn, erased, assign, return, place, deref, field, rvOpd, copy, addrOf, aggregate, local, valueLocal}
-use Rattle.runs.proofs.Kit.{_≡_, refl, ℕ, List, [], _∷_, length, URA, Ty, Name, Body, named, imm, mut, w32, w64, tyInt, tyRef, seq, call, Val, vint, SProp, ent, via, Lft, GName, Share, Fml, ftrue, flft, Heap, WpFn, Tables, Atoms, fact, Given, ‵, _⊛_, ⋆, _$_, _∵_, !, qed, by, move, keep, drop, split, join, fsplit, fjoin, suffices, frame, done, whole, sub, look-in, agg, look, store, init, forget, stop, hop, fld, from, load, of-opd, addr, and-then, no-more, assigns, land, returns, enter, alloc1, alloc0, params1, pass1, pass0, free1, free0, fmOf, WpFn-mono, RattleType, owns, Is, pointee, RefT, now, sliceTy, sliceVal, ShrSlice, MutSlice, Room, slice-vals, shr-slice-tells, mut-slice-tells, plain, u32, u64, usize, SliceRefOf, SliceRefMutOf, nothing, owned, Contract, Triple, Vals, onEntry, Meets, Ended, Clauses, closing, says, Stays, stay-none-slice, stay-none, stay-slice, walkOf, Walks, ends-at, walked, goes-none-slice, goes-none, goes-slice, walk-meets, yes}
+use Rattle.runs.proofs.Kit.{_≡_, refl, ℕ, List, [], _∷_, length, URA, Ty, Name, named, imm, mut, w32, w64, tyInt, tyRef, seq, call, Val, SProp, ent, via, Lft, GName, Share, Fml, ftrue, flft, Heap, WpFn, Tables, Atoms, fact, Given, ‵, _⊛_, ⋆, _$_, _∵_, !, qed, by, move, keep, drop, split, join, fsplit, fjoin, suffices, frame, done, whole, sub, look-in, agg, look, store, init, forget, stop, hop, fld, from, load, of-opd, addr, and-then, no-more, assigns, land, returns, enter, alloc1, alloc0, params1, pass1, pass0, free1, free0, fmOf, WpFn-mono, RattleType, owns, Is, pointee, RefT, now, sliceTy, sliceVal, ShrSlice, MutSlice, Room, slice-vals, shr-slice-tells, mut-slice-tells, plain, u32, u64, usize, SliceRefOf, SliceRefMutOf, nothing, owned, Contract, Triple, Vals, onEntry, Meets, Ended, Clauses, closing, says, Stays, stay-none-slice, stay-none, stay-slice, walkOf, Walks, ends-at, walked, goes-none-slice, goes-none, goes-slice, walk-meets, yes}
 use Rattle.rules.specs.declared.Run.{Run}
 use Rattle.runs.proofs.Values.{number}
 use Rattle.runs.proofs.Walk.{Value}
@@ -40,7 +40,7 @@ module _ (φ γ π ρ : Ty) (plan room start count fill tells : Name) where
     outlives = [];
     params = 4;
     locals = local ρ valueLocal ∷ local φ valueLocal ∷ local slice₁ valueLocal ∷ local slice₂ valueLocal ∷ local mslice valueLocal ∷ local π valueLocal
-    ∷ local π valueLocal
+        ∷ local π valueLocal
         ∷ local word valueLocal ∷ local γ valueLocal ∷ local word valueLocal ∷ local again valueLocal ∷ local (sliceTy again) valueLocal ∷ [];
     body =
         seq (call plan (copy (place 2 []) ∷ copy (place 3 []) ∷ copy (place 1 []) ∷ []) (place 5 []))
@@ -240,8 +240,13 @@ module _ (F C P G : RattleType) (DF : Value F) (DC : Value C) (DP : Value P) (DG
     walks : Walks 𝓤 H A ended stayed (WpFn 𝓤 H (𝓣 .C) (𝓣 .Λ) function) (clauses 𝓤)
     walks = walked 𝓤 H A ended stayed (clauses 𝓤) (WpFn 𝓤 H (𝓣 .C) (𝓣 .Λ) function)
         (λ κs. ((λ x. DF .spell x ∷ []), (slice-vals, (slice-vals, (slice-vals, tt)))))
-        (λ κs. (DF .tells, (shr-slice-tells (named 0) (κs .0) u64,
-        (shr-slice-tells (named 1) (κs .1 .0) u32, (mut-slice-tells (named 2) (κs .1 .1 .0) T.the-row, tt)))))
+        (λ κs. (
+          DF .tells,
+          (
+            shr-slice-tells (named 0) (κs .0) u64,
+            (shr-slice-tells (named 1) (κs .1 .0) u32, (mut-slice-tells (named 2) (κs .1 .1 .0) T.the-row, tt)),
+          ),
+        ))
         (λ κs qs bounds a g are. via 𝓤 _ (fst∗ 𝓤 _ (emp 𝓤))
         (walk 𝓤 H A W #plan #room #start #count #fill #tells (κs .0) (κs .1 .0) (κs .1 .1 .0) (qs .0) (qs .1 .0) (qs .1 .1 .0) (a .0) (a .1 .0) (a .1 .1 .0)
         (a .1 .1 .1 .0 .ptr .0) (a .1 .1 .1 .0 .ptr .1) (a .1 .1 .1 .0 .name) (a .1 .1 .1 .0 .now)

@@ -59,7 +59,7 @@ module _ (j x : Ty) (step : Name) where
     outlives = [];
     params = 3;
     locals = local j valueLocal ∷ local slice valueLocal ∷ local j valueLocal ∷ local (sliceTy (tyRef (named 1) mut x)) valueLocal ∷ local j valueLocal
-    ∷ local word valueLocal ∷ local T′.mir valueLocal
+        ∷ local word valueLocal ∷ local T′.mir valueLocal
         ∷ local word valueLocal ∷ local tyBool valueLocal ∷ local tyPtr valueLocal ∷ local T′.mir valueLocal ∷ local eref valueLocal ∷ local (sliceTy eref)
         valueLocal ∷ [];
     body = seq (assign (place 4 []) (rvOpd (copy (place 2 [])))) (seq (assign (place 5 []) (rvOpd (int w64 0))) (seq (block (loop turn)) after));
@@ -83,15 +83,25 @@ pub record Stepping (J X : Type 0) : Type 1 where
 module _ (J X : RattleType) (one : One (X .mir)) (D : Value J) (x : Ty) (P : Stepping (J .Denot) (X .Denot)) where
   abbrev pub stepEnded : Ended
   stepEnded = record {
-    signature = record { lifetimes = 1; outlives = []; params = plain (λ _. J) ∷ plain (λ _. u32) ∷ plain (λ _. u32) ∷ SliceRefMutOf (0 ∷ []) tt
-    (plain (λ _. X)) (λ _. one) ∷ []; result = plain (λ _. J) };
+    signature = record {
+      lifetimes = 1;
+      outlives = [];
+      params = plain (λ _. J) ∷ plain (λ _. u32) ∷ plain (λ _. u32) ∷ SliceRefMutOf (0 ∷ []) tt
+          (plain (λ _. X)) (λ _. one) ∷ [];
+      result = plain (λ _. J);
+    };
     kept = (yes, (yes, (yes, (yes, tt))));
   }
 
   abbrev pub eachEnded : Ended
   eachEnded = record {
-    signature = record { lifetimes = 2; outlives = []; params = SliceRefOf (0 ∷ []) tt (plain (λ _. T.the-row)) (λ _. tt) ∷ plain (λ _. J)
-    ∷ SliceRefMutOf (1 ∷ []) tt (plain (λ _. X)) (λ _. one) ∷ []; result = plain (λ _. J) };
+    signature = record {
+      lifetimes = 2;
+      outlives = [];
+      params = SliceRefOf (0 ∷ []) tt (plain (λ _. T.the-row)) (λ _. tt) ∷ plain (λ _. J)
+          ∷ SliceRefMutOf (1 ∷ []) tt (plain (λ _. X)) (λ _. one) ∷ [];
+      result = plain (λ _. J);
+    };
     kept = (yes, (yes, (yes, tt)));
   }
 
@@ -104,7 +114,7 @@ module _ (J X : RattleType) (one : One (X .mir)) (D : Value J) (x : Ty) (P : Ste
       ghost = Unit {0};
       requires = λ g. fact 𝓤 (P .Asks (a .0) (a .1 .0) (a .1 .1 .0) (now (a .1 .1 .1 .0)));
       ensures = λ g r e. fact 𝓤 ((r ≡ P .job (a .0) (a .1 .0) (a .1 .1 .0) (now (a .1 .1 .1 .0))) ×
-      (now (e .1 .1 .1 .0) ≡ P .out (a .0) (a .1 .0) (a .1 .1 .0) (now (a .1 .1 .1 .0))));
+          (now (e .1 .1 .1 .0) ≡ P .out (a .0) (a .1 .0) (a .1 .1 .0) (now (a .1 .1 .1 .0))));
     }
 
     abbrev pub eachClauses : Clauses 𝓤 eachEnded
@@ -112,7 +122,7 @@ module _ (J X : RattleType) (one : One (X .mir)) (D : Value J) (x : Ty) (P : Ste
       ghost = Unit {0};
       requires = λ g. fact 𝓤 (P .Ready (now (a .0)) (a .1 .0) (now (a .1 .1 .0)));
       ensures = λ g r e. fact 𝓤 ((r ≡ P .jobs (now (a .0)) (a .1 .0) (now (a .1 .1 .0))) ×
-      (now (e .1 .1 .0) ≡ P .outs (now (a .0)) (a .1 .0) (now (a .1 .1 .0))));
+          (now (e .1 .1 .0) ≡ P .outs (now (a .0)) (a .1 .0) (now (a .1 .1 .0))));
     }
 
   module _ {M : Type 1} (𝓤 : URA M) (H : Heap 𝓤) (A : Atoms 𝓤) where
@@ -160,8 +170,16 @@ module _ (J X : RattleType) (one : One (X .mir)) (D : Value J) (x : Ty) (P : Ste
 
     -- what the step is passed: out lent again for the lifetime ν under the name δ, at the list zs
     abbrev to : J .Denot → List (X .Denot) → Run → ℕ → GName → Step 𝓤 H A .Ghost
-    to j zs r ν δ = (((ν ∷ [], tt), (fullShare, tt), tt, (j, (r .first, (r .past, (lent δ zs, tt)))),
-        (D .spell j ∷ [], (vint w32 (r .first) ∷ [], (vint w32 (r .past) ∷ [], (sliceVal (b₁, o₁) (length zs) ∷ [], tt))))), tt)
+    to j zs r ν δ = (
+      (
+        (ν ∷ [], tt),
+        (fullShare, tt),
+        tt,
+        (j, (r .first, (r .past, (lent δ zs, tt)))),
+        (D .spell j ∷ [], (vint w32 (r .first) ∷ [], (vint w32 (r .past) ∷ [], (sliceVal (b₁, o₁) (length zs) ∷ [], tt)))),
+      ),
+      tt,
+    )
 
     goes : (j : J .Denot) (zs : List (X .Denot)) (r : Run) (ν : ℕ) (δ : GName) → Is J j (D .spell j ∷ []) → r .first < 2 ^ 32 → r .past < 2 ^ 32
         → P .Asks j (r .first) (r .past) zs
@@ -333,8 +351,11 @@ module _ (J X : RattleType) (one : One (X .mir)) (D : Value J) (x : Ty) (P : Ste
           let at-end : i ≡ n = sym (add-zero i) ∙ h .left in
           let gone : dropped i ys ≡ [] = ap (λ (c : ℕ). dropped c ys) at-end ∙ drop-length ys in
           subst (λ (c : ℕ). ent 𝓤 (⋆ 𝓤 H A (At c j zs)) (Wp 𝓤 H C Λ En (turn τ x name) (afterTurn 𝓤 H (Below zero) Left))) (sym at-end)
-          (ends j zs (Below zero) (h .spelt) (h .long) (sym (P .jobs-nil j zs) ∙ ap (λ (rs : List Run). P .jobs rs j zs) (sym gone)
-          ∙ h .jobs, sym (P .outs-nil j zs) ∙ ap (λ (rs : List Run). P .outs rs j zs) (sym gone) ∙ h .outs))
+          (ends j zs (Below zero) (h .spelt) (h .long) (
+            sym (P .jobs-nil j zs) ∙ ap (λ (rs : List Run). P .jobs rs j zs) (sym gone)
+                ∙ h .jobs,
+            sym (P .outs-nil j zs) ∙ ap (λ (rs : List Run). P .outs rs j zs) (sym gone) ∙ h .outs,
+          ))
       turn-at (suc m) i j zs h =
           let r = getD ys i noRun in
           let l : i < n = omega (arith, h .left) in
@@ -346,11 +367,11 @@ module _ (J X : RattleType) (one : One (X .mir)) (D : Value J) (x : Ty) (P : Ste
             long = len;
             spelt = g;
             ready = subst (λ (z : List (X .Denot)). P .Ready (dropped (suc i) ys) j′ z) (sym ez)
-            (subst (λ (z : J .Denot). P .Ready (dropped (suc i) ys) z (P .out j (r .first) (r .past) zs)) (sym ej) (now-ready .1));
+                (subst (λ (z : J .Denot). P .Ready (dropped (suc i) ys) z (P .out j (r .first) (r .past) zs)) (sym ej) (now-ready .1));
             jobs = ap (P .jobs (dropped (suc i) ys) j′) ez ∙ ap (λ (z : J .Denot). P .jobs (dropped (suc i) ys) z (P .out j (r .first) (r .past) zs)) ej
-            ∙ sym (P .jobs-cons r (dropped (suc i) ys) j zs) ∙ ap (λ (rs : List Run). P .jobs rs j zs) (sym here) ∙ h .jobs;
+                ∙ sym (P .jobs-cons r (dropped (suc i) ys) j zs) ∙ ap (λ (rs : List Run). P .jobs rs j zs) (sym here) ∙ h .jobs;
             outs = ap (P .outs (dropped (suc i) ys) j′) ez ∙ ap (λ (z : J .Denot). P .outs (dropped (suc i) ys) z (P .out j (r .first) (r .past) zs)) ej
-            ∙ sym (P .outs-cons r (dropped (suc i) ys) j zs) ∙ ap (λ (rs : List Run). P .outs rs j zs) (sym here) ∙ h .outs;
+                ∙ sym (P .outs-cons r (dropped (suc i) ys) j zs) ∙ ap (λ (rs : List Run). P .outs rs j zs) (sym here) ∙ h .outs;
           }))
           (via 𝓤 (guard 𝓤 (m < suc m) (Inv m)) (guardI 𝓤 (m < suc m) (Inv m) (lt-suc-self m)) (exI 𝓤 (λ (u : ℕ). guard 𝓤 (u < suc m) (Inv u)) m)))
 
@@ -388,16 +409,18 @@ module _ (J X : RattleType) (one : One (X .mir)) (D : Value J) (x : Ty) (P : Ste
         by ! (loops 𝓣 known gn gf g₀ q′ l₀ l₁ l₂ l₃ l₄ l₅ l₆ l₇ l₈ l₉ l₁₀ l₁₁ l₁₂ ready)))))))))))))))
 
   module _ {M : Type 1} (𝓤 : URA M) (H : Heap 𝓤) (A : Atoms 𝓤) (W : Given 𝓤 H A) (name : Name) (𝓣 : Tables 𝓤 H) (known : Triple 𝓤 (𝓣 .C name) (Step 𝓤 H A))
-      where
-    each-walks : Walks 𝓤 H A eachEnded stayed (WpFn 𝓤 H (𝓣 .C) (𝓣 .Λ) (eachFn (D .ty) x name)) (eachClauses 𝓤)
-    each-walks = walked 𝓤 H A eachEnded stayed (eachClauses 𝓤) (WpFn 𝓤 H (𝓣 .C) (𝓣 .Λ) (eachFn (D .ty) x name))
-        (λ κs. (slice-vals, ((λ j. D .spell j ∷ []), (slice-vals, tt))))
-        (λ κs. (shr-slice-tells (named 0) (κs .0) T.the-row, (D .tells, (mut-slice-tells (named 1) (κs .1 .0) X, tt))))
-        (λ κs qs bounds a g are. needs 𝓤 (P .Ready (now (a .0)) (a .1 .0) (now (a .1 .1 .0))) _
-        (walk 𝓤 H A W name (κs .0) (κs .1 .0) (qs .0) (qs .1 .0) (a .0 .ptr .0) (a .0 .ptr .1) (a .1 .1 .0 .ptr .0) (a .1 .1 .0 .ptr .1) (a .0 .name)
-        (a .1 .1 .0 .name) (a .0 .now) (a .1 .0) (a .1 .1 .0 .now) 𝓣 known (are .0 .0 .1) (are .1 .1 .0 .0 .1) (are .1 .0)))
+    where
+      each-walks : Walks 𝓤 H A eachEnded stayed (WpFn 𝓤 H (𝓣 .C) (𝓣 .Λ) (eachFn (D .ty) x name)) (eachClauses 𝓤)
+      each-walks = walked 𝓤 H A eachEnded stayed (eachClauses 𝓤) (WpFn 𝓤 H (𝓣 .C) (𝓣 .Λ) (eachFn (D .ty) x name))
+          (λ κs. (slice-vals, ((λ j. D .spell j ∷ []), (slice-vals, tt))))
+          (λ κs. (shr-slice-tells (named 0) (κs .0) T.the-row, (D .tells, (mut-slice-tells (named 1) (κs .1 .0) X, tt))))
+          (λ κs qs bounds a g are. needs 𝓤 (P .Ready (now (a .0)) (a .1 .0) (now (a .1 .1 .0))) _
+          (walk 𝓤 H A W name (κs .0) (κs .1 .0) (qs .0) (qs .1 .0) (a .0 .ptr .0) (a .0 .ptr .1) (a .1 .1 .0 .ptr .0) (a .1 .1 .0 .ptr .1) (a .0 .name)
+          (a .1 .1 .0 .name) (a .0 .now) (a .1 .0) (a .1 .1 .0 .now) 𝓣 known (are .0 .0 .1) (are .1 .1 .0 .0 .1) (are .1 .0)))
 
-    pub each-meets : Meets 𝓤 H A (eachEnded .signature) (WpFn 𝓤 H (𝓣 .C) (𝓣 .Λ) (eachFn (D .ty) x name)) (closing 𝓤 H A eachEnded (eachClauses 𝓤))
-    each-meets = walk-meets 𝓤 H A eachEnded stayed W (goes-none-slice 𝓤 H A W 2 (0 ∷ []) tt (plain (λ _. T.the-row)) yes,
-        (goes-none 𝓤 H A W 2 (λ _. J) yes (λ κs j f. D .silent j f), (goes-slice 𝓤 H A W 2 1 tt (plain (λ _. X)), tt))) (eachClauses 𝓤)
-        (WpFn 𝓤 H (𝓣 .C) (𝓣 .Λ) (eachFn (D .ty) x name)) (WpFn-mono 𝓤 H (W .laws) 𝓣 (eachFn (D .ty) x name)) each-walks
+      pub each-meets : Meets 𝓤 H A (eachEnded .signature) (WpFn 𝓤 H (𝓣 .C) (𝓣 .Λ) (eachFn (D .ty) x name)) (closing 𝓤 H A eachEnded (eachClauses 𝓤))
+      each-meets = walk-meets 𝓤 H A eachEnded stayed W (
+        goes-none-slice 𝓤 H A W 2 (0 ∷ []) tt (plain (λ _. T.the-row)) yes,
+        (goes-none 𝓤 H A W 2 (λ _. J) yes (λ κs j f. D .silent j f), (goes-slice 𝓤 H A W 2 1 tt (plain (λ _. X)), tt)),
+      ) (eachClauses 𝓤)
+          (WpFn 𝓤 H (𝓣 .C) (𝓣 .Λ) (eachFn (D .ty) x name)) (WpFn-mono 𝓤 H (W .laws) 𝓣 (eachFn (D .ty) x name)) each-walks

@@ -34,7 +34,7 @@ module _ (R₁ R₂ J X : RattleType) (one₁ : One (R₁ .mir)) (one₂ : One (
     ghost = Unit {0};
     requires = λ g. fact 𝓤 (Asks (now (a .0)) (now (a .1 .0)) (a .1 .1 .0) (a .1 .1 .1 .0) (now (a .1 .1 .1 .1 .0)));
     ensures = λ g r e. fact 𝓤 ((r ≡ a .1 .1 .1 .0) × (now (e .1 .1 .1 .1 .0) ≡ leaves (now (a .0)) (now (a .1 .0)) (a .1 .1 .0) (a .1 .1 .1 .0)
-    (now (a .1 .1 .1 .1 .0))));
+        (now (a .1 .1 .1 .1 .0))));
   }
 
   abbrev pub Fills : {M : Type 1} (𝓤 : URA M) (H : Heap 𝓤) (A : Atoms 𝓤) → Contract 𝓤

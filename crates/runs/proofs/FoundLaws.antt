@@ -2,14 +2,14 @@
 -- other, are the records of the operand's runs; and what the writer of run records tells and leaves, by its plan.
 -- By the cases of a form, and by recursion over the runs.
 -- Assumes nothing.
-use Prim.Native.Nat.{ℕ, zero, suc, _+_, _*_, _/_, _%_, _≤_, _<_}
+use Prim.Native.Nat.{ℕ, zero, suc, _+_, _*_, _≤_, _<_}
 use native.Mathlib.Numerals.{add-one, add-two}
 use native.Mathlib.Decide.{decLe, decLt}
 use native.Mathlib.Omega.{arith}
 use mathlib.Core.Path.{_≡_, refl, sym, ap, ap₂, subst, _∙_}
 use mathlib.Core.Bool.{Bool, true, false, cond}
 use mathlib.Core.List.{List, [], _∷_}
-use lib.Dec.{T, ltb, lt→ltb, ltb→lt}
+use lib.Dec.{ltb}
 use borrow.Author.Tests.{ltb-true, ltb-false}
 use lib.ListN.{length, drop, getD, set, length-drop, drop-of-length-le}
 use lib.Seq.{drop-cons}
@@ -20,23 +20,21 @@ use Rattle.rows.specs.Lists.{listed, Ascending}
 use Rattle.rows.specs.Rows.{over, splice}
 use Rattle.rows.specs.Runs.{turns, runsOf, runsIn}
 use Rattle.rows.specs.Table.{first, refusal}
-use Rattle.rows.specs.Words.{view, Below}
-use Rattle.rows.proofs.MarkLaws.{ascending-below}
+use Rattle.rows.specs.Words.{view}
 use Rattle.rows.proofs.RunLaws.{runs-back, runs-even}
 use Rattle.rows.proofs.SpliceLaws.{splice-nil, splice-one, splice-append}
 use Rattle.rows.proofs.TableLaws.{fine-exactly}
 use Rattle.rules.specs.declared.Form.{Form}
 use Rattle.rules.specs.declared.Form.the-variants.{All, None, Words, List as Listed, Runs}
 use Rattle.rules.specs.declared.Run.{Run}
-use Rattle.rules.specs.declared.Written.{Written}
 use Rattle.rules.specs.Operand.{Operand, lent, rowsOf, operandChecks, Accepted}
-use Rattle.rules.specs.Convert.{toRuns, toRunsOut, writtenBy}
-use Rattle.rules.specs.Records.{run, numbersOf, recordsOf}
+use Rattle.rules.specs.Convert.{toRuns, toRunsOut}
+use Rattle.rules.specs.Records.{numbersOf, recordsOf}
 use Rattle.rules.proofs.OperandLaws.{accepted-as}
 use Rattle.rules.proofs.Records.{numbers-of-records, numbers-length}
 use Rattle.operand.proofs.NumberLaws.{accepted-list, accepted-runs}
 use Rattle.mask.proofs.RunOutLaws.{whole-run, none-runs, runs-barred, runs-no-room, runs-refused, runs-written}
-use Rattle.turns.proofs.ListTurnLaws.{listTurns, runs-listed}
+use Rattle.turns.proofs.ListTurnLaws.{runs-listed}
 use Rattle.runs.specs.declared.plan.Plan.{Plan}
 use Rattle.runs.specs.declared.search.Cursor.{Cursor}
 use Rattle.runs.specs.Searched.{foundBy, leftBy, startCursor, over as lentTo, cursorBy, runOf, SearchReady, storedFrom}
@@ -196,7 +194,7 @@ module _ (f : Form) (ws es : List ℕ) (out : List Run) where
           let r = runs-refused o (numbersOf out) x (runs-barred o (numbersOf out) x e) in
           barred x (record {
             plans = ap (λ (v : Verdict). roomed (planBy v o) (length out)) e ∙ ap (λ (b : Bool). cond b (noPlan (refusal 8 0)) (noPlan x))
-            (never-below (length out));
+                (never-below (length out));
             told = r .0;
             leaves = r .1;
           })

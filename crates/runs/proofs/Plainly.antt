@@ -8,7 +8,7 @@ use base.Logic.{emp}
 use types.Kit.{Post, runs, lands, Seq}
 use types.Run.{Opds}
 use sound.WpLaws.{FmC}
-use Rattle.runs.proofs.Kit.{_≡_, refl, sym, subst, ap, _∙_, URA, Name, Body, seq, call, Val, ent, sep, exE, id⊢, snd∗, ftrue, Heap, Env, Calls, Loops, Atoms, sem, fact, Given, Item, ‵, raw, _⊛_, some, later, _$_, _∵_, !, qed, move, drop, use1, use2, split, join, pick, fjoin, frame, await, done, RattleType, owns, Is, shows, plain, nothing, owned, peeks, heard, only, Contract, Triple, calls-at, tripleOf, Ended, Clauses, ensured, lasts, closing, yes}
+use Rattle.runs.proofs.Kit.{_≡_, sym, subst, ap, _∙_, URA, Name, Body, seq, call, Val, ent, sep, exE, id⊢, snd∗, ftrue, Heap, Env, Calls, Loops, Atoms, sem, fact, Given, Item, ‵, raw, _⊛_, some, later, _$_, _∵_, !, qed, move, drop, use1, use2, split, join, pick, fjoin, frame, await, done, RattleType, owns, Is, shows, plain, nothing, owned, peeks, heard, only, Contract, Triple, calls-at, tripleOf, Ended, Clauses, ensured, lasts, closing, yes}
 use Rattle.runs.proofs.Walk.{Value}
 
 -- what a value's machine value is, where the value is known

@@ -10,7 +10,7 @@ use mir.Syntax.{Place, Opd as Operand}
 use types.Kit.{Post, runs, lands, Seq, group}
 use types.Run.{Opds}
 use sound.WpLaws.{FmC}
-use Rattle.runs.proofs.Kit.{_≡_, sym, subst, ℕ, Bool, List, [], _∷_, length, URA, Name, Body, named, seq, call, Val, SProp, ent, sep, exE, id⊢, snd∗, Lft, Share, Fml, ftrue, flft, Heap, Env, Calls, Loops, Atoms, sem, fact, Given, Item, ‵, raw, _⊛_, some, later, _$_, _∵_, !, qed, move, drop, use1, split, join, pick, fjoin, frame, await, done, RattleType, Is, shows, RefT, now, sliceVal, ShrSlice, shr-slice-copy, plain, One, SliceRefOf, nothing, owned, peeks, heard, Contract, Triple, calls-at, tripleOf, Ended, Clauses, ensured, lasts, closing, says, yes}
+use Rattle.runs.proofs.Kit.{_≡_, sym, subst, Bool, List, [], _∷_, length, URA, Name, Body, named, seq, call, Val, SProp, ent, sep, exE, id⊢, snd∗, Lft, Share, Fml, ftrue, flft, Heap, Env, Calls, Loops, Atoms, sem, fact, Given, Item, ‵, raw, _⊛_, some, later, _$_, _∵_, !, qed, move, drop, use1, split, join, pick, fjoin, frame, await, done, RattleType, Is, shows, RefT, now, sliceVal, ShrSlice, shr-slice-copy, plain, One, SliceRefOf, nothing, owned, peeks, heard, Contract, Triple, calls-at, tripleOf, Ended, Clauses, ensured, lasts, closing, says, yes}
 use Rattle.runs.proofs.Walk.{Value}
 use Rattle.runs.proofs.Plainly.{spelt, is-spelt}
 

@@ -1,7 +1,7 @@
 -- An operand's runs, found one after the other: a row sought chunk by chunk, the entries that follow each other, and for every form that the
 -- run found and what is left from there on are what was left before. By recursion over rows, entries and numbers.
 -- Assumes nothing.
-use Prim.Native.Nat.{ℕ, zero, suc, _+_, _-_, _*_, _^_, _≤_, _<_}
+use Prim.Native.Nat.{ℕ, zero, suc, _+_, _-_, _^_, _≤_, _<_}
 use native.Mathlib.Nat.{zero-add, add-zero, suc-add, add-suc, add-assoc, lt-of-lt-of-le}
 use native.Mathlib.Omega.{arith}
 use native.Mathlib.Decide.{ℕ-discrete}
@@ -12,19 +12,19 @@ use mathlib.Core.List.{List, [], _∷_, _++_, map}
 use lib.Bits.{bitAnd}
 use lib.Count.{ones, onesIn, trailingZeros}
 use lib.Dec.{eqb}
-use lib.ListN.{length, take, drop, getD, replicate, length-map, length-drop, drop-of-length-le}
+use lib.ListN.{length, take, drop, getD, length-map, length-drop, drop-of-length-le}
 use lib.Pow.{pow-mono}
 use lib.Seq.{drop-cons, drop-drop, length-take-le}
 use Rattle.rows.specs.Rows.{count}
 use Rattle.rows.specs.Word.{bitsOf, wordOf}
-use Rattle.rows.specs.Lists.{listed, select, setRows, Ascending}
-use Rattle.rows.specs.Runs.{turns, runsOf}
+use Rattle.rows.specs.Lists.{select, setRows}
+use Rattle.rows.specs.Runs.{turns}
 use Rattle.rows.proofs.ClearLaws.{rows-low}
 use Rattle.rows.proofs.ListLaws.{eqb-same, eqb-other, rows-count}
 use Rattle.rows.proofs.PartLaws.{rows-word}
-use Rattle.rows.proofs.SelectLaws.{select-unset, select-none, select-in, select-skip, selects}
-use Rattle.rows.proofs.WordLaws.{wordOf-lt, wordOf-bitsOf, not-bits, ones-word, bitsOf-length}
-use Rattle.turns.specs.Gaps.{between, unless}
+use Rattle.rows.proofs.SelectLaws.{select-unset, select-in, select-skip, selects}
+use Rattle.rows.proofs.WordLaws.{wordOf-lt, wordOf-bitsOf, not-bits, ones-word}
+use Rattle.turns.specs.Gaps.{unless}
 use Rattle.turns.proofs.ListTurnLaws.{gaps, listTurns}
 use Rattle.runs.specs.Searched.{hits, seekRow, runOn}
 
@@ -60,43 +60,43 @@ split-here row n s = sym (take-drop n (drop row s)) ∙ ap (λ (l : List Bool). 
 
 -- a chunk in which nothing is found is passed, and in one in which something is the lowest bit is it
 module _ (x : Bool) (row n : ℕ) (s : List Bool) (here : ℕ) (short : n ≤ 64) (within : row + n ≤ length s) (is : here ≡ wordOf (hits x (take n (drop row s))))
-    where
-  abbrev piece : List Bool
-  piece = hits x (take n (drop row s))
+  where
+    abbrev piece : List Bool
+    piece = hits x (take n (drop row s))
 
-  piece-length : length piece ≡ n
-  piece-length = hits-length x (take n (drop row s)) ∙ length-take-le n (drop row s) (omega (arith, length-drop row s))
+    piece-length : length piece ≡ n
+    piece-length = hits-length x (take n (drop row s)) ∙ length-take-le n (drop row s) (omega (arith, length-drop row s))
 
-  parts : hits x (drop row s) ≡ piece ++ hits x (drop (row + n) s)
-  parts = ap (hits x) (split-here row n s) ∙ hits-append x (take n (drop row s)) (drop (row + n) s)
+    parts : hits x (drop row s) ≡ piece ++ hits x (drop (row + n) s)
+    parts = ap (hits x) (split-here row n s) ∙ hits-append x (take n (drop row s)) (drop (row + n) s)
 
-  pub seek-none : here ≡ 0 → seekRow x row s ≡ seekRow x (row + n) s
-  seek-none e =
-      let rest = hits x (drop (row + n) s) in
-      let none : count piece ≡ 0 = sym (ones-word piece) ∙ ap ones (sym is ∙ e) ∙ no-ones in
-      let left : 0 - count piece ≡ 0 = omega (arith, none) in
-      ap (λ (l : List Bool). row + select l 0) parts
-      ∙ ap (λ (k : ℕ). row + k) (select-skip piece rest 0 (omega (arith, none)) ∙ ap₂ (λ (j k : ℕ). j + select rest k) piece-length left)
-      ∙ sym (add-assoc row n (select rest 0))
+    pub seek-none : here ≡ 0 → seekRow x row s ≡ seekRow x (row + n) s
+    seek-none e =
+        let rest = hits x (drop (row + n) s) in
+        let none : count piece ≡ 0 = sym (ones-word piece) ∙ ap ones (sym is ∙ e) ∙ no-ones in
+        let left : 0 - count piece ≡ 0 = omega (arith, none) in
+        ap (λ (l : List Bool). row + select l 0) parts
+        ∙ ap (λ (k : ℕ). row + k) (select-skip piece rest 0 (omega (arith, none)) ∙ ap₂ (λ (j k : ℕ). j + select rest k) piece-length left)
+        ∙ sym (add-assoc row n (select rest 0))
 
-  low : 0 < here → setRows 0 piece ≡ trailingZeros 64 here ∷ setRows 0 (bitsOf 64 (bitAnd here (here - 1)))
-  low h =
-      let small : here < 2 ^ 64 = subst (λ (k : ℕ). k < 2 ^ 64) (sym is)
-      (lt-of-lt-of-le (wordOf-lt piece) (pow-mono {i = length piece} {j = 64} (omega (arith, piece-length)))) in
-      sym (rows-word 0 64 piece (omega (arith, piece-length))) ∙ ap (λ (k : ℕ). setRows 0 (bitsOf 64 k)) (sym is) ∙ rows-low 0 64 here h small
-      ∙ ap (λ (k : ℕ). k ∷ setRows 0 (bitsOf 64 (bitAnd here (here - 1)))) (zero-add (trailingZeros 64 here))
+    low : 0 < here → setRows 0 piece ≡ trailingZeros 64 here ∷ setRows 0 (bitsOf 64 (bitAnd here (here - 1)))
+    low h =
+        let small : here < 2 ^ 64 = subst (λ (k : ℕ). k < 2 ^ 64) (sym is)
+        (lt-of-lt-of-le (wordOf-lt piece) (pow-mono {i = length piece} {j = 64} (omega (arith, piece-length)))) in
+        sym (rows-word 0 64 piece (omega (arith, piece-length))) ∙ ap (λ (k : ℕ). setRows 0 (bitsOf 64 k)) (sym is) ∙ rows-low 0 64 here h small
+        ∙ ap (λ (k : ℕ). k ∷ setRows 0 (bitsOf 64 (bitAnd here (here - 1)))) (zero-add (trailingZeros 64 here))
 
-  some : 0 < here → 0 < count piece
-  some h = omega (arith, ap length (low h), rows-count 0 piece)
+    some : 0 < here → 0 < count piece
+    some h = omega (arith, ap length (low h), rows-count 0 piece)
 
-  first : 0 < here → select piece 0 ≡ trailingZeros 64 here
-  first h = ap (λ (l : List ℕ). getD l 0 (length piece)) (low h)
+    first : 0 < here → select piece 0 ≡ trailingZeros 64 here
+    first h = ap (λ (l : List ℕ). getD l 0 (length piece)) (low h)
 
-  pub seek-hit : 0 < here → seekRow x row s ≡ row + trailingZeros 64 here
-  seek-hit h = ap (λ (k : ℕ). row + k) (ap (λ (l : List Bool). select l 0) parts ∙ select-in piece (hits x (drop (row + n) s)) 0 (some h) ∙ first h)
+    pub seek-hit : 0 < here → seekRow x row s ≡ row + trailingZeros 64 here
+    seek-hit h = ap (λ (k : ℕ). row + k) (ap (λ (l : List Bool). select l 0) parts ∙ select-in piece (hits x (drop (row + n) s)) 0 (some h) ∙ first h)
 
-  pub hit-within : 0 < here → trailingZeros 64 here < n
-  hit-within h = omega (arith, first h, selects piece 0 (some h) .within, piece-length)
+    pub hit-within : 0 < here → trailingZeros 64 here < n
+    hit-within h = omega (arith, first h, selects piece 0 (some h) .within, piece-length)
 
 pub seek-end : (x : Bool) (row : ℕ) (s : List Bool) → row ≡ length s → seekRow x row s ≡ row
 seek-end x row s e =

@@ -11,7 +11,7 @@ use base.Fml.{fobs, fauth}
 use prog.Wp.{afterTurn}
 use denote.Slice.{codedHoleys, heres}
 use denote.Struct.Laws as LL
-use Rattle.runs.proofs.Kit.{_≡_, refl, sym, _∙_, subst, Bool, ℕ, zero, suc, _+_, _<_, _≤_, _^_, add-zero, add-suc, zero-add, suc-add, lt-irrefl, lt-suc-self, add-one, arith, List, [], _∷_, length, set, length-set, Nat·lt-wfRel, ltb, lt→ltb, ltb→lt, lit<, URA, fullShare, Ty, Name, Body, named, imm, mut, w32, w64, tyInt, tyBool, tyPtr, tyRef, seq, loop, call, Val, vint, vptr, vbool, SProp, ent, sep, ex, guard, via, snd∗, exI, exE, guardI, guardE, id⊢, Lft, GName, Share, Fml, ftrue, fat, froom, fdies, flft, Heap, Out, Env, afterSeq, afterBlock, Calls, Loops, Wp, atReturn, WpFn, Tables, Atoms, sem, fact, Given, Item, ‵, raw, _⊛_, ⋆, some, later, anyQ, atRet, _$_, _∵_, !, qed, by, move, keep, drop, use1, use2, split, join, pick, rewrite, fsplit, fjoin, suffices, frame, await, done, whole, sub, look-in, look, store, store-raw, init, forget, stop, hop, fld, from, load, lit, of-opd, bin, and-then, no-more, assigns, assigns-last, land, stays, leaves-loop, returns, enter, alloc1, alloc0, params1, pass1, pass0, free1, free0, exec, loop-rule, fmOf, WpFn-mono, RattleType, owns, Is, shows, pointee, uint-vals, uint-tells, uint-makes, RefT, now, sliceTy, sliceVal, ShrSlice, MutSlice, Room, slice-vals, shr-slice-tells, mut-slice-tells, shr-slice-copy, row, place-is, elem-out, elem-put, plain, u32, usize, u64, nothing, owned, peeks, heard, Contract, Triple, calls-at, Args, Vals, onEntry, Meets, Ended, Clauses, closing, ensured, lasts, says, needs, Stays, stay-none-slice, stay-none, stay-slice, walkOf, Walks, ends-at, walked, goes-none-slice, goes-none, goes-slice, walk-meets, yes, scaled-fits}
+use Rattle.runs.proofs.Kit.{_≡_, refl, sym, _∙_, subst, Bool, ℕ, zero, suc, _+_, _<_, _≤_, _^_, add-zero, add-suc, zero-add, suc-add, lt-irrefl, lt-suc-self, add-one, arith, List, [], _∷_, length, set, length-set, Nat·lt-wfRel, ltb, lt→ltb, ltb→lt, lit<, URA, fullShare, Ty, Name, Body, named, imm, mut, w32, w64, tyInt, tyBool, tyPtr, tyRef, seq, loop, call, Val, vint, vptr, vbool, SProp, ent, ex, guard, via, exI, exE, guardI, guardE, Lft, GName, Share, Fml, ftrue, fat, froom, fdies, flft, Heap, Out, Env, afterSeq, afterBlock, Calls, Loops, Wp, atReturn, WpFn, Tables, Atoms, Given, Item, ‵, _⊛_, ⋆, anyQ, atRet, _$_, _∵_, !, qed, by, move, keep, drop, split, join, rewrite, fsplit, fjoin, suffices, frame, done, whole, sub, look-in, look, store, store-raw, init, forget, stop, hop, fld, from, load, lit, of-opd, bin, and-then, no-more, assigns, assigns-last, land, stays, leaves-loop, returns, enter, alloc1, alloc0, params1, pass1, pass0, free1, free0, exec, loop-rule, fmOf, WpFn-mono, RattleType, owns, Is, shows, pointee, uint-vals, uint-tells, RefT, now, sliceTy, sliceVal, ShrSlice, MutSlice, Room, slice-vals, shr-slice-tells, mut-slice-tells, row, place-is, elem-out, elem-put, plain, u32, usize, u64, nothing, owned, Contract, Triple, Args, Vals, onEntry, Meets, Ended, Clauses, closing, says, needs, Stays, stay-none-slice, stay-none, stay-slice, walkOf, Walks, ends-at, walked, goes-none-slice, goes-none, goes-slice, walk-meets, yes, scaled-fits}
 use Rattle.rules.specs.declared.Run.{Run}
 use Rattle.runs.specs.Numbered.{noRun}
 use Rattle.runs.proofs.Values.{number, run as record-value}
@@ -319,8 +319,13 @@ module _ (J : RattleType) (D : Value J) (P : Searching (J .Denot)) where
     walks : Walks 𝓤 H A ended stayed (WpFn 𝓤 H (𝓣 .C) (𝓣 .Λ) (fillFn (D .ty) #next #run)) (clauses 𝓤)
     walks = walked 𝓤 H A ended stayed (clauses 𝓤) (WpFn 𝓤 H (𝓣 .C) (𝓣 .Λ) (fillFn (D .ty) #next #run))
         (λ κs. (slice-vals, (slice-vals, ((λ x. D .spell x ∷ []), (uint-vals w64, (slice-vals, tt))))))
-        (λ κs. (shr-slice-tells (named 0) (κs .0) u64, (shr-slice-tells (named 1) (κs .1 .0) u32,
-        (D .tells, (uint-tells w64, (mut-slice-tells (named 2) (κs .1 .1 .0) T.the-row, tt))))))
+        (λ κs. (
+          shr-slice-tells (named 0) (κs .0) u64,
+          (
+            shr-slice-tells (named 1) (κs .1 .0) u32,
+            (D .tells, (uint-tells w64, (mut-slice-tells (named 2) (κs .1 .1 .0) T.the-row, tt))),
+          ),
+        ))
         (λ κs qs bounds a g are. needs 𝓤 (P .Ready (now (a .0)) (now (a .1 .0)) (a .1 .1 .0) (a .1 .1 .1 .0) ×
         (a .1 .1 .1 .0 ≤ length (now (a .1 .1 .1 .1 .0)))) _
         (walk 𝓤 H A W #next #run (κs .0) (κs .1 .0) (κs .1 .1 .0) (qs .0) (qs .1 .0) (qs .1 .1 .0) (a .0) (a .1 .0) (a .1 .1 .0) (a .1 .1 .1 .0)

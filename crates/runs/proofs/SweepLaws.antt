@@ -1,31 +1,30 @@
 -- Runs as records laid over words: one run more in each pass, all runs of each, and what the two passes come to: what a conversion to words
 -- tells and writes of the runs' numbers. By recursion over the runs, and by the law of tables.
 -- Assumes nothing.
-use Prim.Native.Nat.{ℕ, zero, suc, _+_, _-_, _*_, _/_, _^_, _≤_, _<_}
+use Prim.Native.Nat.{ℕ, zero, suc, _+_, _-_, _/_, _^_, _≤_, _<_}
 use native.Mathlib.Decide.{decLe}
 use native.Mathlib.Omega.{arith}
 use mathlib.Core.Path.{_≡_, refl, sym, ap, ap₂, subst, _∙_}
 use mathlib.Core.Logic.{inl, inr}
 use mathlib.Core.Bool.{Bool, true, false, _&&_, false≢true}
-use mathlib.Core.List.{List, [], _∷_, _++_, append-assoc}
-use lib.Dec.{T, leb, ltb}
+use mathlib.Core.List.{List, [], _∷_, _++_}
+use lib.Dec.{leb, ltb}
 use lib.ListN.{length, replicate, length-append, length-replicate, length-set}
 use Rattle.rows.specs.declared.Refusal.{Refusal}
 use Rattle.rows.specs.declared.Verdict.{Verdict}
-use Rattle.rows.specs.declared.Verdict.the-variants.{Fine, Refused}
-use Rattle.rows.specs.Asks.{Room}
+use Rattle.rows.specs.declared.Verdict.the-variants.{Refused}
 use Rattle.rows.specs.Words.{Below}
 use Rattle.rows.specs.Laid.{laid, lastCleared, written, wordsFor}
-use Rattle.rows.specs.Runs.{Apart, inRuns, runLengths}
+use Rattle.rows.specs.Runs.{Apart, runLengths}
 use Rattle.rows.specs.Table.{first, refusal, ifFine}
 use Rattle.rows.proofs.LaidLaws.{laid-length, laid-append}
 use Rattle.rows.proofs.WrittenLaws.{laid-written}
-use Rattle.rows.proofs.RunLaws.{runRows, in-runs, runs-few}
+use Rattle.rows.proofs.RunLaws.{runRows, in-runs}
 use Rattle.rows.proofs.TableLaws.{alone-fine, alone-refused, first-is, then-refuses, is-true, is-false}
 use Rattle.rules.specs.declared.Run.{Run}
 use Rattle.rules.specs.declared.Form.the-variants.{Runs}
 use Rattle.rules.specs.Operand.{Operand, lent, limit, rowsOf, runsFit, operandChecks, Accepted}
-use Rattle.rules.specs.Answer.{accepted, refused, answered, noRoute}
+use Rattle.rules.specs.Answer.{accepted, noRoute}
 use Rattle.rules.specs.Convert.{convertChecks, toWordsVerdict, toWords, toWordsOut}
 use Rattle.rules.specs.Records.{numbersOf}
 use Rattle.rules.proofs.OperandLaws.{apart, accepted-as, accepted-length, accepted-few}
@@ -157,8 +156,15 @@ laid-on (r ∷ rs) len from sum out a =
     let ns = numbersOf rs in
     let turn = replicate (f - from) false ++ replicate (p - f) true in
     let long : p ≡ from + length turn =
-    omega (arith, a .0, a .1, length-append (replicate (f - from) false) (replicate (p - f) true), length-replicate (f - from) false, length-replicate (p - f)
-    true) in
+    omega (
+      arith,
+      a .0,
+      a .1,
+      length-append (replicate (f - from) false) (replicate (p - f) true),
+      length-replicate (f - from) false,
+      length-replicate (p - f)
+          true,
+    ) in
     laid-on rs len p sum (laid from turn out) (apart-weaker p (suc p) len ns (omega arith) (a .3))
     ∙ laid-append 64 from p turn (runRows p len ns) out long
 

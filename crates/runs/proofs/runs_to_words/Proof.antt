@@ -12,7 +12,7 @@ use Rattle.rules.specs.Convert.{toWords, toWordsOut}
 use Rattle.rules.specs.Records.{numbersOf}
 use Rattle.runs.specs.declared.words.Sweep.{Sweep}
 use Rattle.runs.specs.Swept.{startSweep, weighRuns, Small, begun, begunOut, layRuns, layRunsOut, LayReady, finished, finishedOut, FinishAsks}
-use Rattle.runs.proofs.Kit.{_≡_, refl, ℕ, _^_, _<_, List, [], _∷_, length, URA, named, Val, SProp, ent, via, Lft, GName, Share, Fml, ftrue, flft, Memory, Routine, Heap, WpFn, Tables, Atoms, Fun, givenOf, tables, Given, ‵, _⊛_, ⋆, _$_, _∵_, !, qed, by, move, keep, drop, split, join, fsplit, fjoin, suffices, frame, done, whole, sub, look-in, agg, look, init, forget, stop, hop, fld, from, load, of-opd, addr, and-then, no-more, assigns, land, returns, enter, alloc1, alloc0, params1, pass1, pass0, free1, free0, fmOf, WpFn-mono, owns, Is, RefT, now, w64, vint, sliceVal, ShrSlice, MutSlice, Room, slice-vals, shr-slice-tells, mut-slice-tells, plain, u64, nothing, owned, Contract, Triple, Vals, onEntry, Meets, tripleOf, entered, cited, says, Stays, stay-none-slice, stay-none, stay-slice, walkOf, Walks, ends-at, walked, goes-none-slice, goes-none, goes-slice, walk-meets, yes}
+use Rattle.runs.proofs.Kit.{_≡_, refl, ℕ, _^_, _<_, List, [], _∷_, length, URA, named, Val, SProp, ent, via, Lft, GName, Share, Fml, ftrue, flft, Memory, Routine, Heap, WpFn, Tables, Atoms, Fun, givenOf, tables, Given, ‵, _⊛_, ⋆, _$_, _∵_, !, qed, by, move, keep, drop, split, join, fsplit, fjoin, suffices, frame, done, whole, sub, look-in, agg, look, init, forget, stop, hop, fld, from, load, addr, and-then, no-more, assigns, land, returns, enter, alloc1, alloc0, params1, pass1, pass0, free1, free0, fmOf, WpFn-mono, owns, Is, RefT, now, w64, vint, sliceVal, ShrSlice, MutSlice, Room, slice-vals, shr-slice-tells, mut-slice-tells, plain, u64, nothing, owned, Contract, Triple, Vals, onEntry, Meets, tripleOf, entered, cited, says, Stays, stay-none-slice, stay-none, stay-slice, walkOf, Walks, ends-at, walked, goes-none-slice, goes-none, goes-slice, walk-meets, yes}
 use Rattle.runs.proofs.SweepLaws.{start-small, weighed-small, lay-ready, finish-asks, words-told, words-left}
 use Rattle.runs.proofs.Values.{length as rows, sweep, answer}
 use Rattle.runs.proofs.Plainly.{One, calls-one}
@@ -228,9 +228,13 @@ module _ {M : Type 1} (𝓤 : URA M) (H : Heap 𝓤) (A : Atoms 𝓤) (W : Given
       𝓣 known-start known-weigh known-begin known-lay known-finish (are .0 .1) (are .1 .0 .0 .1) (are .1 .1 .0 .0 .1)))
 
   meets : Meets 𝓤 H A f.signature (WpFn 𝓤 H (𝓣 .C) (𝓣 .Λ) code.function) (f.spec 𝓤 H A mem run)
-  meets = walk-meets 𝓤 H A f.ended stayed W
-      (goes-none 𝓤 H A W 2 (λ _. u64) yes (λ κs x f. refl), (goes-none-slice 𝓤 H A W 2 (0 ∷ []) tt (plain (λ _. T.the-row)) yes,
-      (goes-slice 𝓤 H A W 2 1 tt (plain (λ _. u64)), tt)))
+  meets = walk-meets 𝓤 H A f.ended stayed W (
+    goes-none 𝓤 H A W 2 (λ _. u64) yes (λ κs x f. refl),
+    (
+      goes-none-slice 𝓤 H A W 2 (0 ∷ []) tt (plain (λ _. T.the-row)) yes,
+      (goes-slice 𝓤 H A W 2 1 tt (plain (λ _. u64)), tt),
+    ),
+  )
       (f.clauses 𝓤 H A mem run) (WpFn 𝓤 H (𝓣 .C) (𝓣 .Λ) code.function) (WpFn-mono 𝓤 H (W .laws) 𝓣 code.function) walks
 
 pub runs-to-words-spec : {M : Type 1} → stated.statement M

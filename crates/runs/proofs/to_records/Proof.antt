@@ -145,8 +145,10 @@ module _ {M : Type 1} (𝓤 : URA M) (H : Heap 𝓤) (A : Atoms 𝓤) (W : Given
       𝓣 known-judge known-pairs known-write (are .0 .0 .1) (are .1 .0 .0 .1)))
 
   meets : Meets 𝓤 H A f.signature (WpFn 𝓤 H (𝓣 .C) (𝓣 .Λ) code.function) (f.spec 𝓤 H A mem run)
-  meets = walk-meets 𝓤 H A f.ended stayed W (goes-none-slice 𝓤 H A W 2 (0 ∷ []) tt (plain (λ _. u32)) yes,
-      (goes-slice 𝓤 H A W 2 1 tt (plain (λ _. T.the-row)), tt))
+  meets = walk-meets 𝓤 H A f.ended stayed W (
+    goes-none-slice 𝓤 H A W 2 (0 ∷ []) tt (plain (λ _. u32)) yes,
+    (goes-slice 𝓤 H A W 2 1 tt (plain (λ _. T.the-row)), tt),
+  )
       (f.clauses 𝓤 H A mem run) (WpFn 𝓤 H (𝓣 .C) (𝓣 .Λ) code.function) (WpFn-mono 𝓤 H (W .laws) 𝓣 code.function) walks
 
 pub to-records-spec : {M : Type 1} → stated.statement M

@@ -2,14 +2,11 @@
 -- By what the verdict says of the operand. Assumes nothing.
 use Prim.Native.Nat.{ℕ, _/_}
 use mathlib.Core.Path.{_≡_, sym, ap, ap₂, _∙_}
-use mathlib.Core.List.{List}
 use native.Mathlib.Omega.{arith}
-use lib.ListN.{length}
 use denote.Ref.{now}
 use borrow.Author.Needs.{needs}
 use Rattle.rows.specs.declared.Verdict.{Verdict}
 use Rattle.rows.specs.declared.Verdict.the-variants.{Fine, Refused}
-use Rattle.rows.specs.Runs.{runsOf}
 use Rattle.rows.specs.Table.{first, ifFine}
 use Rattle.rows.proofs.TableLaws.{fine-exactly}
 use Rattle.rules.specs.declared.Answer.{Answer}

@@ -7,7 +7,7 @@ use prog.Wp.{afterTurn}
 use contract.Running.{tablesOf}
 use denote.Slice.{codedHoleys, heres}
 use denote.Struct.Laws as LL
-use Rattle.runs.proofs.Kit.{_≡_, refl, sym, _∙_, subst, Bool, ℕ, zero, suc, _+_, _<_, _≤_, _^_, add-zero, add-suc, zero-add, suc-add, lt-irrefl, lt-suc-self, add-one, arith, List, [], _∷_, length, set, length-set, Nat·lt-wfRel, ltb, lt→ltb, ltb→lt, lit<, URA, fullShare, Ty, named, imm, mut, w32, w64, tyInt, tyBool, tyPtr, tyRef, loop, Val, vint, vptr, vbool, vunit, SProp, ent, sep, ex, guard, via, snd∗, exI, exE, guardI, guardE, id⊢, Lft, GName, Share, Fml, ftrue, fat, froom, fdies, flft, Memory, Routine, Heap, Out, Env, afterSeq, afterBlock, Calls, Loops, Wp, atReturn, WpFn, Tables, Atoms, sem, Fun, fact, givenOf, tables, Given, Item, ‵, raw, _⊛_, ⋆, some, later, anyQ, atRet, _$_, _∵_, !, qed, by, move, keep, drop, use1, use2, split, join, pick, rewrite, fsplit, fjoin, suffices, frame, await, done, whole, sub, look-in, look, store, store-raw, init, forget, stop, hop, fld, from, load, lit, unit-lit, of-opd, bin, and-then, no-more, assigns, assigns-last, land, stays, leaves-loop, returns, enter, alloc1, alloc0, params1, pass1, pass0, free1, free0, exec, loop-rule, fmOf, WpFn-mono, owns, Is, shows, pointee, uint-vals, uint-tells, uint-makes, nothing-makes, RefT, now, sliceTy, sliceVal, ShrSlice, MutSlice, Room, slice-vals, shr-slice-tells, mut-slice-tells, shr-slice-copy, row, place-is, elem-out, elem-put, plain, u32, usize, unit, nothing, owned, peeks, heard, Contract, Triple, calls-at, Args, Vals, onEntry, Meets, tripleOf, entered, cited, ensured, lasts, says, needs, Stays, stay-none-slice, stay-none, stay-slice, walkOf, Walks, ends-at, walked, goes-none-slice, goes-none, goes-slice, walk-meets, yes, scaled-fits}
+use Rattle.runs.proofs.Kit.{_≡_, refl, sym, _∙_, subst, Bool, ℕ, zero, suc, _+_, _<_, _≤_, _^_, add-zero, add-suc, zero-add, suc-add, lt-irrefl, lt-suc-self, add-one, arith, List, [], _∷_, length, set, Nat·lt-wfRel, ltb, lt→ltb, ltb→lt, lit<, URA, fullShare, Ty, named, imm, mut, w32, w64, tyInt, tyBool, tyPtr, tyRef, loop, Val, vint, vptr, vbool, SProp, ent, sep, ex, guard, via, snd∗, exI, exE, guardI, guardE, id⊢, Lft, GName, Share, Fml, ftrue, fat, froom, fdies, flft, Memory, Routine, Heap, Out, Env, afterSeq, afterBlock, Calls, Loops, Wp, atReturn, WpFn, Tables, Atoms, sem, Fun, fact, givenOf, tables, Given, Item, ‵, raw, _⊛_, ⋆, some, later, anyQ, atRet, _$_, _∵_, !, qed, by, move, keep, drop, use1, use2, split, join, pick, rewrite, fsplit, fjoin, suffices, frame, await, done, whole, sub, look-in, look, store, store-raw, init, forget, stop, hop, fld, from, load, lit, of-opd, bin, and-then, no-more, assigns, assigns-last, land, stays, leaves-loop, returns, enter, alloc1, alloc0, params1, pass1, pass0, free1, free0, exec, loop-rule, fmOf, WpFn-mono, owns, Is, shows, pointee, uint-vals, uint-tells, uint-makes, RefT, now, sliceTy, sliceVal, ShrSlice, MutSlice, Room, slice-vals, shr-slice-tells, mut-slice-tells, shr-slice-copy, row, place-is, elem-out, elem-put, plain, u32, usize, nothing, owned, peeks, heard, Contract, Triple, calls-at, Args, Vals, onEntry, Meets, tripleOf, entered, cited, ensured, lasts, says, needs, Stays, stay-none-slice, stay-none, stay-slice, walkOf, Walks, ends-at, walked, goes-none-slice, goes-none, goes-slice, walk-meets, yes, scaled-fits}
 use Rattle.rules.specs.declared.Run.{Run}
 use Rattle.runs.specs.Numbered.{noRun}
 use Rattle.runs.specs.Packed.{runAt, packed}
@@ -227,8 +227,10 @@ module _ {M : Type 1} (𝓤 : URA M) (H : Heap 𝓤) (A : Atoms 𝓤) (W : Given
       (a .1 .1 .0 .name) (a .0 .now) (a .1 .0) (a .1 .1 .0 .now) 𝓣 known (are .0 .0 .1) (are .1 .0 .1) (are .1 .1 .0 .0 .1)))
 
   meets : Meets 𝓤 H A f.signature (WpFn 𝓤 H (𝓣 .C) (𝓣 .Λ) code.function) (f.spec 𝓤 H A mem run)
-  meets = walk-meets 𝓤 H A f.ended stayed W (goes-none-slice 𝓤 H A W 2 (0 ∷ []) tt (plain (λ _. u32)) yes,
-      (goes-none 𝓤 H A W 2 (λ _. usize) yes (λ κs x f. refl), (goes-slice 𝓤 H A W 2 1 tt (plain (λ _. T.the-row)), tt))) (f.clauses 𝓤 H A mem run)
+  meets = walk-meets 𝓤 H A f.ended stayed W (
+    goes-none-slice 𝓤 H A W 2 (0 ∷ []) tt (plain (λ _. u32)) yes,
+    (goes-none 𝓤 H A W 2 (λ _. usize) yes (λ κs x f. refl), (goes-slice 𝓤 H A W 2 1 tt (plain (λ _. T.the-row)), tt)),
+  ) (f.clauses 𝓤 H A mem run)
       (WpFn 𝓤 H (𝓣 .C) (𝓣 .Λ) code.function) (WpFn-mono 𝓤 H (W .laws) 𝓣 code.function) walks
 
 pub write-records-spec : {M : Type 1} → stated.statement M

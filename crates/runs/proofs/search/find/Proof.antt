@@ -11,12 +11,10 @@ use Rattle.rows.specs.Words.{view, Below}
 use Rattle.rows.proofs.MarkLaws.{ascending-below}
 use Rattle.rows.proofs.WordsLaws.{view-length}
 use Rattle.rules.specs.declared.Form.{Form}
-use Rattle.rules.specs.declared.Form.the-variants.{All, Words, List as Listed, Runs}
 use Rattle.rules.specs.Operand.{Operand, lent, Accepted}
 use Rattle.rules.proofs.OperandLaws.{accepted-limit}
 use Rattle.operand.proofs.NumberLaws.{accepted-list}
 use Rattle.operand.proofs.FlatLaws.{accepted-flat}
-use Rattle.runs.specs.declared.search.Found.{Found}
 use Rattle.runs.specs.Searched.{foundBy, leftBy}
 use Rattle.runs.proofs.FoundLaws.{all-at, words-at, list-at, runs-at}
 use Rattle.runs.proofs.search.find.Statement.{statement}

@@ -1,8 +1,8 @@
 -- `runs::search::matching` meets its contract: a chunk, or its complement among n bits.
 -- By the laws of a word and of its complement. Assumes nothing.
 use Prim.Native.Nat.{ℕ, _-_}
-use mathlib.Core.Path.{_≡_, sym, ap, _∙_}
-use mathlib.Core.Bool.{Bool, true, false}
+use mathlib.Core.Path.{sym, ap, _∙_}
+use mathlib.Core.Bool.{Bool}
 use native.Mathlib.Omega.{arith}
 use borrow.Author.Needs.{needs}
 use Rattle.rows.specs.Word.{bitsOf, wordOf}

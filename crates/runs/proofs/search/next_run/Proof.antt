@@ -1,7 +1,6 @@
 -- `runs::search::next_run` meets its contract: the run found, and where to go on, beside the form. Assumes nothing.
-use mathlib.Core.Path.{_≡_, ap}
+use mathlib.Core.Path.{ap}
 use borrow.Author.Needs.{needs}
-use Rattle.runs.specs.declared.search.Found.{Found}
 use Rattle.runs.specs.Searched.{moved}
 use Rattle.runs.proofs.search.next_run.Statement.{statement}
 use Rattle.runs.proofs.search.next_run.Tie as tie

@@ -5,7 +5,7 @@ use mathlib.Core.Path.{_≡_, refl, sym, ap, subst, _∙_}
 use mathlib.Core.Bool.{Bool}
 use mathlib.Core.List.{List}
 use native.Mathlib.Omega.{arith}
-use lib.ListN.{length, take, drop, length-take, length-drop}
+use lib.ListN.{length, take, drop, length-drop}
 use lib.Seq.{length-take-le}
 use denote.Ref.{now}
 use borrow.Author.Needs.{needs}
@@ -115,8 +115,14 @@ add-result c =
     let t = sized m in
     let h = head t in
     record {
-      fits = omega (arith, hit-within (set m) (row t) (n t) (rows h) (m .matching .result) (few t) (room t) (hit m) (omega (arith, c .if1 .taken)), room t, long
-      h, start h .pre .0 .0);
+      fits = omega (
+        arith,
+        hit-within (set m) (row t) (n t) (rows h) (m .matching .result) (few t) (room t) (hit m) (omega (arith, c .if1 .taken)),
+        room t,
+        long
+            h,
+        start h .pre .0 .0,
+      );
     }
 
 returns : tie.Need-returns Inv-loop μ-loop

@@ -1,14 +1,12 @@
 -- `runs::words::begin_laying` meets its contract: 8 where the rows have no room, and else the last word cleared; by the case that the match
 -- tells. Assumes nothing.
-use Prim.Native.Nat.{ℕ, _^_, _≤_, _<_}
-use mathlib.Core.Path.{_≡_, sym, ap, ap₂, _∙_}
+use Prim.Native.Nat.{ℕ, _^_}
+use mathlib.Core.Path.{sym, ap, _∙_}
 use mathlib.Core.List.{List}
 use native.Mathlib.Omega.{arith}
-use lib.ListN.{length}
 use denote.Ref.{now}
 use borrow.Author.Needs.{needs}
 use Rattle.rows.specs.Words.{Below}
-use Rattle.rows.specs.Laid.{wordsFor}
 use Rattle.rows.proofs.LaidLaws.{below-all}
 use Rattle.runs.specs.declared.words.Sweep.{Sweep}
 use Rattle.runs.specs.declared.words.Sweep.the-variants.{Barred}

@@ -1,9 +1,9 @@
 -- `runs::words::lay_one` meets its contract: zeros to the run, and the run; by the case that the match tells. Assumes nothing.
 use Prim.Native.Nat.{ℕ, _-_}
 use native.Mathlib.Nat.{zero-add}
-use mathlib.Core.Path.{_≡_, sym, ap, subst, _∙_}
+use mathlib.Core.Path.{sym, ap, subst, _∙_}
 use mathlib.Core.Bool.{true, false}
-use mathlib.Core.List.{List, _++_}
+use mathlib.Core.List.{_++_}
 use native.Mathlib.Omega.{arith}
 use lib.ListN.{replicate}
 use denote.Ref.{now}
@@ -58,7 +58,7 @@ returns c =
     let turn = replicate (a .first - from k) false ++ replicate (a .past - a .first) true in (
       ap (λ (s : Sweep). layRun s (a .first) (a .past)) e,
       l .lay-run .ensures ∙ ap (λ (at : ℕ). laid at turn (now (a .out))) (zero-add (from k))
-      ∙ ap (λ (s : Sweep). layRunOut s (a .first) (a .past) (now (a .out))) e,
+          ∙ ap (λ (s : Sweep). layRunOut s (a .first) (a .past) (now (a .out))) e,
     )
 
 returns-2 : tie.Need-returns-2

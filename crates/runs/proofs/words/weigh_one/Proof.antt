@@ -1,5 +1,5 @@
 -- `runs::words::weigh_one` meets its contract: by the case that the match tells. Assumes nothing.
-use mathlib.Core.Path.{_≡_, refl, sym, ap, subst, _∙_}
+use mathlib.Core.Path.{refl, sym, ap, subst, _∙_}
 use borrow.Author.Needs.{needs}
 use Rattle.runs.specs.declared.words.Sweep.{Sweep}
 use Rattle.runs.specs.Swept.{Small, weighRun}
