@@ -1,11 +1,10 @@
--- A loop over a lent slice of runs, proved once for any covered step: each turn reads a run and hands its numbers, a job by value and a lent `&mut`
--- slice to the step.
---     fn each(runs: &[Run], job: J, out: &mut [X]) -> J { let mut j = job; let mut i = 0; while i < runs.len() { let r = runs[i]; j = step(j, r.first,
---     r.past, out); i = i + 1; } j }
--- Of the step it is known that it meets its contract. The runs are looked into once, before the loop, and shut once, after it; out is lent again for a
--- lifetime of the call, and comes back.
--- Of a turn's context the entries 0 to 4 are the runs' cells, what out owns, its token, what runs owns and what shuts its borrow; local i is entry 5 + i.
--- Assumes nothing.
+-- A loop over a lent slice of runs, proved once for any covered step: each turn reads a run and hands its numbers, a job by value and a lent
+-- `&mut` slice to the step.
+--     fn each(runs: &[Run], job: J, out: &mut [X]) -> J {
+--         let mut j = job; let mut i = 0; while i < runs.len() { let r = runs[i]; j = step(j, r.first, r.past, out); i = i + 1; } j }
+-- Of the step it is known that it meets its contract. The runs are looked into once, before the loop, and shut once, after it; out is lent
+-- again for a lifetime of the call, and comes back. Of a turn's context the entries 0 to 4 are the runs' cells, what out owns, its token, what
+-- runs owns and what shuts its borrow; local i is entry 5 + i. Assumes nothing.
 use native.Mathlib.Nat.{lt-of-le-of-lt}
 use lib.ListN.{getD, drop as dropped}
 use lib.Seq.{drop-cons, drop-length}

@@ -42,7 +42,8 @@ pub fn put_pair(writing: Writing, first: u32, past: u32, out: &mut [u32]) -> Wri
 
 pub fn write_numbers(runs: &[Run], writing: Writing, out: &mut [u32]) -> Writing
     requires { ⌜ HasRoom writing (length (now runs)) (now out) ⌝ }
-    ensures { λ w. ⌜ (w ≡ movedBy (length (now (runs .entry))) writing) × (now (out .exit) ≡ spliced writing (numbersOf (now (runs .entry))) (now (out .entry))) ⌝ }
+    ensures { λ w. ⌜ (w ≡ movedBy (length (now (runs .entry))) writing)
+        × (now (out .exit) ≡ spliced writing (numbersOf (now (runs .entry))) (now (out .entry))) ⌝ }
 {
     let mut w = writing;
     let mut i: usize = 0;
