@@ -55,7 +55,7 @@ add-summed : tie.Need-add-summed
 add-summed c = record { fits = let h = begun c .pre in omega (arith, bounds c .0, bounds c .1, bounds c .2, h .0, h .2) }
 
 add-next : tie.Need-add-next
-add-next c = record { fits = omega (arith, bounds c .2, begun c .pre .0) }
+add-next c = record { fits = omega (arith, bounds c .1, bounds c .2, begun c .pre .0) }
 
 returns-2 : tie.Need-returns-2
 returns-2 c =
