@@ -27,7 +27,7 @@ use rules::Answer;
 use rules::Written;
 
 // What is told of an operand that is its own result.
-fn own_answer(operand: Counted) -> Answer
+pub fn own_answer(operand: Counted) -> Answer
     requires { ⌜ (operand .count ≤ limit) × (lengthOf (operand .form) ≤ limit) ⌝ }
     ensures { λ a. ⌜ a ≡ accepted (operand .count) noRoute (lengthOf (operand .form)) ⌝ }
 {

@@ -17,11 +17,11 @@ use rules::Answer;
 use rules::Form;
 use rules::Written;
 
-mod convert;
+pub mod convert;
 pub mod inner;
 mod judge;
 mod list;
-mod runs;
+pub mod runs;
 
 // Any form to words: start 0, the bits past the length in the last word 0, later words as they were.
 pub fn to_words(form: Form, words: &[u64], rows: &[u32], out: &mut [u64]) -> Answer

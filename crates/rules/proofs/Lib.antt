@@ -8,6 +8,7 @@ pub mod Writes
 pub mod Operands
 pub mod RunRows
 pub mod Conversions
+pub mod Records
 pub mod RoundTrips
 pub mod Densities
 pub mod Compositions

@@ -1,6 +1,7 @@
 pub mod Operand
 pub mod Answer
 pub mod Convert
+pub mod Records
 pub mod Route
 pub mod Compose
 pub mod SetOps

@@ -27,6 +27,13 @@ pub enum Form {
     },
 }
 
+// A run of rows: its first row, and the row past its last.
+#[repr(C)]
+pub struct Run {
+    pub first: u32,
+    pub past: u32,
+}
+
 // What every operation returns of its result: the count of its set rows, the route, 0 outside composition, and the density.
 pub struct Summary {
     pub count: u64,

@@ -13,7 +13,7 @@ use laid::inner::fill;
 use laid::inner::put;
 
 // Zeros from row done to the run, and the run.
-fn lay_run(done: u64, first: u64, past: u64, at: u64, out: &mut [u64])
+pub fn lay_run(done: u64, first: u64, past: u64, at: u64, out: &mut [u64])
     requires { ⌜ (done ≤ first) × (first ≤ past) × Room at past (now out) ⌝ }
     ensures { λ _. ⌜ now (out .exit) ≡ laid (at + done) (replicate (first - done) false ++ replicate (past - first) true) (now (out .entry)) ⌝ }
 {

@@ -86,7 +86,7 @@ fn check_list(operand: u8, length: u64, rows: &[u32]) -> Verdict
 }
 
 // A run that begins at least there, is not empty and is not past the length.
-fn run_fits(least: u64, first: u64, past: u64, length: u64) -> bool
+pub fn run_fits(least: u64, first: u64, past: u64, length: u64) -> bool
     ensures { λ b. ⌜ b ≡ (leb least first && (ltb first past && leb past length)) ⌝ }
 {
     if first < least {
