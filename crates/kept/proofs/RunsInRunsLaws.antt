@@ -1,5 +1,5 @@
--- What loops keep that mark runs of ranks under runs of self, and that sum the lengths of runs: the runs from number i on are left. With a law for no
--- run, a law for one run more, and a law for all. By the composition where self begins with a run.
+-- What a loop keeps that marks runs of ranks under runs of self: the runs from number i on are left. With a law for no run, a law for one run more,
+-- and a law for all. By the composition where self begins with a run.
 -- Assumes nothing.
 use Prim.Native.Nat.{ℕ, _+_, _-_, _≤_, _<_}
 use mathlib.Core.Path.{_≡_, refl, sym, ap, ap₂, _∙_}
@@ -16,37 +16,11 @@ use Rattle.rows.proofs.RowLaws.{compose-count, compose-empty}
 use Rattle.rows.proofs.ListLaws.{tab-length}
 use Rattle.rows.proofs.PartLaws.{rows-append}
 use Rattle.rows.proofs.MarkLaws.{marked-append, marked-length}
-use Rattle.rows.proofs.RunLaws.{runRows, tab-add, in-runs, rows-sum, runs-few, runs-count}
+use Rattle.rows.proofs.RunLaws.{runRows, tab-add, in-runs, rows-sum, runs-few, runs-count, apart-wider}
 use Rattle.rows.proofs.RunTurnLaws.{NextRun, next-run, rows-next, rows-none, lengths-next, lengths-none}
 use Rattle.rows.proofs.ComposeRunLaws.{compose-unset, compose-set}
 use Rattle.kept.specs.Windows.{window, Reached}
-use Rattle.kept.proofs.WindowLaws.{apart-wider, unset-rows, rows-past}
-
--- ---- the lengths of runs, summed
-
-module _ (runs : List ℕ) where
-  pub record Summing (i sum : ℕ) : Type 0 where
-    pub from : ℕ
-    pub ahead : Apart from 1048576 (drop i runs)
-    pub summed : sum + runLengths (drop i runs) ≡ runLengths runs
-
-  pub summing-none : Apart 0 1048576 runs → Summing 0 0
-  summing-none a = record { from = 0; ahead = a; summed = omega arith }
-
-  module _ (i sum : ℕ) (s : Summing i sum) where
-    pub summing-next : i < length runs → NextRun (s .from) 1048576 i runs
-    summing-next h = next-run (s .from) 1048576 i runs h (s .ahead)
-
-    pub summing-few : i < length runs → Apart 0 1048576 runs → sum + (getD runs (i + 1) 0 - getD runs i 0) ≤ 1048576
-    summing-few h a = omega (arith, s .summed, lengths-next (s .from) 1048576 i runs (summing-next h), runs-few 0 1048576 runs a (omega arith))
-
-    pub summing-run : i < length runs → Summing (i + 2) (sum + (getD runs (i + 1) 0 - getD runs i 0))
-    summing-run h =
-        let r = summing-next h in
-        record { from = getD runs (i + 1) 0; ahead = r .left; summed = omega (arith, s .summed, lengths-next (s .from) 1048576 i runs r) }
-
-    pub summing-all : length runs ≤ i → sum ≡ runLengths runs
-    summing-all h = omega (arith, s .summed, lengths-none i runs h)
+use Rattle.kept.proofs.WindowLaws.{unset-rows, rows-past}
 
 -- ---- runs of ranks under runs of self
 

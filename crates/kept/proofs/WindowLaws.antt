@@ -13,16 +13,11 @@ use Rattle.rows.specs.Laid.{laid, marked}
 use Rattle.rows.proofs.MarkLaws.{marked-append, marked-length}
 use Rattle.rows.proofs.MarkRunLaws.{marked-run}
 use Rattle.rows.proofs.PartLaws.{rows-append}
-use Rattle.rows.proofs.RunLaws.{rowsFrom, held-below, held-first, held-past, tab-add, tab-all}
+use Rattle.rows.proofs.RunLaws.{rowsFrom, held-below, held-first, held-past, tab-add, tab-all, apart-wider}
 use Rattle.rows.proofs.RunTurnLaws.{NextRun, next-run}
 use Rattle.kept.specs.Windows.{window, into, Reached}
 
 -- ---- runs apart, within wider bounds
-
-pub apart-wider : (b c d e : ℕ) (ns : List ℕ) → b ≤ c → d ≤ e → Apart c d ns → Apart b e ns
-apart-wider b c d e [] h k a = tt
-apart-wider b c d e (f ∷ []) h k a = absurd a
-apart-wider b c d e (f ∷ p ∷ ns) h k a = (omega arith, a .1, omega arith, apart-wider (suc p) (suc p) d e ns (omega arith) k (a .3))
 
 -- ---- the set rows of unset rows, and of what follows them
 

@@ -13,13 +13,13 @@ use super::copies::copy_ranks;
 use super::entries::mark_entries;
 use super::entries::mark_spans;
 use super::windows::mark_runs;
-use super::windows::sum_runs;
 use books::inner::clear_rows;
 use laid::inner::clear;
 use marks::inner::Place;
 use marks::inner::row_from;
 use rows::Rank;
 use rows::Row;
+use turns::inner::sum_runs;
 
 // Self in runs, the rank mask in words: each run takes as many rank bits as it has rows, and what is between is cleared.
 pub fn lay_ranks_under_runs(

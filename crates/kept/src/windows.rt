@@ -91,20 +91,3 @@ pub fn mark_runs(runs: &[u32], ranks: &[u32], len: u64, at: u64, out: &mut [u64]
         i += 2;
     }
 }
-
-// How many rows runs of a mask have.
-pub fn sum_runs(runs: &[u32]) -> u64
-    requires { ⌜ Apart 0 1048576 (now runs) ⌝ }
-    ensures { λ r. ⌜ r ≡ runLengths (now (runs .entry)) ⌝ }
-{
-    let mut sum: u64 = 0;
-    let mut i: usize = 0;
-    while i < runs.len() {
-        let first = runs[i] as u64;
-        let past = runs[i + 1] as u64;
-        let held = past - first;
-        sum += held;
-        i += 2;
-    }
-    sum
-}

@@ -2,12 +2,10 @@
 -- Assumes nothing.
 use Prim.Native.Nat.{ℕ}
 use mathlib.Core.Path.{_≡_}
-use mathlib.Core.Bool.{Bool, true, false}
 use mathlib.Core.List.{List}
 use Rattle.rows.specs.declared.Verdict.{Verdict}
 use Rattle.rows.specs.Table.{first, ifFine}
 use Rattle.rules.specs.Operand.{Operand, lent, countOf, operandChecks}
-use Rattle.operand.specs.declared.inner.checks.Weighed.{Weighed}
 use Rattle.operand.specs.declared.inner.counts.Checked.{Checked}
 use Rattle.operand.specs.declared.inner.counts.Counted.{Counted}
 
@@ -21,8 +19,3 @@ checkedOf k o = checkedBy (first (operandChecks k o)) (countOf o)
 -- the count is the operand's own
 abbrev pub Counts : Counted → List ℕ → List ℕ → Type 0
 Counts c ws es = c .count ≡ countOf (lent (c .form) ws es)
-
--- whether runs fit, and their lengths summed where they do
-abbrev pub weighed : Bool → ℕ → Weighed
-weighed true n = record { fit = true; sum = n }
-weighed false n = record { fit = false; sum = 0 }

@@ -22,6 +22,13 @@ runRows b e [] = replicate (e - b) false
 runRows b e (first ∷ []) = replicate (e - b) false
 runRows b e (first ∷ past ∷ ns) = replicate (first - b) false ++ replicate (past - first) true ++ runRows past e ns
 
+-- ---- runs are runs from a lower row on, and in more rows
+
+pub apart-wider : (b c d e : ℕ) (ns : List ℕ) → b ≤ c → d ≤ e → Apart c d ns → Apart b e ns
+apart-wider b c d e [] h k a = tt
+apart-wider b c d e (f ∷ []) h k a = absurd a
+apart-wider b c d e (f ∷ p ∷ ns) h k a = (omega arith, a .1, omega arith, apart-wider (suc p) (suc p) d e ns (omega arith) k (a .3))
+
 -- ---- which rows runs hold
 
 -- none below the runs

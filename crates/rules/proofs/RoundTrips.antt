@@ -47,7 +47,7 @@ passes len [] a = (tt, tt)
 passes len (e ∷ es) a = climbing 0 len e es a
 
 -- runs that are apart fit: `apart` the other way
-fits : (b len : ℕ) (ns : List ℕ) → Apart b len ns → T (runsFit b len ns)
+pub fits : (b len : ℕ) (ns : List ℕ) → Apart b len ns → T (runsFit b len ns)
 fits b len [] a = tt
 fits b len (first ∷ []) a = a
 fits b len (first ∷ past ∷ ns) a =

@@ -1,3 +1,4 @@
 pub mod TurnedLaws
 pub mod WrittenLaws
 pub mod ListTurnLaws
+pub mod SumLaws

@@ -1,4 +1,4 @@
-// What our own crates call to find the runs of rows. A run begins and ends at a row that differs from the row before it, and in a word those
+// What our own crates call to find the runs of rows, and to sum them. A run begins and ends at a row that differs from the row before it, and in a word those
 // rows are the word against itself moved up by one, with the row before it carried in.
 ghost use mathlib.Core.Path.{_≡_};
 ghost use mathlib.Core.List.{[]};
@@ -9,7 +9,7 @@ ghost use Rattle.rows.specs.Rows.{count, splice};
 ghost use Rattle.rows.specs.Word.{isOne, bitsOf, wordOf};
 ghost use Rattle.rows.specs.Words.{view};
 ghost use Rattle.rows.specs.Lists.{listed, Ascending, setRows};
-ghost use Rattle.rows.specs.Runs.{turns, runsOf};
+ghost use Rattle.rows.specs.Runs.{Apart, runLengths, turns, runsOf};
 ghost use Rattle.rows.specs.Edges.{edges};
 ghost use Rattle.rows.specs.Asks.{InView, Chunk};
 ghost use Rattle.turns.specs.Gaps.{between};
@@ -152,4 +152,21 @@ pub fn write_list_turns(rows: &[u32], len: u64, out: &mut [u32])
         i += 1;
     }
     out[k] = past;
+}
+
+// How many rows runs of a mask have. A loop with no way out is made of vectors.
+pub fn sum_runs(runs: &[u32]) -> u64
+    requires { ⌜ Apart 0 1048576 (now runs) ⌝ }
+    ensures { λ r. ⌜ r ≡ runLengths (now (runs .entry)) ⌝ }
+{
+    let mut sum: u64 = 0;
+    let mut i: usize = 0;
+    while i < runs.len() {
+        let first = runs[i] as u64;
+        let past = runs[i + 1] as u64;
+        let held = past - first;
+        sum += held;
+        i += 2;
+    }
+    sum
 }

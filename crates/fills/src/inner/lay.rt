@@ -11,6 +11,7 @@ ghost use Rattle.rows.specs.Asks.{Room};
 use laid::inner::clear;
 use laid::inner::fill;
 use laid::inner::put;
+use laid::inner::set_bit;
 
 // Zeros from row done to the run, and the run.
 pub fn lay_run(done: u64, first: u64, past: u64, at: u64, out: &mut [u64])
@@ -38,13 +39,17 @@ fn lay_in_turn(runs: &[u32], len: u64, at: u64, out: &mut [u64])
     clear(out, at + done, len - done);
 }
 
-// A run set, and nothing between. One of a word's length or less is one write.
+// A run set, and nothing between. One of a word's length or less is one write, and one row the shortest.
 pub fn set_run(out: &mut [u64], at: u64, first: u64, past: u64)
     requires { ⌜ (first < past) × Room at past (now out) ⌝ }
     ensures { λ _. ⌜ now (out .exit) ≡ laid (at + first) (replicate (past - first) true) (now (out .entry)) ⌝ }
 {
     let n = past - first;
     let bit = at + first;
+    if n == 1 {
+        set_bit(out, bit);
+        return;
+    }
     if n <= 64 {
         put(out, bit, n, 0xffff_ffff_ffff_ffffu64);
         return;

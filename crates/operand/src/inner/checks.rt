@@ -5,7 +5,7 @@ ghost use lib.Dec.{leb, ltb};
 ghost use Prim.Native.Nat.{_≤_};
 ghost use denote.Ref.{now};
 ghost use Rattle.rows.specs.Runs.{runLengths};
-ghost use Rattle.operand.specs.Counts.{checkedBy, checkedOf, weighed};
+ghost use Rattle.operand.specs.Counts.{checkedBy, checkedOf};
 ghost use Rattle.rows.specs.Table.{first};
 ghost use Rattle.rules.specs.Operand.{lent, climbs, lastBelow, runsFit, lengthChecks, wordsChecks, listChecks, runsChecks, setChecks};
 use super::counts::Checked;
@@ -16,6 +16,7 @@ use lent::inner::words_for;
 use rows::Verdict;
 use rows::inner::verdicts::refuse;
 use rules::Form;
+use turns::inner::sum_runs;
 
 fn check_length(operand: u8, length: u64) -> Verdict
     ensures { λ r. ⌜ r ≡ first (lengthChecks operand length) ⌝ }
@@ -85,7 +86,7 @@ fn check_list(operand: u8, length: u64, rows: &[u32]) -> Verdict
     Verdict::Fine
 }
 
-// A run that begins at least there, is not empty and is not past the length.
+// A run that begins at least there, is not empty and is not past the length: for whoever weighs run by run.
 pub fn run_fits(least: u64, first: u64, past: u64, length: u64) -> bool
     ensures { λ b. ⌜ b ≡ (leb least first && (ltb first past && leb past length)) ⌝ }
 {
@@ -98,49 +99,32 @@ pub fn run_fits(least: u64, first: u64, past: u64, length: u64) -> bool
     past <= length
 }
 
-// Whether all runs fit and, where they do, their lengths summed.
-pub struct Weighed {
-    pub fit: bool,
-    pub sum: u64,
-}
-
-// Lengths are summed only as far as the runs fit: so the sum is at most the length, and wraps nowhere.
-fn weigh_runs(length: u64, runs: &[u32]) -> Weighed
+// All runs fit: their numbers climb, as no run is empty and none touches the one before it, the last is within the length, and each has its
+// pair.
+fn runs_fit(length: u64, runs: &[u32]) -> bool
     requires { ⌜ length ≤ 1048576 ⌝ }
-    ensures { λ w. ⌜ w ≡ weighed (runsFit 0 length (now (runs .entry))) (runLengths (now (runs .entry))) ⌝ }
+    ensures { λ b. ⌜ b ≡ runsFit 0 length (now (runs .entry)) ⌝ }
 {
-    let n = runs.len();
-    let mut sum: u64 = 0;
-    let mut least: u64 = 0;
-    let mut i: usize = 0;
-    while n - i > 1 {
-        let first = runs[i] as u64;
-        let past = runs[i + 1] as u64;
-        if !run_fits(least, first, past, length) {
-            return Weighed { fit: false, sum: 0 };
-        }
-        sum += past - first;
-        least = past + 1;
-        i += 2;
+    if runs.len() % 2 != 0 {
+        return false;
     }
-    if i < n {
-        return Weighed { fit: false, sum: 0 };
+    if !ascends(runs) {
+        return false;
     }
-    Weighed { fit: true, sum }
+    last_below(length + 1, runs)
 }
 
-// The one check that tells the count too: it has summed it.
+// The one check that sums. It does so once the runs are accepted: so the sum is at most the length, and wraps nowhere.
 fn check_runs(operand: u8, length: u64, runs: &[u32]) -> Checked
     ensures { λ r. ⌜ r ≡ checkedBy (first (runsChecks operand length (now (runs .entry)))) (runLengths (now (runs .entry))) ⌝ }
 {
     if length > 1048576 {
         return tell(refuse(1, operand), 0);
     }
-    let weighed = weigh_runs(length, runs);
-    if !weighed.fit {
+    if !runs_fit(length, runs) {
         return tell(refuse(14, operand), 0);
     }
-    tell(Verdict::Fine, weighed.sum)
+    tell(Verdict::Fine, sum_runs(runs))
 }
 
 // All checks of one operand, in document 01's order, and its count.

@@ -1,4 +1,4 @@
--- `kept::windows::sum_runs` meets its contract.
+-- `turns::inner::sum_runs` meets its contract.
 -- The invariant: the lengths of the runs before number i are summed. Assumes nothing.
 use Prim.Native.Nat.{ℕ, _+_, _-_, _≤_}
 use mathlib.Core.List.{List}
@@ -6,9 +6,9 @@ use native.Mathlib.Omega.{arith}
 use lib.ListN.{length, getD}
 use denote.Ref.{now}
 use Rattle.rows.proofs.RunTurnLaws.{NextRun}
-use Rattle.kept.proofs.RunsInRunsLaws.{Summing, summing-none, summing-next, summing-few, summing-run, summing-all}
-use Rattle.kept.proofs.windows.sum_runs.Statement.{statement}
-use Rattle.kept.proofs.windows.sum_runs.Tie as tie
+use Rattle.turns.proofs.SumLaws.{Summing, summing-none, summing-next, summing-few, summing-run, summing-all}
+use Rattle.turns.proofs.inner.sum_runs.Statement.{statement}
+use Rattle.turns.proofs.inner.sum_runs.Tie as tie
 
 abbrev Inv-loop : tie.InvT-loop
 Inv-loop runs sum₀ i₀ sum i = Summing runs i sum
