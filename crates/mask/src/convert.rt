@@ -7,33 +7,20 @@ ghost use denote.Ref.{now};
 ghost use Rattle.rows.specs.declared.Verdict.the-variants.{Fine};
 ghost use Rattle.rows.specs.Lists.{setRows};
 ghost use Rattle.rows.specs.Laid.{wordsFor, written};
-ghost use Rattle.rules.specs.Operand.{lent, rowsOf, lengthOf, countOf, limit, Accepted};
-ghost use Rattle.rules.specs.Answer.{accepted, answered, noRoute};
+ghost use Rattle.rules.specs.Operand.{lent, rowsOf, lengthOf, countOf, Accepted};
+ghost use Rattle.rules.specs.Answer.{answered, noRoute};
 ghost use Rattle.rules.specs.Convert.{toRuns, toRunsOut};
 ghost use Rattle.operand.specs.Counts.{Counts};
-ghost use Rattle.mask.specs.Judged.{noRuns};
+use super::inner::answers::no_runs;
+use super::inner::answers::own_answer;
 use super::inner::lay::write_rows;
+use super::inner::runs::count_runs;
+use super::inner::runs::write_runs;
 use super::list::write_list;
-use super::runs::count_runs;
-use super::runs::write_runs;
-use operand::inner::answers::NO_ROUTE;
-use operand::inner::answers::accepted;
-use operand::inner::answers::refused;
 use operand::inner::counts::Counted;
-use operand::inner::forms::length_of;
-use rows::Refusal;
 use rows::inner::verdicts::refusal;
 use rules::Answer;
 use rules::Written;
-
-// What is told of an operand that is its own result.
-pub fn own_answer(operand: Counted) -> Answer
-    requires { ⌜ (operand .count ≤ limit) × (lengthOf (operand .form) ≤ limit) ⌝ }
-    ensures { λ a. ⌜ a ≡ accepted (operand .count) noRoute (lengthOf (operand .form)) ⌝ }
-{
-    let form = operand.form;
-    accepted(operand.count, NO_ROUTE, length_of(form))
-}
 
 pub fn convert_to_words(operand: Counted, words: &[u64], rows: &[u32], out: &mut [u64]) -> Answer
     requires { ⌜ Accepted (lent (operand .form) (now words) (now rows)) × Counts operand (now words) (now rows) × (wordsFor (lengthOf (operand .form)) ≤ length (now out)) ⌝ }
@@ -53,14 +40,6 @@ pub fn convert_to_list(operand: Counted, words: &[u64], rows: &[u32], out: &mut 
     let form = operand.form;
     write_list(form, words, rows, out);
     own_answer(operand)
-}
-
-// What the writer of runs tells of a refusal.
-pub fn no_runs(refusal: Refusal) -> Written
-    ensures { λ w. ⌜ w ≡ noRuns refusal ⌝ }
-{
-    let answer = refused(refusal);
-    Written { answer, runs: 0 }
 }
 
 // The numbers needed are known only by counting the operand's runs, and so 8 is told here.

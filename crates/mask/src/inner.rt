@@ -1,2 +1,4 @@
-// What our own crates call of the conversions: an operand's rows laid over lent words.
+// What our own crates call of the conversions, a module for each subject.
+pub mod answers;
 pub mod lay;
+pub mod runs;

@@ -6,7 +6,7 @@ ghost use Rattle.rules.specs.Convert.{toWords, toWordsOut, toList, toListOut, t
 use convert::convert_to_list;
 use convert::convert_to_runs;
 use convert::convert_to_words;
-use convert::no_runs;
+use inner::answers::no_runs;
 use judge::judge_list;
 use judge::judge_words;
 use operand::inner::answers::refused;
@@ -17,11 +17,10 @@ use rules::Answer;
 use rules::Form;
 use rules::Written;
 
-pub mod convert;
+mod convert;
 pub mod inner;
 mod judge;
 mod list;
-pub mod runs;
 
 // Any form to words: start 0, the bits past the length in the last word 0, later words as they were.
 pub fn to_words(form: Form, words: &[u64], rows: &[u32], out: &mut [u64]) -> Answer

@@ -1,4 +1,4 @@
--- `mask::runs::write_whole` meets its contract: a run is its first row and the row past its last, stored one after the other.
+-- `mask::inner::runs::write_whole` meets its contract: a run is its first row and the row past its last, stored one after the other.
 -- By the one run of rows that are all set. Assumes nothing.
 use Prim.Native.Nat.{_<_, _≤_}
 use mathlib.Core.Path.{sym, ap, _∙_}
@@ -10,8 +10,8 @@ use Rattle.rows.proofs.SpliceLaws.{splice-nil}
 use Rattle.turns.proofs.ListTurnLaws.{two-written}
 use Rattle.mask.proofs.RunOutLaws.{whole-run, whole-none}
 use borrow.Author.Needs.{needs}
-use Rattle.mask.proofs.runs.write_whole.Statement.{statement}
-use Rattle.mask.proofs.runs.write_whole.Tie as tie
+use Rattle.mask.proofs.inner.runs.write_whole.Statement.{statement}
+use Rattle.mask.proofs.inner.runs.write_whole.Tie as tie
 
 -- ---- where there are rows: room for two numbers
 

@@ -1,4 +1,4 @@
--- `mask::runs::count_runs` meets its contract: each form's runs are counted as it has its rows.
+-- `mask::inner::runs::count_runs` meets its contract: each form's runs are counted as it has its rows.
 -- By the case that the match tells, and what acceptance gives of it. Assumes nothing.
 use mathlib.Core.Path.{_≡_, refl, sym, ap, subst, _∙_}
 use lib.ListN.{length}
@@ -12,8 +12,8 @@ use Rattle.operand.proofs.NumberLaws.{accepted-list, accepted-runs}
 use Rattle.operand.proofs.FlatLaws.{accepted-flat}
 use Rattle.mask.proofs.RunOutLaws.{none-runs}
 use borrow.Author.Needs.{needs}
-use Rattle.mask.proofs.runs.count_runs.Statement.{statement}
-use Rattle.mask.proofs.runs.count_runs.Tie as tie
+use Rattle.mask.proofs.inner.runs.count_runs.Statement.{statement}
+use Rattle.mask.proofs.inner.runs.count_runs.Tie as tie
 
 -- ---- the places: an arm of the match, and the start
 

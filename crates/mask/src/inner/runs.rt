@@ -7,7 +7,7 @@ ghost use denote.Ref.{now};
 ghost use Rattle.rows.specs.Rows.{splice};
 ghost use Rattle.rows.specs.Runs.{runsOf};
 ghost use Rattle.rules.specs.Operand.{lent, rowsOf, Accepted};
-use super::list::copy_list;
+use super::super::list::copy_list;
 use rules::Form;
 use turns::inner::count_list_turns;
 use turns::inner::count_turns;

@@ -1,11 +1,11 @@
--- `mask::convert::own_answer` meets its contract: the operand's own count and length are told.
+-- `mask::inner::answers::own_answer` meets its contract: the operand's own count and length are told.
 -- By what each call gives. Assumes nothing.
 use mathlib.Core.Path.{ap, _∙_}
 use native.Mathlib.Omega.{arith}
 use borrow.Author.Needs.{needs}
 use Rattle.rules.specs.Answer.{accepted, noRoute}
-use Rattle.mask.proofs.convert.own_answer.Statement.{statement}
-use Rattle.mask.proofs.convert.own_answer.Tie as tie
+use Rattle.mask.proofs.inner.answers.own_answer.Statement.{statement}
+use Rattle.mask.proofs.inner.answers.own_answer.Tie as tie
 
 length-of-requires : tie.Need-length-of-requires
 length-of-requires c κs = search needs

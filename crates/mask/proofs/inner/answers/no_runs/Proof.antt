@@ -1,11 +1,11 @@
--- `mask::convert::no_runs` meets its contract: the answer is the refusal's, and there are no runs.
+-- `mask::inner::answers::no_runs` meets its contract: the answer is the refusal's, and there are no runs.
 -- By what the call gives. Assumes nothing.
 use mathlib.Core.Path.{ap}
 use Rattle.rules.specs.declared.Answer.{Answer}
 use Rattle.rules.specs.declared.Written.{Written}
 use borrow.Author.Needs.{needs}
-use Rattle.mask.proofs.convert.no_runs.Statement.{statement}
-use Rattle.mask.proofs.convert.no_runs.Tie as tie
+use Rattle.mask.proofs.inner.answers.no_runs.Statement.{statement}
+use Rattle.mask.proofs.inner.answers.no_runs.Tie as tie
 
 abbrev withNone : Answer → Written
 withNone a = record { answer = a; runs = 0 }

@@ -1,4 +1,4 @@
--- `mask::runs::write_runs` meets its contract: each form's runs are written as it has its rows.
+-- `mask::inner::runs::write_runs` meets its contract: each form's runs are written as it has its rows.
 -- By the case that the match tells, and what acceptance gives of it. Assumes nothing.
 use Prim.Native.Nat.{ℕ, _≤_}
 use mathlib.Core.Path.{_≡_, refl, sym, ap, subst, _∙_}
@@ -17,8 +17,8 @@ use Rattle.operand.proofs.NumberLaws.{accepted-list, accepted-runs}
 use Rattle.operand.proofs.FlatLaws.{accepted-flat}
 use Rattle.mask.proofs.RunOutLaws.{none-runs}
 use borrow.Author.Needs.{needs}
-use Rattle.mask.proofs.runs.write_runs.Statement.{statement}
-use Rattle.mask.proofs.runs.write_runs.Tie as tie
+use Rattle.mask.proofs.inner.runs.write_runs.Statement.{statement}
+use Rattle.mask.proofs.inner.runs.write_runs.Tie as tie
 
 -- ---- the places, each from the one after it: an arm of the match, what it tells of the form, and the start
 
