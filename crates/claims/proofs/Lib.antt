@@ -4,6 +4,7 @@ pub mod Densities
 pub mod Examples
 pub mod Once
 pub mod OnceInner
+pub mod OnceRecords
 pub mod Program
 pub mod SetOperations
 pub mod Streams

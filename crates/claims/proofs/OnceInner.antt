@@ -150,6 +150,20 @@ use Rattle.fills.proofs.inner.list.list_runs.Kinds as fills-list-runs-kinds
 use Rattle.fills.proofs.inner.list.list_runs.Reads as fills-list-runs
 use Rattle.kept.proofs.inner.lay_ranks_under_runs.Kinds as ranks-under-runs-kinds
 use Rattle.kept.proofs.inner.lay_ranks_under_runs.Reads as ranks-under-runs
+use Rattle.fills.proofs.inner.lay.lay_run.Kinds as fills-lay-run-kinds
+use Rattle.fills.proofs.inner.lay.lay_run.Reads as fills-lay-run
+use Rattle.mask.proofs.inner.answers.own_answer.Kinds as mask-own-answer-kinds
+use Rattle.mask.proofs.inner.answers.own_answer.Reads as mask-own-answer
+use Rattle.mask.proofs.inner.answers.no_runs.Kinds as mask-no-runs-kinds
+use Rattle.mask.proofs.inner.answers.no_runs.Reads as mask-no-runs
+use Rattle.mask.proofs.inner.runs.count_runs.Kinds as mask-count-runs-kinds
+use Rattle.mask.proofs.inner.runs.count_runs.Reads as mask-count-runs
+use Rattle.mask.proofs.inner.runs.write_runs.Kinds as mask-write-runs-kinds
+use Rattle.mask.proofs.inner.runs.write_runs.Reads as mask-write-runs
+use Rattle.operand.proofs.inner.checks.run_fits.Kinds as operand-run-fits-kinds
+use Rattle.operand.proofs.inner.checks.run_fits.Reads as operand-run-fits
+use Rattle.turns.proofs.inner.sum_runs.Kinds as turns-sum-runs-kinds
+use Rattle.turns.proofs.inner.sum_runs.Reads as turns-sum-runs
 use Rattle.fills.proofs.inner.lay.set_run.Kinds as fills-set-run-kinds
 use Rattle.fills.proofs.inner.lay.set_run.Reads as fills-set-run
 use Rattle.marks.proofs.inner.row_from.Kinds as marks-row-from-kinds
@@ -445,3 +459,26 @@ turns-count-list-turns-one κs a p x y v w hv hw = (hv ∙ sym hw, refl)
 
 pub turns-write-list-turns-one : OneAnswer 2 write-list-turns-kinds.ps write-list-turns-kinds.r write-list-turns.Pre write-list-turns.Post
 turns-write-list-turns-one κs a p x y v w hv hw = (refl, ap (λ (l : List ℕ). (tt, (tt, (l, tt)))) (hv ∙ sym hw))
+
+-- ---- what the edge calls too
+
+pub fills-lay-run-one : OneAnswer 1 fills-lay-run-kinds.ps fills-lay-run-kinds.r fills-lay-run.Pre fills-lay-run.Post
+fills-lay-run-one κs a p x y v w hv hw = (refl, ap (λ (l : List ℕ). (tt, (tt, (tt, (tt, (l, tt)))))) (hv ∙ sym hw))
+
+pub mask-own-answer-one : OneAnswer 0 mask-own-answer-kinds.ps mask-own-answer-kinds.r mask-own-answer.Pre mask-own-answer.Post
+mask-own-answer-one κs a p x y v w hv hw = (hv ∙ sym hw, refl)
+
+pub mask-no-runs-one : OneAnswer 0 mask-no-runs-kinds.ps mask-no-runs-kinds.r mask-no-runs.Pre mask-no-runs.Post
+mask-no-runs-one κs a p x y v w hv hw = (hv ∙ sym hw, refl)
+
+pub mask-count-runs-one : OneAnswer 2 mask-count-runs-kinds.ps mask-count-runs-kinds.r mask-count-runs.Pre mask-count-runs.Post
+mask-count-runs-one κs a p x y v w hv hw = (hv ∙ sym hw, refl)
+
+pub mask-write-runs-one : OneAnswer 3 mask-write-runs-kinds.ps mask-write-runs-kinds.r mask-write-runs.Pre mask-write-runs.Post
+mask-write-runs-one κs a p x y v w hv hw = (refl, ap (λ (l : List ℕ). (tt, (tt, (tt, (l, tt))))) (hv ∙ sym hw))
+
+pub operand-run-fits-one : OneAnswer 0 operand-run-fits-kinds.ps operand-run-fits-kinds.r operand-run-fits.Pre operand-run-fits.Post
+operand-run-fits-one κs a p x y v w hv hw = (hv ∙ sym hw, refl)
+
+pub turns-sum-runs-one : OneAnswer 1 turns-sum-runs-kinds.ps turns-sum-runs-kinds.r turns-sum-runs.Pre turns-sum-runs.Post
+turns-sum-runs-one κs a p x y v w hv hw = (hv ∙ sym hw, refl)
