@@ -34,6 +34,7 @@ NOTES = {
     "turns": "the runs of a mask",
     "operand": "forms, checks, answers",
     "mask": "conversions",
+    "runs": "runs as records, the edge",
     "books": "rows and ranks as bits",
     "marks": "routes 4 to 6",
     "deposits": "routes 7 to 10",
