@@ -166,6 +166,8 @@ use Rattle.turns.proofs.inner.sum_runs.Kinds as turns-sum-runs-kinds
 use Rattle.turns.proofs.inner.sum_runs.Reads as turns-sum-runs
 use Rattle.fills.proofs.inner.lay.set_run.Kinds as fills-set-run-kinds
 use Rattle.fills.proofs.inner.lay.set_run.Reads as fills-set-run
+use Rattle.marks.proofs.inner.entry_at.Kinds as marks-entry-at-kinds
+use Rattle.marks.proofs.inner.entry_at.Reads as marks-entry-at
 use Rattle.marks.proofs.inner.row_from.Kinds as marks-row-from-kinds
 use Rattle.marks.proofs.inner.row_from.Reads as marks-row-from
 use Rattle.kept.proofs.inner.lay_runs_in_runs.Kinds as runs-in-runs-kinds
@@ -238,10 +240,10 @@ pub intersect-by-rank-compose-with-one : OneAnswer 5 intersect-by-rank-compose-w
 intersect-by-rank-compose-with-one κs a p x y v w hv hw = (hv .0 ∙ sym (hw .0), ap (λ (l : List ℕ). (tt, (tt, (tt, (tt, (tt, (tt, (tt, (l, tt))))))))) (hv .1 ∙ sym (hw .1)))
 
 pub marks-lay-entry-at-rank-one : OneAnswer 3 marks-lay-entry-at-rank-kinds.ps marks-lay-entry-at-rank-kinds.r marks-lay-entry-at-rank.Pre marks-lay-entry-at-rank.Post
-marks-lay-entry-at-rank-one κs a p x y v w hv hw = (refl, ap (λ (l : List ℕ). (tt, (tt, (tt, (tt, (l, tt)))))) (hv ∙ sym hw))
+marks-lay-entry-at-rank-one κs a p x y v w hv hw = (refl, ap (λ (l : List ℕ). (tt, (tt, (tt, (tt, (tt, (l, tt))))))) (hv ∙ sym hw))
 
 pub marks-lay-entry-if-set-one : OneAnswer 3 marks-lay-entry-if-set-kinds.ps marks-lay-entry-if-set-kinds.r marks-lay-entry-if-set.Pre marks-lay-entry-if-set.Post
-marks-lay-entry-if-set-one κs a p x y v w hv hw = (refl, ap (λ (l : List ℕ). (tt, (tt, (tt, (tt, (tt, (l, tt))))))) (hv ∙ sym hw))
+marks-lay-entry-if-set-one κs a p x y v w hv hw = (refl, ap (λ (l : List ℕ). (tt, (tt, (tt, (tt, (tt, (tt, (l, tt)))))))) (hv ∙ sym hw))
 
 pub marks-lay-driven-by-list-one : OneAnswer 3 marks-lay-driven-by-list-kinds.ps marks-lay-driven-by-list-kinds.r marks-lay-driven-by-list.Pre marks-lay-driven-by-list.Post
 marks-lay-driven-by-list-one κs a p x y v w hv hw = (refl, ap (λ (l : List ℕ). (tt, (tt, (tt, (tt, (tt, (l, tt))))))) (hv ∙ sym hw))
@@ -421,7 +423,7 @@ pub kept-lay-runs-in-runs-one : OneAnswer 3 runs-in-runs-kinds.ps runs-in-runs-k
 kept-lay-runs-in-runs-one κs a p x y v w hv hw = (hv .0 ∙ sym (hw .0), ap (λ (l : List ℕ). (tt, (tt, (tt, (tt, (l, tt)))))) (hv .1 ∙ sym (hw .1)))
 
 pub kept-lay-entries-by-runs-one : OneAnswer 3 entries-by-runs-kinds.ps entries-by-runs-kinds.r entries-by-runs.Pre entries-by-runs.Post
-kept-lay-entries-by-runs-one κs a p x y v w hv hw = (hv .0 ∙ sym (hw .0), ap (λ (l : List ℕ). (tt, (tt, (tt, (tt, (l, tt)))))) (hv .1 ∙ sym (hw .1)))
+kept-lay-entries-by-runs-one κs a p x y v w hv hw = (hv .0 ∙ sym (hw .0), ap (λ (l : List ℕ). (tt, (tt, (tt, (tt, (tt, (l, tt))))))) (hv .1 ∙ sym (hw .1)))
 
 pub marks-row-from-one : OneAnswer 1 marks-row-from-kinds.ps marks-row-from-kinds.r marks-row-from.Pre marks-row-from.Post
 marks-row-from-one κs a p x y v w hv hw = (hv ∙ sym hw, refl)
@@ -438,6 +440,9 @@ laid-fill-one κs a p x y v w hv hw = (refl, ap (λ (l : List ℕ). (l, (tt, (tt
 -- a row is its number
 abbrev rowOf : ℕ → Row
 rowOf n = record { 0 = n }
+
+pub marks-entry-at-one : OneAnswer 1 marks-entry-at-kinds.ps marks-entry-at-kinds.r marks-entry-at.Pre marks-entry-at.Post
+marks-entry-at-one κs a p x y v w hv hw = (ap rowOf (hv ∙ sym hw), refl)
 
 pub operand-tell-one : OneAnswer 0 operand-tell-kinds.ps operand-tell-kinds.r operand-tell.Pre operand-tell.Post
 operand-tell-one κs a p x y v w hv hw = (hv ∙ sym hw, refl)

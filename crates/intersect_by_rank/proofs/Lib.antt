@@ -1,3 +1,4 @@
 pub mod FitsLaws
 pub mod JudgeLaws
 pub mod OverLaws
+pub mod EntriesLaws

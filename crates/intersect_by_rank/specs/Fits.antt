@@ -1,7 +1,11 @@
 -- What the line of a route says of the two operands, whatever the factors are. Each kernel's call rests on it; no promise to a user does.
 -- Assumes nothing.
+use Prim.Native.Nat.{ℕ, _/_}
 use mathlib.Core.Path.{_≡_}
-use mathlib.Core.Bool.{Bool, true, false}
+use mathlib.Core.Bool.{Bool, true, false, not, _&&_}
+use mathlib.Core.List.{List}
+use lib.Dec.{eqb}
+use lib.ListN.{length}
 use mathlib.Core.Logic.{_⊎_}
 use Rattle.rules.specs.declared.Form.{Form}
 use Rattle.rules.specs.declared.Route.{Route}
@@ -37,3 +41,7 @@ keepsRuns EntryIfSet r = hasRuns r
 keepsRuns MaskDriven r = hasRuns r
 keepsRuns (Gathered way) r = hasRuns r
 keepsRuns (Read way) r = hasRuns r
+
+-- runs, of which one at least is longer than a row: they have more rows than they are
+abbrev pub hasLongRuns : Form → ℕ → List ℕ → Bool
+hasLongRuns s count ns = hasRuns s && not (eqb count (length ns / 2))

@@ -9,6 +9,7 @@ ghost use Rattle.rows.specs.Lists.{listed, Ascending};
 ghost use Rattle.rows.specs.Runs.{inRuns, runLengths, Apart};
 ghost use Rattle.rows.specs.Laid.{laid};
 ghost use Rattle.rows.specs.Asks.{Room, InView};
+ghost use Rattle.marks.specs.Entries.{entries};
 use super::copies::copy_ranks;
 use super::entries::mark_entries;
 use super::entries::mark_spans;
@@ -121,13 +122,21 @@ pub fn keep_words(
     sum
 }
 
-// Self a list, the rank mask in runs: that part of the output is cleared, and the entries from each run's first rank to its last are marked in it.
-pub fn lay_entries_by_runs(rows: &[u32], ranks: &[u32], len: u64, at: u64, out: &mut [u64]) -> u64
-    requires { ⌜ Ascending 0 len (now rows) × (length (now rows) ≤ 1048576) × Apart 0 (length (now rows)) (now ranks) × Room at len (now out) ⌝ }
-    ensures { λ r. ⌜ (r ≡ count (compose (listed len (now (rows .entry))) (inRuns (length (now (rows .entry))) (now (ranks .entry)))))
-        × (now (out .exit) ≡ laid at (compose (listed len (now (rows .entry)))
-        (inRuns (length (now (rows .entry))) (now (ranks .entry)))) (now (out .entry))) ⌝ }
+// Self a list, or runs of one row each, the rank mask in runs: that part of the output is cleared, and the entries from each run's first rank to its
+// last are marked in it.
+pub fn lay_entries_by_runs(
+    rows: &[u32],
+    single: bool,
+    ranks: &[u32],
+    len: u64,
+    at: u64,
+    out: &mut [u64],
+) -> u64
+    requires { ⌜ Ascending 0 len (entries single (now rows)) × Apart 0 (length (entries single (now rows))) (now ranks) × Room at len (now out) ⌝ }
+    ensures { λ r. ⌜ (r ≡ count (compose (listed len (entries single (now (rows .entry)))) (inRuns (length (entries single (now (rows .entry)))) (now (ranks .entry)))))
+        × (now (out .exit) ≡ laid at (compose (listed len (entries single (now (rows .entry))))
+        (inRuns (length (entries single (now (rows .entry)))) (now (ranks .entry)))) (now (out .entry))) ⌝ }
 {
     clear(out, at, len);
-    mark_spans(rows, ranks, len, at, out)
+    mark_spans(rows, single, ranks, len, at, out)
 }

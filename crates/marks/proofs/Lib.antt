@@ -1,2 +1,3 @@
 pub mod DrivenLaws
 pub mod ListLaws
+pub mod EntryLaws

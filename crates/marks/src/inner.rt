@@ -2,7 +2,7 @@
 // rows are marked in it.
 ghost use mathlib.Core.Path.{_≡_};
 ghost use Prim.Native.Nat.{_+_, _*_, _≤_, _<_};
-ghost use lib.ListN.{length, drop};
+ghost use lib.ListN.{length, getD, drop};
 ghost use denote.Ref.{now};
 ghost use Rattle.rows.specs.Rows.{count, compose};
 ghost use Rattle.rows.specs.Words.{bitsOfAll, view};
@@ -10,6 +10,7 @@ ghost use Rattle.rows.specs.Lists.{listed, Ascending};
 ghost use Rattle.rows.specs.Laid.{laid};
 ghost use Rattle.rows.specs.Asks.{Room, InView};
 ghost use Rattle.marks.specs.Driven.{HasRows, Walked, foundAt};
+ghost use Rattle.marks.specs.Entries.{entries};
 use super::driven::intersect_mask_driven_list;
 use super::driven::intersect_mask_driven_words;
 use super::driven::row_in;
@@ -46,22 +47,53 @@ pub fn row_from(words: &[u64], start: u64, len: u64, from: Place, rank: Rank) ->
     }
 }
 
+// The self entry that has a rank.
+pub fn entry_at(rows: &[u32], single: bool, rank: Rank) -> Row
+    requires { ⌜ rank .0 < length (entries single (now rows)) ⌝ }
+    ensures { λ r. ⌜ r .0 ≡ getD (entries single (now (rows .entry))) (rank .0) 0 ⌝ }
+{
+    let at = rank.0 as usize;
+    if single {
+        let first = rows[at * 2] as u64;
+        return Row(first);
+    }
+    let entry = rows[at] as u64;
+    Row(entry)
+}
+
 // Route 4.
-pub fn lay_entry_at_rank(rows: &[u32], ranks: &[u32], len: u64, at: u64, out: &mut [u64])
-    requires { ⌜ Ascending 0 len (now rows) × Ascending 0 (length (now rows)) (now ranks) × Room at len (now out) ⌝ }
-    ensures { λ _. ⌜ now (out .exit) ≡ laid at (compose (listed len (now (rows .entry))) (listed (length (now (rows .entry))) (now (ranks .entry)))) (now (out .entry)) ⌝ }
+pub fn lay_entry_at_rank(
+    rows: &[u32],
+    single: bool,
+    ranks: &[u32],
+    len: u64,
+    at: u64,
+    out: &mut [u64],
+)
+    requires { ⌜ Ascending 0 len (entries single (now rows)) × Ascending 0 (length (entries single (now rows))) (now ranks) × Room at len (now out) ⌝ }
+    ensures { λ _. ⌜ now (out .exit) ≡ laid at (compose (listed len (entries single (now (rows .entry))))
+        (listed (length (entries single (now (rows .entry)))) (now (ranks .entry)))) (now (out .entry)) ⌝ }
 {
     clear(out, at, len);
-    intersect_by_rank_indices(rows, ranks, len, at, out);
+    intersect_by_rank_indices(rows, single, ranks, len, at, out);
 }
 
 // Route 5.
-pub fn lay_entry_if_set(rows: &[u32], ranks: &[u64], from: u64, len: u64, at: u64, out: &mut [u64])
-    requires { ⌜ Ascending 0 len (now rows) × (length (now rows) ≤ 1048576) × (from + length (now rows) ≤ length (now ranks) * 64) × Room at len (now out) ⌝ }
-    ensures { λ _. ⌜ now (out .exit) ≡ laid at (compose (listed len (now (rows .entry))) (drop from (bitsOfAll 64 (now (ranks .entry))))) (now (out .entry)) ⌝ }
+pub fn lay_entry_if_set(
+    rows: &[u32],
+    single: bool,
+    ranks: &[u64],
+    from: u64,
+    len: u64,
+    at: u64,
+    out: &mut [u64],
+)
+    requires { ⌜ Ascending 0 len (entries single (now rows)) × (length (entries single (now rows)) ≤ 1048576)
+        × (from + length (entries single (now rows)) ≤ length (now ranks) * 64) × Room at len (now out) ⌝ }
+    ensures { λ _. ⌜ now (out .exit) ≡ laid at (compose (listed len (entries single (now (rows .entry)))) (drop from (bitsOfAll 64 (now (ranks .entry))))) (now (out .entry)) ⌝ }
 {
     clear(out, at, len);
-    intersect_indices_by_rank_bits(rows, ranks, from, len, at, out);
+    intersect_indices_by_rank_bits(rows, single, ranks, from, len, at, out);
 }
 
 // Route 6, a rank list.

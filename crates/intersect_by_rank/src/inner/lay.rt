@@ -19,7 +19,7 @@ ghost use Rattle.rules.specs.Answer.{answered};
 ghost use Rattle.rules.specs.Compose.{Paired, result, routed};
 ghost use Rattle.operand.specs.Flat.{hasRuns};
 ghost use Rattle.operand.specs.Counts.{Counts};
-ghost use Rattle.intersect_by_rank.specs.Fits.{Fits, InWords, keepsRuns};
+ghost use Rattle.intersect_by_rank.specs.Fits.{Fits, InWords, keepsRuns, hasLongRuns};
 use deposits::inner::intersect_bit_buffer_by_rank_indices;
 use deposits::inner::intersect_bit_buffers;
 use kept::inner::keep_words;
@@ -47,32 +47,51 @@ use rules::Factors;
 use rules::Form;
 use rules::Route;
 
+// Runs, of which one at least is longer than a row: they have more rows than they are. Runs of one row each are laid as a list is.
+fn has_long_runs(s: Form, count: u64, numbers: &[u32]) -> bool
+    ensures { λ b. ⌜ b ≡ hasLongRuns s count (now (numbers .entry)) ⌝ }
+{
+    if has_runs(s) {
+        let runs = numbers.len() as u64 / 2;
+        return count != runs;
+    }
+    false
+}
+
 // Route 4: self is a list, or runs, and the rank mask a list.
-fn lay_at_ranks(s: Form, srows: &[u32], rrows: &[u32], at: u64, out: &mut [u64])
-    requires { ⌜ Accepted (lent s [] (now srows)) × (countsAsList s ≡ true)
+fn lay_at_ranks(s: Form, count: u64, srows: &[u32], rrows: &[u32], at: u64, out: &mut [u64])
+    requires { ⌜ Accepted (lent s [] (now srows)) × (countsAsList s ≡ true) × (count ≡ countOf (lent s [] (now srows)))
         × Ascending 0 (countOf (lent s [] (now srows))) (now rrows) × Room at (lengthOf s) (now out) ⌝ }
     ensures { λ _. ⌜ now (out .exit) ≡ laid at (compose (rowsOf (lent s [] (now (srows .entry)))) (listed (countOf (lent s [] (now (srows .entry)))) (now (rrows .entry)))) (now (out .entry)) ⌝ }
 {
     let len = length_of(s);
-    if has_runs(s) {
+    if has_long_runs(s, count, srows) {
         lay_entries_in_runs(srows, rrows, len, at, out);
         return;
     }
-    lay_entry_at_rank(srows, rrows, len, at, out);
+    lay_entry_at_rank(srows, has_runs(s), rrows, len, at, out);
 }
 
 // Route 5: self is a list, or runs, and the rank mask words.
-fn lay_if_set(s: Form, srows: &[u32], rwords: &[u64], from: u64, at: u64, out: &mut [u64])
-    requires { ⌜ Accepted (lent s [] (now srows)) × (countsAsList s ≡ true) × (from ≤ 63)
+fn lay_if_set(
+    s: Form,
+    count: u64,
+    srows: &[u32],
+    rwords: &[u64],
+    from: u64,
+    at: u64,
+    out: &mut [u64],
+)
+    requires { ⌜ Accepted (lent s [] (now srows)) × (countsAsList s ≡ true) × (count ≡ countOf (lent s [] (now srows))) × (from ≤ 63)
         × (from + countOf (lent s [] (now srows)) ≤ length (now rwords) * 64) × Room at (lengthOf s) (now out) ⌝ }
     ensures { λ _. ⌜ now (out .exit) ≡ laid at (compose (rowsOf (lent s [] (now (srows .entry)))) (drop from (bitsOfAll 64 (now (rwords .entry))))) (now (out .entry)) ⌝ }
 {
     let len = length_of(s);
-    if has_runs(s) {
+    if has_long_runs(s, count, srows) {
         lay_ranks_under_runs(srows, rwords, from, len, at, out);
         return;
     }
-    lay_entry_if_set(srows, rwords, from, len, at, out);
+    lay_entry_if_set(srows, has_runs(s), rwords, from, len, at, out);
 }
 
 // Route 6, for either form of the rank mask.
@@ -131,8 +150,8 @@ pub fn compose_at(
         Route::RankMask => lay_rows(r, rwords, rrows, at, out),
         Route::SelfMask => lay_rows(s, swords, srows, at, out),
         Route::NoRows => clear(out, at, len),
-        Route::EntryAtRank => lay_at_ranks(s, srows, rrows, at, out),
-        Route::EntryIfSet => lay_if_set(s, srows, rwords, from, at, out),
+        Route::EntryAtRank => lay_at_ranks(s, length_of(r), srows, rrows, at, out),
+        Route::EntryIfSet => lay_if_set(s, length_of(r), srows, rwords, from, at, out),
         Route::MaskDriven => lay_mask_driven(s, swords, srows, r, rwords, rrows, at, out),
         Route::Gathered(way) => intersect_bit_buffer_by_rank_indices(
             way,
@@ -174,27 +193,35 @@ fn keep_in_words(s: Form, swords: &[u64], srows: &[u32], rruns: &[u32], at: u64,
 }
 
 // Self is a list, or runs, and the rank mask runs.
-fn keep_in_list(s: Form, srows: &[u32], rruns: &[u32], at: u64, out: &mut [u64])
-    requires { ⌜ Accepted (lent s [] (now srows)) × (countsAsList s ≡ true)
+fn keep_in_list(s: Form, count: u64, srows: &[u32], rruns: &[u32], at: u64, out: &mut [u64])
+    requires { ⌜ Accepted (lent s [] (now srows)) × (countsAsList s ≡ true) × (count ≡ countOf (lent s [] (now srows)))
         × Apart 0 (countOf (lent s [] (now srows))) (now rruns) × Room at (lengthOf s) (now out) ⌝ }
     ensures { λ _. ⌜ now (out .exit) ≡ laid at (compose (rowsOf (lent s [] (now (srows .entry)))) (inRuns (countOf (lent s [] (now (srows .entry)))) (now (rruns .entry)))) (now (out .entry)) ⌝ }
 {
     let len = length_of(s);
-    if has_runs(s) {
+    if has_long_runs(s, count, srows) {
         lay_runs_in_runs(srows, rruns, len, at, out);
         return;
     }
-    lay_entries_by_runs(srows, rruns, len, at, out);
+    lay_entries_by_runs(srows, has_runs(s), rruns, len, at, out);
 }
 
 // The rank mask is runs: a kernel for each form of self.
-fn keep_ranks(s: Form, swords: &[u64], srows: &[u32], rruns: &[u32], at: u64, out: &mut [u64])
-    requires { ⌜ Accepted (lent s (now swords) (now srows)) × ((countsAsList s ≡ true) ⊎ InWords (lent s (now swords) (now srows)))
+fn keep_ranks(
+    s: Form,
+    count: u64,
+    swords: &[u64],
+    srows: &[u32],
+    rruns: &[u32],
+    at: u64,
+    out: &mut [u64],
+)
+    requires { ⌜ Accepted (lent s (now swords) (now srows)) × (count ≡ countOf (lent s (now swords) (now srows))) × ((countsAsList s ≡ true) ⊎ InWords (lent s (now swords) (now srows)))
         × Apart 0 (countOf (lent s (now swords) (now srows))) (now rruns) × Room at (lengthOf s) (now out) ⌝ }
     ensures { λ _. ⌜ now (out .exit) ≡ laid at (compose (rowsOf (lent s (now (swords .entry)) (now (srows .entry)))) (inRuns (countOf (lent s (now (swords .entry)) (now (srows .entry)))) (now (rruns .entry)))) (now (out .entry)) ⌝ }
 {
     if counts_as_list(s) {
-        keep_in_list(s, srows, rruns, at, out);
+        keep_in_list(s, count, srows, rruns, at, out);
         return;
     }
     keep_in_words(s, swords, srows, rruns, at, out);
@@ -217,7 +244,7 @@ fn lay_by_route(
     ensures { λ _. ⌜ now (out .exit) ≡ laid at (result (lent s (now (swords .entry)) (now (srows .entry))) (lent r (now (rwords .entry)) (now (rrows .entry)))) (now (out .entry)) ⌝ }
 {
     if keeps_runs(route, r) {
-        keep_ranks(s, swords, srows, rrows, at, out);
+        keep_ranks(s, length_of(r), swords, srows, rrows, at, out);
         return;
     }
     compose_at(route, s, swords, srows, r, rwords, rrows, at, out);

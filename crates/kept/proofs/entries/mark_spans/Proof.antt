@@ -12,6 +12,8 @@ use Rattle.rows.specs.Runs.{inRuns}
 use Rattle.rows.specs.Laid.{marked}
 use Rattle.rows.proofs.MarkLaws.{marked-length, ascending-below}
 use Rattle.rows.proofs.RunTurnLaws.{NextRun}
+use Rattle.marks.specs.Entries.{entries}
+use Rattle.marks.proofs.EntryLaws.{entries-few}
 use Rattle.kept.proofs.EntrySpanLaws.{
   Spanning,
   spanning-none,
@@ -25,11 +27,13 @@ use Rattle.kept.proofs.entries.mark_spans.Statement.{statement}
 use Rattle.kept.proofs.entries.mark_spans.Tie as tie
 
 abbrev Inv-loop : tie.InvT-loop
-Inv-loop rows ranks len at out₀ sum₀ i₀ out sum i =
-    (length out ≡ length out₀) × Spanning rows ranks at i sum out (marked at (setRows 0 (compose (listed len rows) (inRuns (length rows) ranks))) out₀)
+Inv-loop numbers single ranks len at out₀ sum₀ i₀ out sum i =
+    (length out ≡ length out₀)
+    × Spanning (entries single numbers) ranks at i sum out
+    (marked at (setRows 0 (compose (listed len (entries single numbers)) (inRuns (length (entries single numbers)) ranks))) out₀)
 
 abbrev μ-loop : tie.MeasureT-loop
-μ-loop rows ranks len at out₀ sum₀ i₀ out sum i = length ranks - i
+μ-loop numbers single ranks len at out₀ sum₀ i₀ out sum i = length ranks - i
 
 -- ---- the places, each from the one after it
 
@@ -55,7 +59,7 @@ back c = c .before .before
 
 module _ (c : tie.At-loop Inv-loop μ-loop) where
   abbrev rows : List ℕ
-  rows = now (start c .args .rows)
+  rows = entries (start c .args .single) (now (start c .args .rows))
 
   abbrev ranks : List ℕ
   ranks = now (start c .args .ranks)
@@ -89,8 +93,9 @@ module _ (c : tie.In-loop Inv-loop μ-loop) where
   few : head c .loop .sum + (past - first) < 2 ^ 64
   few =
       let h = head c in
-      omega
-      (arith, spanning-few (rows h) (ranks h) (s .args .at) i (h .loop .sum) (h .loop .out) (goal h) (h .loop .inv .1) (omega arith) (s .pre .1))
+      let all = entries-few (s .args .single) (now (s .args .rows)) in
+      let held = spanning-few (rows h) (ranks h) (s .args .at) i (h .loop .sum) (h .loop .out) (goal h) (h .loop .inv .1) (omega arith) (s .pre .1) in
+      omega (arith, held, all)
 
 -- ---- the answers
 
@@ -98,7 +103,7 @@ loop-holds : tie.Need-loop-holds Inv-loop μ-loop
 loop-holds c =
     let s = entry c in
     let a = s .args in
-    (refl, spanning-none (now (a .rows)) (now (a .ranks)) (a .at) (a .len) (now (a .out)) (s .pre .0) (s .pre .1))
+    (refl, spanning-none (entries (a .single) (now (a .rows))) (now (a .ranks)) (a .at) (a .len) (now (a .out)) (s .pre .0) (s .pre .1))
 
 mul-first : tie.Need-mul-first Inv-loop μ-loop
 mul-first c = omega arith

@@ -9,6 +9,7 @@ use Rattle.rows.specs.Lists.{member, listed, setRows}
 use Rattle.rows.specs.Runs.{inRuns}
 use Rattle.rows.specs.Laid.{marked}
 use Rattle.rows.proofs.ListLaws.{tab-length}
+use Rattle.marks.specs.Entries.{entries}
 use Rattle.marks.proofs.ListLaws.{marked-compose}
 use Rattle.kept.proofs.inner.lay_entries_by_runs.Statement.{statement}
 use Rattle.kept.proofs.inner.lay_entries_by_runs.Tie as tie
@@ -43,7 +44,7 @@ returns c =
     let m = marks c in
     let z = cleared (m .before) in
     let a = start z .args in
-    let rows = now (a .rows) in
+    let rows = entries (a .single) (now (a .rows)) in
     let self = listed (a .len) rows in
     let r = inRuns (length rows) (now (a .ranks)) in (
       m .mark-spans .ensures .0,

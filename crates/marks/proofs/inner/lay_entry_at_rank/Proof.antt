@@ -9,6 +9,7 @@ use Rattle.rows.specs.Lists.{listed, setRows, member}
 use Rattle.rows.specs.Laid.{marked}
 use Rattle.rows.proofs.ListLaws.{tab-length}
 use Rattle.rows.proofs.LaidLaws.{laid-length}
+use Rattle.marks.specs.Entries.{entries}
 use Rattle.marks.proofs.ListLaws.{marked-compose}
 use borrow.Author.Needs.{needs}
 use Rattle.marks.proofs.inner.lay_entry_at_rank.Statement.{statement}
@@ -49,10 +50,11 @@ returns c =
     let k = cleared (e .before) in
     let s = entry (k .before) in
     let a = s .args in
-    let self = listed (a .len) (now (a .rows)) in
-    let rank = listed (length (now (a .rows))) (now (a .ranks)) in
+    let rows = entries (a .single) (now (a .rows)) in
+    let self = listed (a .len) rows in
+    let rank = listed (length rows) (now (a .ranks)) in
     e .intersect-by-rank-indices .ensures ∙ ap (marked (a .at) (setRows 0 (compose self rank))) (k .clear .ensures)
-    ∙ marked-compose (a .at) (a .len) self rank (now (a .out)) (tab-length 0 (a .len) (λ i. member i (now (a .rows))))
+    ∙ marked-compose (a .at) (a .len) self rank (now (a .out)) (tab-length 0 (a .len) (λ i. member i rows))
 
 pub lay-entry-at-rank-spec : {M : Type 1} → statement M
 lay-entry-at-rank-spec =

@@ -10,6 +10,7 @@ use Rattle.rows.specs.Lists.{listed, setRows, member}
 use Rattle.rows.specs.Laid.{marked}
 use Rattle.rows.proofs.ListLaws.{tab-length}
 use Rattle.rows.proofs.LaidLaws.{laid-length}
+use Rattle.marks.specs.Entries.{entries}
 use Rattle.marks.proofs.ListLaws.{marked-compose}
 use borrow.Author.Needs.{needs}
 use Rattle.marks.proofs.inner.lay_entry_if_set.Statement.{statement}
@@ -50,10 +51,11 @@ returns c =
     let k = cleared (e .before) in
     let s = entry (k .before) in
     let a = s .args in
-    let self = listed (a .len) (now (a .rows)) in
+    let rows = entries (a .single) (now (a .rows)) in
+    let self = listed (a .len) rows in
     let rank = drop (a .from) (bitsOfAll 64 (now (a .ranks))) in
     e .intersect-indices-by-rank-bits .ensures ∙ ap (marked (a .at) (setRows 0 (compose self rank))) (k .clear .ensures)
-    ∙ marked-compose (a .at) (a .len) self rank (now (a .out)) (tab-length 0 (a .len) (λ i. member i (now (a .rows))))
+    ∙ marked-compose (a .at) (a .len) self rank (now (a .out)) (tab-length 0 (a .len) (λ i. member i rows))
 
 pub lay-entry-if-set-spec : {M : Type 1} → statement M
 lay-entry-if-set-spec =

@@ -14,18 +14,19 @@ use Rattle.rows.specs.Lists.{listed, setRows}
 use Rattle.rows.specs.Laid.{laid, marked}
 use Rattle.rows.proofs.LaidLaws.{laid-length}
 use Rattle.rows.proofs.MarkLaws.{marked-next, ascending-below, below-at}
+use Rattle.marks.specs.Entries.{entries}
 use Rattle.marks.proofs.ListLaws.{ranked-length, ranked-at}
 use borrow.Author.Needs.{needs}
 use Rattle.marks.proofs.lists.intersect_by_rank_indices.Statement.{statement}
 use Rattle.marks.proofs.lists.intersect_by_rank_indices.Tie as tie
 
 abbrev Inv-loop : tie.InvT-loop
-Inv-loop rows ranks len at out₀ i₀ out i =
+Inv-loop numbers single ranks len at out₀ i₀ out i =
     (i ≤ length ranks) × (length out ≡ length out₀)
-    × (out ≡ marked at (take i (setRows 0 (compose (listed len rows) (listed (length rows) ranks)))) out₀)
+    × (out ≡ marked at (take i (setRows 0 (compose (listed len (entries single numbers)) (listed (length (entries single numbers)) ranks)))) out₀)
 
 abbrev μ-loop : tie.MeasureT-loop
-μ-loop rows ranks len at out₀ i₀ out i = length ranks - i
+μ-loop numbers single ranks len at out₀ i₀ out i = length ranks - i
 
 -- ---- the places, each from the one after it
 
@@ -54,7 +55,7 @@ last c = c .before
 
 module _ (c : tie.Start Inv-loop μ-loop) where
   abbrev rows : List ℕ
-  rows = now (c .args .rows)
+  rows = entries (c .args .single) (now (c .args .rows))
 
   abbrev ranks : List ℕ
   ranks = now (c .args .ranks)

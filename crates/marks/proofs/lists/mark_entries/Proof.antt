@@ -19,17 +19,19 @@ use Rattle.rows.proofs.MarkLaws.{below-at}
 use Rattle.rows.proofs.ClearLaws.{rows-low, count-low}
 use Rattle.rows.proofs.PartLaws.{rows-zero}
 use borrow.Author.Needs.{needs}
+use Rattle.marks.specs.Entries.{entries}
+use Rattle.marks.proofs.EntryLaws.{entries-few}
 use Rattle.marks.proofs.lists.mark_entries.Statement.{statement}
 use Rattle.marks.proofs.lists.mark_entries.Tie as tie
 
 abbrev Inv-loop : tie.InvT-loop
-Inv-loop rows len chunk base at out₀ rest₀ out rest =
-    (rest < 2 ^ 64) × (length out ≡ length out₀) × Below (length rows) (setRows (base .0) (bitsOf 64 rest))
-    × (marked at (map (λ k. getD rows k 0) (setRows (base .0) (bitsOf 64 rest))) out
-    ≡ marked at (map (λ k. getD rows k 0) (setRows (base .0) (bitsOf 64 chunk))) out₀)
+Inv-loop numbers single len chunk base at out₀ rest₀ out rest =
+    (rest < 2 ^ 64) × (length out ≡ length out₀) × Below (length (entries single numbers)) (setRows (base .0) (bitsOf 64 rest))
+    × (marked at (map (λ k. getD (entries single numbers) k 0) (setRows (base .0) (bitsOf 64 rest))) out
+    ≡ marked at (map (λ k. getD (entries single numbers) k 0) (setRows (base .0) (bitsOf 64 chunk))) out₀)
 
 abbrev μ-loop : tie.MeasureT-loop
-μ-loop rows len chunk base at out₀ rest₀ out rest = count (bitsOf 64 rest)
+μ-loop numbers single len chunk base at out₀ rest₀ out rest = count (bitsOf 64 rest)
 
 -- ---- the places, each from the one after it
 
@@ -61,7 +63,7 @@ last c = c .before
 
 module _ (c : tie.In-loop Inv-loop μ-loop) where
   abbrev rows : List ℕ
-  rows = now (start c .args .rows)
+  rows = entries (start c .args .single) (now (start c .args .rows))
 
   abbrev base : ℕ
   base = start c .args .base .0
@@ -93,7 +95,10 @@ cast-bit : tie.Need-cast-bit Inv-loop μ-loop
 cast-bit c = omega (arith, trailing-le 64 (rest c))
 
 add-rest : tie.Need-add-rest Inv-loop μ-loop
-add-rest c = omega (arith, below (turn c) .0, lent (head (turn c) .before) .shared-slice-known .given 0)
+add-rest c =
+    let t = turn c in
+    let few = entries-few (start t .args .single) (now (start t .args .rows)) in
+    omega (arith, below t .0, few, lent (head t .before) .shared-slice-known .given 0)
 
 entry-at-requires : tie.Need-entry-at-requires Inv-loop μ-loop
 entry-at-requires c κs = below (turn c) .0
@@ -136,7 +141,7 @@ returns c =
     let l = last c .loop in
     let a = entry (last c .before) .args in
     let b = a .base .0 in
-    let f : ℕ → ℕ = λ k. getD (now (a .rows)) k 0 in
+    let f : ℕ → ℕ = λ k. getD (entries (a .single) (now (a .rows))) k 0 in
     let none : setRows b (bitsOf 64 (l .rest)) ≡ [] = ap (λ (x : ℕ). setRows b (bitsOf 64 x)) (c .loop-test .left) ∙ rows-zero b 64 in
     sym (ap (λ (rs : List ℕ). marked (a .at) (map f rs) (l .out)) none) ∙ l .inv .3
 

@@ -266,20 +266,29 @@ clear-requires c κs = room (no-rows (c .before))
 enum-told-4 : tie.Need-enum-told-4
 enum-told-4 c = search needs
 
+length-of-requires-2 : tie.Need-length-of-requires-2
+length-of-requires-2 c κs = search needs
+
 lay-at-ranks-requires : tie.Need-lay-at-ranks-requires
 lay-at-ranks-requires c κs =
-    let q = at-rank (c .before) in
-    let f = fits-at-rank (c .before) in
-    (alone-accepted (s q) (r q) (both q) (f .0), f .0, alone-ranks (s q) (r q) (both q) (f .0) (f .1), start q .pre .2)
+    let held = c .before in
+    let q = at-rank (held .before) in
+    let f = fits-at-rank (held .before) in
+    (alone-accepted (s q) (r q) (both q) (f .0), f .0, omega (arith, held .length-of2 .ensures, both q .ranks), alone-ranks (s q) (r q) (both q) (f .0) (f .1), start q .pre .2)
 
 enum-told-5 : tie.Need-enum-told-5
 enum-told-5 c = search needs
 
+length-of-requires-3 : tie.Need-length-of-requires-3
+length-of-requires-3 c κs = search needs
+
 lay-if-set-requires : tie.Need-lay-if-set-requires
 lay-if-set-requires c κs =
-    let q = if-set (c .before) in
-    let f = fits-if-set (c .before) in
-    (alone-accepted (s q) (r q) (both q) (f .0), f .0, reach q (f .0) (f .1) .0, reach q (f .0) (f .1) .1, start q .pre .2)
+    let held = c .before in
+    let q = if-set (held .before) in
+    let f = fits-if-set (held .before) in
+    let count : held .length-of3 .result ≡ countOf (alone q) = omega (arith, held .length-of3 .ensures, both q .ranks) in
+    (alone-accepted (s q) (r q) (both q) (f .0), f .0, count, reach q (f .0) (f .1) .0, reach q (f .0) (f .1) .1, start q .pre .2)
 
 enum-told-6 : tie.Need-enum-told-6
 enum-told-6 c = search needs
@@ -345,7 +354,7 @@ same-length-4 c = search needs
 returns-4 : tie.Need-returns-4
 returns-4 c =
     let gave = at-rank-laid c in
-    let told = gave .before .before in
+    let told = gave .before .before .before in
     let q = at-rank told in
     laid-as (start q) (rows-at-rank q) (gave .lay-at-ranks .ensures) (alone-listed (s q) (r q) (both q) (fits-at-rank told .0) (fits-at-rank told .1))
 
@@ -355,7 +364,7 @@ same-length-5 c = search needs
 returns-5 : tie.Need-returns-5
 returns-5 c =
     let gave = if-set-laid c in
-    let told = gave .before .before in
+    let told = gave .before .before .before in
     let q = if-set told in
     laid-as (start q) (rows-if-set q) (gave .lay-if-set .ensures) (by-bit q (fits-if-set told .0) (fits-if-set told .1))
 
@@ -401,8 +410,10 @@ compose-at-spec =
     enum-told-3
     clear-requires
     enum-told-4
+    length-of-requires-2
     lay-at-ranks-requires
     enum-told-5
+    length-of-requires-3
     lay-if-set-requires
     enum-told-6
     lay-mask-driven-requires

@@ -36,7 +36,7 @@ keep-in-list-requires : tie.Need-keep-in-list-requires
 keep-in-list-requires c κs =
     let t = c .before in
     let s = start (t .before) in
-    (bare-accepted (self s) (listed t) (s .pre .0), listed t, s .pre .2, s .pre .3)
+    (bare-accepted (self s) (listed t) (s .pre .0), listed t, s .pre .1, s .pre .3, s .pre .4)
 
 same-length : tie.Need-same-length
 same-length c = search needs
@@ -53,7 +53,7 @@ keep-in-words-requires : tie.Need-keep-in-words-requires
 keep-in-words-requires c κs =
     let e = c .before in
     let s = start (e .before) in
-    (s .pre .0, self-in-words (self s) (s .pre .1) (sym (e .before .counts-as-list .ensures) ∙ e .if1 .left), s .pre .2, s .pre .3)
+    (s .pre .0, self-in-words (self s) (s .pre .2) (sym (e .before .counts-as-list .ensures) ∙ e .if1 .left), s .pre .3, s .pre .4)
 
 same-length-2 : tie.Need-same-length-2
 same-length-2 c = search needs

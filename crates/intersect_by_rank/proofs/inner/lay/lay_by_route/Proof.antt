@@ -3,6 +3,7 @@
 use mathlib.Core.Path.{_≡_, sym, ap, _∙_}
 use mathlib.Core.Bool.{Bool, true, false}
 use mathlib.Core.List.{List}
+use native.Mathlib.Omega.{arith}
 use denote.Ref.{now}
 use borrow.Author.Needs.{needs}
 use Rattle.rows.specs.Laid.{laid}
@@ -48,12 +49,16 @@ module _ (c : tie.Then1) where
 keeps-runs-requires : tie.Need-keeps-runs-requires
 keeps-runs-requires c κs = search needs
 
+length-of-requires : tie.Need-length-of-requires
+length-of-requires c κs = search needs
+
 keep-ranks-requires : tie.Need-keep-ranks-requires
 keep-ranks-requires c κs =
-    let t = c .before in
+    let held = c .before in
+    let t = held .before in
     let p = s t .pre in
     let form = kept-self (s t .args .route) (self (s t)) (rank (s t)) (told t) (p .1) in
-    (p .0 .self, form, runs-apart (self (s t)) (rank (s t)) (p .0) (keeping t), p .2)
+    (p .0 .self, omega (arith, held .length-of .ensures, p .0 .ranks), form, runs-apart (self (s t)) (rank (s t)) (p .0) (keeping t), p .2)
 
 same-length : tie.Need-same-length
 same-length c = search needs
@@ -61,7 +66,7 @@ same-length c = search needs
 returns : tie.Need-returns
 returns c =
     let k = c .before .before in
-    let t = k .before .before in
+    let t = k .before .before .before in
     let a = s t .args in
     k .keep-ranks .ensures
     ∙ ap (λ (z : List Bool). laid (a .at) z (now (a .out))) (runs-kept (self (s t)) (rank (s t)) (s t .pre .0) (keeping t))
@@ -83,6 +88,7 @@ lay-by-route-spec =
     tie.close
     (tie.spec
     keeps-runs-requires
+    length-of-requires
     keep-ranks-requires
     same-length
     returns
