@@ -154,19 +154,19 @@ pub fn write_list_turns(rows: &[u32], len: u64, out: &mut [u32])
     out[k] = past;
 }
 
-// How many rows runs of a mask have. A loop with no way out is made of vectors.
+// How many rows runs of a mask have: no more than the mask, so that 32 bits hold the sum. A loop with no way out is made of vectors.
 pub fn sum_runs(runs: &[u32]) -> u64
     requires { ⌜ Apart 0 1048576 (now runs) ⌝ }
     ensures { λ r. ⌜ r ≡ runLengths (now (runs .entry)) ⌝ }
 {
-    let mut sum: u64 = 0;
+    let mut sum: u32 = 0;
     let mut i: usize = 0;
     while i < runs.len() {
-        let first = runs[i] as u64;
-        let past = runs[i + 1] as u64;
+        let first = runs[i];
+        let past = runs[i + 1];
         let held = past - first;
         sum += held;
         i += 2;
     }
-    sum
+    sum as u64
 }

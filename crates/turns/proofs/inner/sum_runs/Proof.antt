@@ -1,10 +1,13 @@
 -- `turns::inner::sum_runs` meets its contract.
 -- The invariant: the lengths of the runs before number i are summed. Assumes nothing.
 use Prim.Native.Nat.{ℕ, _+_, _-_, _≤_}
+use mathlib.Core.Path.{_≡_}
 use mathlib.Core.List.{List}
 use native.Mathlib.Omega.{arith}
 use lib.ListN.{length, getD}
 use denote.Ref.{now}
+use Rattle.rows.specs.Runs.{runLengths}
+use Rattle.rows.proofs.RunLaws.{runs-few}
 use Rattle.rows.proofs.RunTurnLaws.{NextRun}
 use Rattle.turns.proofs.SumLaws.{Summing, summing-none, summing-next, summing-few, summing-run, summing-all}
 use Rattle.turns.proofs.inner.sum_runs.Statement.{statement}
@@ -47,9 +50,6 @@ mul-first c = omega arith
 shared-slice-read-first : tie.Need-shared-slice-read-first Inv-loop μ-loop
 shared-slice-read-first c = omega arith
 
-cast-first : tie.Need-cast-first Inv-loop μ-loop
-cast-first c = omega (arith, c .shared-slice-known .given (c .before .before .loop .i))
-
 add-past : tie.Need-add-past Inv-loop μ-loop
 add-past c = omega (arith, next (c .before) .pair)
 
@@ -58,9 +58,6 @@ mul-past c = omega (arith, next (c .before) .pair)
 
 shared-slice-read-past : tie.Need-shared-slice-read-past Inv-loop μ-loop
 shared-slice-read-past c = next (both c) .pair
-
-cast-past : tie.Need-cast-past Inv-loop μ-loop
-cast-past c = omega (arith, c .shared-slice-known2 .given (head (both c) .loop .i + 1))
 
 sub-held : tie.Need-sub-held Inv-loop μ-loop
 sub-held c = omega (arith, next (both c) .some)
@@ -79,10 +76,20 @@ loop-again c =
     let h = head (both c) in
     summing-run (runs (both c)) (h .loop .i) (h .loop .sum) (h .loop .inv) (omega arith)
 
-returns : tie.Need-returns Inv-loop μ-loop
-returns c =
+-- ---- all summed
+
+all : (c : tie.After-loop Inv-loop μ-loop) → c .before .loop .sum ≡ runLengths (now (c .before .before .args .runs))
+all c =
     let l = c .before .loop in
     summing-all (now (c .before .before .args .runs)) (l .i) (l .sum) (l .inv) (omega arith)
+
+cast-result : tie.Need-cast-result Inv-loop μ-loop
+cast-result c =
+    let s = c .before .before in
+    omega (arith, all c, runs-few 0 1048576 (now (s .args .runs)) (s .pre) (omega arith))
+
+returns : tie.Need-returns Inv-loop μ-loop
+returns c = all c
 
 pub sum-runs-spec : {M : Type 1} → statement M
 sum-runs-spec =
@@ -93,14 +100,13 @@ sum-runs-spec =
     loop-holds
     mul-first
     shared-slice-read-first
-    cast-first
     add-past
     mul-past
     shared-slice-read-past
-    cast-past
     sub-held
     add-sum
     add-i
     loop-less
     loop-again
+    cast-result
     returns)
