@@ -39,6 +39,7 @@ module _ (o : Operand) (count : ℕ) (well : Accepted o) where
       by : (b x : Bool) → (b && x) ≡ true → b ≡ true
       by true x f = refl
       by false x f = absurd (false≢true f)
+
       has : hasRuns (o .form) ≡ true
       has = by (hasRuns (o .form)) (not (eqb count runs)) e
 

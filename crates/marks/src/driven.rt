@@ -4,6 +4,7 @@ ghost use mathlib.Core.Bool.{true};
 ghost use mathlib.Core.List.{[], _∷_, map};
 ghost use Prim.Native.Nat.{_+_, _*_, _≤_, _<_};
 ghost use lib.ListN.{length};
+ghost use lib.Count.{ones};
 ghost use denote.Ref.{now};
 ghost use Rattle.rows.specs.Rows.{count, compose};
 ghost use Rattle.rows.specs.Word.{bitsOf};
@@ -39,13 +40,31 @@ pub fn seek(words: &[u64], start: u64, len: u64, from: Place, rank: Rank) -> Pla
     }
 }
 
+// Which bit of a chunk has a rank that it holds. Where no row is unset it is the rank itself, and the first two are reached at once; a thin mask and
+// a dense one have mostly these.
+fn bit_in(chunk: u64, rank: u32) -> u32
+    requires { ⌜ rank < ones chunk ⌝ }
+    ensures { λ r. ⌜ r ≡ select (bitsOf 64 chunk) rank ⌝ }
+{
+    if chunk == 0xffff_ffff_ffff_ffffu64 {
+        return rank;
+    }
+    if rank == 0 {
+        return u64::trailing_zeros(chunk);
+    }
+    if rank == 1 {
+        return u64::trailing_zeros(chunk & (chunk - 1));
+    }
+    select_bit_position(chunk, rank)
+}
+
 // The row of a rank that the chunk at the place holds.
 pub fn row_in(words: &[u64], start: u64, len: u64, place: Place, rank: Rank) -> Row
     requires { ⌜ HasRows start len (now words) × Holds (view start len (now words)) place rank ⌝ }
     ensures { λ r. ⌜ r .0 ≡ select (view start len (now (words .entry))) (rank .0) ⌝ }
 {
     let left = (rank.0 - place.passed.0) as u32;
-    let bit = select_bit_position(self_chunk(words, start, len, place.done), left);
+    let bit = bit_in(self_chunk(words, start, len, place.done), left);
     Row(place.done.0 + bit as u64)
 }
 

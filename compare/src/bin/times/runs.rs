@@ -26,6 +26,7 @@ const WORDS_OUT: usize = (LIMIT / 64) as usize;
 
 pub fn fill(table: &mut Table) {
     compositions(table);
+    lists(table);
     short_rank_runs(table);
     conversions_to_words(table);
     runs_of_one_row(table);
@@ -37,6 +38,7 @@ fn described(rows: &Rows, form: u64) -> String {
     let density = rows.count() as f64 / rows.length as f64;
     match form {
         RUNS => format!("{}, {density:.2}", counted_runs(rows)),
+        LIST => format!("list, {density:.2}"),
         _ => format!("words, {density:.2}"),
     }
 }
@@ -65,6 +67,25 @@ fn compositions(table: &mut Table) {
         }
         let ranks = Rows::of_runs(own.count(), runs, LONG, &mut random);
         beside_words(table, [&own, &ranks], [RUNS, RUNS]);
+    }
+}
+
+fn lists(table: &mut Table) {
+    let mut random = Random::new(1, "runs and lists");
+    for runs in COUNTS {
+        let own = Rows::of_runs(LIMIT, runs, LONG, &mut random);
+        for density in [0.01, 0.1, 0.5, 0.9] {
+            let ranks = Rows::scattered(own.count(), density, &mut random);
+            beside_words(table, [&own, &ranks], [RUNS, LIST]);
+            composition(table, [&own, &ranks], [RUNS, LIST], [WORDS, LIST], "self in words", 1.0);
+        }
+        for density in [0.01, 0.02, 0.1, 0.9, 0.99] {
+            let own = Rows::scattered(LIMIT, density, &mut random);
+            let ranks = Rows::of_runs(own.count(), runs, LONG, &mut random);
+            beside_words(table, [&own, &ranks], [LIST, RUNS]);
+            composition(table, [&own, &ranks], [LIST, RUNS], [LIST, WORDS], "ranks in words", 1.0);
+            beside_words(table, [&own, &ranks], [WORDS, RUNS]);
+        }
     }
 }
 
