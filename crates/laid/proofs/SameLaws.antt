@@ -1,5 +1,5 @@
--- The same bit laid in whole words: what a loop of one store keeps, with a law for no word and a law for one word more; and the low bits of a word
--- whose bits are all the same. One law for either bit.
+-- The same bit laid in whole words: what a loop of one store keeps, with a law for no word and a law for one word more; the same bit laid again, over
+-- its end; and the low bits of a word whose bits are all the same. One law for either bit.
 -- Assumes nothing.
 use Prim.Native.Nat.{ℕ, zero, suc, _+_, _-_, _*_, _^_, _≤_, _<_}
 use native.Mathlib.Nat.{le-of-suc-le-suc}
@@ -7,12 +7,14 @@ use mathlib.Core.Path.{_≡_, refl, sym, ap, _∙_}
 use mathlib.Core.Bool.{Bool}
 use mathlib.Core.List.{List, _∷_}
 use native.Mathlib.Omega.{arith}
-use lib.ListN.{length, take, set, replicate, length-set}
+use lib.ListN.{length, take, set, replicate, length-set, length-replicate}
+use Rattle.rows.specs.Rows.{splice}
 use Rattle.rows.specs.Word.{bitsOf}
 use Rattle.rows.specs.Words.{Below}
-use Rattle.rows.specs.Laid.{laid}
+use Rattle.rows.specs.Laid.{laidIn, laid}
 use Rattle.rows.proofs.FitLaws.{take-bits}
 use Rattle.rows.proofs.LaidLaws.{below-set, laid-nil, laid-same, laid-word}
+use Rattle.rows.proofs.MarkLaws.{laid-within}
 
 take-same : (n w : ℕ) (b : Bool) → n ≤ w → take n (replicate w b) ≡ replicate n b
 take-same zero w b h = refl
@@ -47,3 +49,28 @@ filled-word b v first i out₀ out h e le f =
           laid-word 64 i v out h (f .small) ∙ ap (λ (z : List Bool). laid (i * 64) z out) e ∙ ap (laid (i * 64) (replicate 64 b)) (f .filled)
           ∙ laid-same 64 (first * 64) (i * 64) done 64 b out₀ place ∙ ap (λ (x : ℕ). laid (first * 64) (replicate x b) out₀) more;
     }
+
+-- the same bit over the same bits changes none
+splice-same : (at n k : ℕ) (b : Bool) → splice at (replicate n b) (replicate k b) ≡ replicate n b
+splice-same zero zero k b = refl
+splice-same zero (suc n) zero b = refl
+splice-same zero (suc n) (suc k) b = ap (λ (l : List Bool). b ∷ l) (splice-same zero n k b)
+splice-same (suc at) zero k b = refl
+splice-same (suc at) (suc n) k b = ap (λ (l : List Bool). b ∷ l) (splice-same at n k b)
+
+-- the same bit n times, and then m times from within those, or from their end, to their end or past it
+pub laid-again : (w at next j n m : ℕ) (b : Bool) (ns : List ℕ) → next ≡ at + j → j ≤ n → n ≤ j + m
+    → laidIn w next (replicate m b) (laidIn w at (replicate n b) ns) ≡ laidIn w at (replicate (j + m) b) ns
+laid-again w at next j n m b ns e from to =
+    let once : List ℕ = laidIn w at (replicate n b) ns in
+    let again : ℕ = n - j in
+    let past : ℕ = j + m - n in
+    let parts : m ≡ again + past = omega arith in
+    let all : n + past ≡ j + m = omega arith in
+    let within : j + length (replicate again b) ≤ length (replicate n b) = omega (arith, length-replicate again b, length-replicate n b) in
+    let same : laidIn w next (replicate again b) once ≡ once =
+    ap (λ (x : ℕ). laidIn w x (replicate again b) once) e ∙ laid-within w at j (replicate n b) (replicate again b) ns within
+    ∙ ap (λ (l : List Bool). laidIn w at l ns) (splice-same j n again b) in
+    ap (λ (x : ℕ). laidIn w next (replicate x b) once) parts ∙ sym (laid-same w next (at + n) again past b once (omega arith))
+    ∙ ap (laidIn w (at + n) (replicate past b)) same ∙ laid-same w at (at + n) n past b ns refl
+    ∙ ap (λ (x : ℕ). laidIn w at (replicate x b) ns) all

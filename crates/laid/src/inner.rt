@@ -63,7 +63,7 @@ fn clear_words(out: &mut [u64], first: usize, end: usize)
 }
 
 // The same with every bit set. What is stored is written out in each of the two, for only then it is made a fill of memory.
-fn fill_words(out: &mut [u64], first: usize, end: usize)
+fn fill_many(out: &mut [u64], first: usize, end: usize)
     requires { ⌜ (first ≤ end) × (end ≤ length (now out)) × Below (2 ^ 64) (now out) ⌝ }
     ensures { λ _. ⌜ now (out .exit) ≡ laid (first * 64) (replicate ((end - first) * 64) true) (now (out .entry)) ⌝ }
 {
@@ -72,6 +72,32 @@ fn fill_words(out: &mut [u64], first: usize, end: usize)
         out[i] = 0xffff_ffff_ffff_ffffu64;
         i += 1;
     }
+}
+
+// Four words with every bit set.
+fn fill_four(out: &mut [u64], i: usize)
+    requires { ⌜ (i + 4 ≤ length (now out)) × Below (2 ^ 64) (now out) ⌝ }
+    ensures { λ _. ⌜ now (out .exit) ≡ laid (i * 64) (replicate 256 true) (now (out .entry)) ⌝ }
+{
+    out[i] = 0xffff_ffff_ffff_ffffu64;
+    out[i + 1] = 0xffff_ffff_ffff_ffffu64;
+    out[i + 2] = 0xffff_ffff_ffff_ffffu64;
+    out[i + 3] = 0xffff_ffff_ffff_ffffu64;
+}
+
+// The words from first to end with every bit set. Four to eight are stored here, the first four and the last four, which may overlap: a run's
+// inside is often so short that the call which fills memory costs more than the stores.
+fn fill_words(out: &mut [u64], first: usize, end: usize)
+    requires { ⌜ (first ≤ end) × (end ≤ length (now out)) × Below (2 ^ 64) (now out) ⌝ }
+    ensures { λ _. ⌜ now (out .exit) ≡ laid (first * 64) (replicate ((end - first) * 64) true) (now (out .entry)) ⌝ }
+{
+    let n = end - first;
+    if n < 4 || n > 8 {
+        fill_many(out, first, end);
+        return;
+    }
+    fill_four(out, first);
+    fill_four(out, end - 4);
 }
 
 // The words from first to end, of one bit.

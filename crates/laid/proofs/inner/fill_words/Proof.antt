@@ -1,66 +1,87 @@
--- `laid::inner::fill_words` meets its contract.
--- The invariant: the words before `i` are laid with ones; a turn lays a word more. Assumes nothing.
-use Prim.Native.Nat.{ℕ, _-_, _*_, _^_, _≤_}
+-- `laid::inner::fill_words` meets its contract: by the loop, or by the first four words and the last four.
+-- By the law of the same bit laid again, over its end. Assumes nothing.
+use Prim.Native.Nat.{ℕ, _+_, _-_, _*_, _^_, _≤_}
 use mathlib.Core.Path.{_≡_, ap, _∙_}
 use mathlib.Core.Bool.{true}
 use native.Mathlib.Omega.{arith}
 use lib.ListN.{replicate}
 use denote.Ref.{now}
 use borrow.Author.Needs.{needs}
+use borrow.Author.Tests.{ltb-false}
 use Rattle.rows.specs.Laid.{laid}
-use Rattle.laid.proofs.LayLaws.{ones-bits}
-use Rattle.laid.proofs.SameLaws.{Filled, filled-none, filled-word}
+use Rattle.rows.proofs.LaidLaws.{below-all}
+use Rattle.laid.proofs.SameLaws.{laid-again}
 use Rattle.laid.proofs.inner.fill_words.Statement.{statement}
 use Rattle.laid.proofs.inner.fill_words.Tie as tie
 
-abbrev Inv-loop : tie.InvT-loop
-Inv-loop out₀ first end i₀ out i = (first ≤ i) × (i ≤ end) × Filled true first i out₀ out
+-- ---- the places, each from the one after it
 
-abbrev μ-loop : tie.MeasureT-loop
-μ-loop out₀ first end i₀ out i = end - i
+abbrev start : tie.Else2 → tie.Start
+start c = c .before .before .before
 
-loop-holds : tie.Need-loop-holds Inv-loop μ-loop
-loop-holds c = (omega arith, omega arith, filled-none true (c .args .first) (now (c .args .out)) (c .pre .2))
+abbrev short : tie.After-fill-four → tie.Else2
+short c = c .before .before
 
-mul-out : tie.Need-mul-out Inv-loop μ-loop
-mul-out c = search needs
+abbrev front : tie.After-fill-four-arg2 → tie.After-fill-four
+front c = c .before .before .before
 
-slice-write-out : tie.Need-slice-write-out Inv-loop μ-loop
-slice-write-out c = omega (arith, c .before .loop .inv .2 .long)
+abbrev back : tie.After-slice-known4 → tie.After-fill-four2
+back c = c .before .before
 
-add-i : tie.Need-add-i Inv-loop μ-loop
-add-i c = search needs
+-- ---- what the second test tells: the last four words begin within the first four, or at their end
 
-loop-less : tie.Need-loop-less Inv-loop μ-loop
-loop-less c = search needs
+few : (c : tie.Else2) → start c .args .end - start c .args .first ≤ 8
+few c = ltb-false 8 (start c .args .end - start c .args .first) (c .if2 .left)
 
-loop-again : tie.Need-loop-again Inv-loop μ-loop
-loop-again c =
-    let a = c .before .before .args in
-    let l = c .before .loop in
-    (omega arith, omega arith, filled-word true (2 ^ 64 - 1) (a .first) (l .i) (now (a .out)) (l .out) (omega arith) (ones-bits 64) (omega arith) (l .inv .2))
+-- ---- the answers
 
-same-length : tie.Need-same-length Inv-loop μ-loop
+sub-n : tie.Need-sub-n
+sub-n c = search needs
+
+fill-many-requires : tie.Need-fill-many-requires
+fill-many-requires c κs = search needs
+
+same-length : tie.Need-same-length
 same-length c = search needs
 
-returns : tie.Need-returns Inv-loop μ-loop
-returns c =
-    let a = c .before .before .args in
-    let l = c .before .loop in
-    let all : l .i ≡ a .end = omega arith in
-    l .inv .2 .filled ∙ ap (λ (x : ℕ). laid (a .first * 64) (replicate ((x - a .first) * 64) true) (now (a .out))) all
+returns : tie.Need-returns
+returns c = search needs
+
+fill-four-requires : tie.Need-fill-four-requires
+fill-four-requires c κs = search needs
+
+sub-fill-four : tie.Need-sub-fill-four
+sub-fill-four c = search needs
+
+fill-four-requires-2 : tie.Need-fill-four-requires-2
+fill-four-requires-2 c κs = (omega arith, below-all (2 ^ 64) (front c .fill-four .last .0) (λ i. c .before .slice-known3 .given i .fits))
+
+same-length-2 : tie.Need-same-length-2
+same-length-2 c = search needs
+
+returns-2 : tie.Need-returns-2
+returns-2 c =
+    let last = back c in
+    let first = front (last .before) in
+    let a = start (short first) .args in
+    let from : ℕ = a .first * 64 in
+    let next : ℕ = (a .end - 4) * 64 in
+    let skipped : ℕ = next - from in
+    let all : skipped + 256 ≡ (a .end - a .first) * 64 = omega arith in
+    last .fill-four2 .ensures ∙ ap (laid next (replicate 256 true)) (first .fill-four .ensures)
+    ∙ laid-again 64 from next skipped 256 256 true (now (a .out)) (omega arith) (omega (arith, few (short first))) (omega arith)
+    ∙ ap (λ (x : ℕ). laid from (replicate x true) (now (a .out))) all
 
 pub fill-words-spec : {M : Type 1} → statement M
 fill-words-spec =
     tie.close
     (tie.spec
-    Inv-loop
-    μ-loop
-    loop-holds
-    mul-out
-    slice-write-out
-    add-i
-    loop-less
-    loop-again
+    sub-n
+    fill-many-requires
     same-length
-    returns)
+    returns
+    fill-four-requires
+    sub-fill-four
+    fill-four-requires-2
+    same-length-2
+    returns-2)

@@ -1,5 +1,5 @@
 -- `laid::inner::same_words` meets its contract: by the bit, the words are filled or cleared.
--- By the contracts of the two loops. Assumes nothing.
+-- By the contracts of the two. Assumes nothing.
 use Prim.Native.Nat.{_-_, _*_}
 use mathlib.Core.Path.{sym, ap, _∙_}
 use mathlib.Core.Bool.{Bool}
