@@ -12,11 +12,11 @@ use Rattle.rows.specs.Rows.{count, compose}
 use Rattle.rows.specs.Lists.{setRows}
 use Rattle.rows.specs.Runs.{held, inRuns, runLengths, Apart}
 use Rattle.rows.specs.Laid.{marked}
-use Rattle.rows.proofs.RowLaws.{compose-count, compose-empty}
-use Rattle.rows.proofs.ListLaws.{tab-length}
+use Rattle.rows.proofs.RowLaws.{count-le-length, compose-length, compose-empty}
+use Rattle.rows.proofs.ListLaws.{tab-length, rows-count}
 use Rattle.rows.proofs.PartLaws.{rows-append}
 use Rattle.rows.proofs.MarkLaws.{marked-append, marked-length}
-use Rattle.rows.proofs.RunLaws.{runRows, tab-add, in-runs, rows-sum, runs-few, runs-count, apart-wider}
+use Rattle.rows.proofs.RunLaws.{runRows, tab-add, in-runs, rows-sum, runs-few, apart-wider}
 use Rattle.rows.proofs.RunTurnLaws.{NextRun, next-run, rows-next, rows-none, lengths-next, lengths-none}
 use Rattle.rows.proofs.ComposeRunLaws.{compose-unset, compose-set}
 use Rattle.kept.specs.Windows.{window, Reached}
@@ -32,11 +32,12 @@ module _ (runs ranks : List ℕ) (len at : ℕ) where
   abbrev rest : ℕ → ℕ → ℕ → List ℕ
   rest done i rank = setRows done (compose (runRows done len (drop i runs)) (window rank (runLengths (drop i runs)) ranks))
 
-  pub record Composing (i rank next : ℕ) (out₀ out : List ℕ) : Type 0 where
+  pub record Composing (i rank next sum : ℕ) (out₀ out : List ℕ) : Type 0 where
     pub done : ℕ
     pub ahead : Apart done len (drop i runs)
     pub passed : rank + runLengths (drop i runs) ≡ runLengths runs
     pub reached : Reached ranks next rank
+    pub counted : sum + length (rest done i rank) ≡ length whole
     pub long : length out ≡ length out₀
     pub left : marked at (rest done i rank) out ≡ marked at whole out₀
 
@@ -47,17 +48,30 @@ module _ (runs ranks : List ℕ) (len at : ℕ) where
   pub ranks-apart : Apart 0 len runs → Apart 0 (runLengths runs) ranks → len ≤ 1048576 → Apart 0 1048576 ranks
   ranks-apart a b h = apart-wider 0 0 (runLengths runs) 1048576 ranks (omega arith) (omega (arith, ranks-few a)) b
 
-  pub composing-none : (out : List ℕ) → Apart 0 len runs → Apart 0 (runLengths runs) ranks → len ≤ 1048576 → Composing 0 0 0 out out
-  composing-none out a b h = record {
-    done = 0;
-    ahead = a;
-    passed = omega arith;
-    reached = record { ahead = ranks-apart a b h; behind = λ r k. refl };
-    long = refl;
-    left = ap (λ (s : List Bool). marked at (setRows 0 (compose s (inRuns (runLengths runs) ranks))) out) (sym (in-runs len runs a));
-  }
+  pub composing-none : (out : List ℕ) → Apart 0 len runs → Apart 0 (runLengths runs) ranks → len ≤ 1048576 → Composing 0 0 0 0 out out
+  composing-none out a b h =
+      let all : rest 0 0 0 ≡ whole = ap (λ (s : List Bool). setRows 0 (compose s (inRuns (runLengths runs) ranks))) (sym (in-runs len runs a)) in
+      record {
+        done = 0;
+        ahead = a;
+        passed = omega arith;
+        reached = record { ahead = ranks-apart a b h; behind = λ r k. refl };
+        counted = omega (arith, ap length all);
+        long = refl;
+        left = ap (λ (rs : List ℕ). marked at rs out) all;
+      }
 
-  module _ (i rank next : ℕ) (out₀ out : List ℕ) (c : Composing i rank next out₀ out) where
+  whole-count : length whole ≡ count (compose (inRuns len runs) (inRuns (runLengths runs) ranks))
+  whole-count = rows-count 0 (compose (inRuns len runs) (inRuns (runLengths runs) ranks))
+
+  -- no more than the rows
+  whole-few : length whole ≤ len
+  whole-few =
+      let laid-rows = compose (inRuns len runs) (inRuns (runLengths runs) ranks) in
+      omega
+      (arith, whole-count, count-le-length laid-rows, compose-length (inRuns len runs) (inRuns (runLengths runs) ranks), tab-length 0 len (λ i. held i runs))
+
+  module _ (i rank next sum : ℕ) (out₀ out : List ℕ) (c : Composing i rank next sum out₀ out) where
     pub composing-next : i < length runs → NextRun (c .done) len i runs
     composing-next h = next-run (c .done) len i runs h (c .ahead)
 
@@ -96,9 +110,18 @@ module _ (runs ranks : List ℕ) (len at : ℕ) where
           ∙ rows-append first under (compose left more)
           ∙ ap (λ (k : ℕ). setRows first under ++ setRows k (compose left more)) end
 
-      pub composing-run : (then : List ℕ) (then-next : ℕ) → Reached ranks then-next (rank + (past - first)) → then ≡ marked at (setRows first under) out
-          → Composing (i + 2) (rank + (past - first)) then-next out₀ then
-      composing-run then then-next reached t =
+      -- those under the run are counted
+      more : sum + count under + length (rest past (i + 2) (rank + (past - first))) ≡ length whole
+      more =
+          let left = rest past (i + 2) (rank + (past - first)) in
+          omega (arith, c .counted, ap length split, length-append (setRows first under) left, rows-count first under)
+
+      pub composing-sum : sum + count (window rank (past - first) ranks) ≤ len
+      composing-sum = omega (arith, more, whole-few)
+
+      pub composing-run : (then : List ℕ) (then-next set : ℕ) → Reached ranks then-next (rank + (past - first)) → set ≡ count under
+          → then ≡ marked at (setRows first under) out → Composing (i + 2) (rank + (past - first)) then-next (sum + set) out₀ then
+      composing-run then then-next set reached e t =
           let r = composing-next h in
           let left = rest past (i + 2) (rank + (past - first)) in
           record {
@@ -106,13 +129,15 @@ module _ (runs ranks : List ℕ) (len at : ℕ) where
             ahead = r .left;
             passed = omega (arith, c .passed, lengths-next (c .done) len i runs r);
             reached = reached;
+            counted = omega (arith, more, e);
             long = ap length t ∙ marked-length at (setRows first under) out ∙ c .long;
             left =
                 ap (marked at left) t ∙ sym (marked-append at (setRows first under) left out) ∙ ap (λ (rs : List ℕ). marked at rs out) (sym split) ∙ c .left;
           }
 
-    pub composing-all : length runs ≤ i → out ≡ marked at (setRows 0 (compose (inRuns len runs) (inRuns (runLengths runs) ranks))) out₀
-    composing-all h = ap (λ (rs : List ℕ). marked at rs out) (sym none) ∙ c .left
+    pub composing-all : length runs ≤ i → (sum ≡ count (compose (inRuns len runs) (inRuns (runLengths runs) ranks)))
+        × (out ≡ marked at (setRows 0 (compose (inRuns len runs) (inRuns (runLengths runs) ranks))) out₀)
+    composing-all h = (omega (arith, c .counted, ap length none, whole-count), ap (λ (rs : List ℕ). marked at rs out) (sym none) ∙ c .left)
       where
         none : rest (c .done) i rank ≡ []
         none =
@@ -121,10 +146,3 @@ module _ (runs ranks : List ℕ) (len at : ℕ) where
             let r = window rank (runLengths (drop i runs)) ranks in
             ap (λ (s : List Bool). setRows done (compose s r)) (rows-none done len i runs h)
             ∙ ap (setRows done) (compose-empty unset r (rows-sum done len [])) ∙ unset-rows done (length unset)
-
--- all rows of the rank mask are laid
-pub runs-in-count : (runs ranks : List ℕ) (len : ℕ) → Apart 0 len runs → Apart 0 (runLengths runs) ranks
-    → runLengths ranks ≡ count (compose (inRuns len runs) (inRuns (runLengths runs) ranks))
-runs-in-count runs ranks len a b =
-    let n : ℕ = runLengths runs in
-    sym (compose-count (inRuns len runs) (inRuns n ranks) (tab-length 0 n (λ i. held i ranks) ∙ sym (runs-count len runs a)) ∙ runs-count n ranks b)

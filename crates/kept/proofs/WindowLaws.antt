@@ -6,18 +6,19 @@ use mathlib.Core.Path.{_≡_, refl, sym, ap, ap₂, _∙_}
 use mathlib.Core.Bool.{Bool, true, false}
 use mathlib.Core.List.{List, [], _∷_, _++_}
 use native.Mathlib.Omega.{arith}
-use lib.ListN.{length, drop, getD, replicate, length-replicate, drop-of-length-le}
+use lib.ListN.{length, drop, getD, replicate, length-append, length-replicate, drop-of-length-le}
+use Rattle.rows.specs.Rows.{count}
 use Rattle.rows.specs.Lists.{tab, setRows}
 use Rattle.rows.specs.Runs.{held, Apart}
 use Rattle.rows.specs.Laid.{laid, marked}
+use Rattle.rows.proofs.RowLaws.{count-le-length}
+use Rattle.rows.proofs.ListLaws.{tab-length, rows-count}
 use Rattle.rows.proofs.MarkLaws.{marked-append, marked-length}
 use Rattle.rows.proofs.MarkRunLaws.{marked-run}
 use Rattle.rows.proofs.PartLaws.{rows-append}
 use Rattle.rows.proofs.RunLaws.{rowsFrom, held-below, held-first, held-past, tab-add, tab-all, apart-wider}
 use Rattle.rows.proofs.RunTurnLaws.{NextRun, next-run}
 use Rattle.kept.specs.Windows.{window, into, Reached}
-
--- ---- runs apart, within wider bounds
 
 -- ---- the set rows of unset rows, and of what follows them
 
@@ -39,6 +40,10 @@ ones-from b (suc n) = ap (λ (l : List ℕ). b ∷ l) (ones-from (suc b) n)
 
 pub ones-marked : (at b n : ℕ) (ws : List ℕ) → 0 < n → marked at (setRows b (replicate n true)) ws ≡ laid (at + b) (replicate n true) ws
 ones-marked at b n ws h = ap (λ (rs : List ℕ). marked at rs ws) (sym (ones-from b n)) ∙ marked-run at b n ws h
+
+pub ones-many : (b n : ℕ) → length (setRows b (replicate n true)) ≡ n
+ones-many b zero = refl
+ones-many b (suc n) = ap suc (ones-many (suc b) n)
 
 -- ---- a window in three parts
 
@@ -101,24 +106,31 @@ module _ (ranks : List ℕ) (rank n row at : ℕ) where
   abbrev rest : ℕ → List ℕ
   rest i = setRows row (window rank n (drop i ranks))
 
-  pub record Windowing (i : ℕ) (out₀ out : List ℕ) : Type 0 where
+  pub record Windowing (i sum : ℕ) (out₀ out : List ℕ) : Type 0 where
     pub from : ℕ
     pub ahead : Apart from 1048576 (drop i ranks)
     pub behind : (r : ℕ) → rank + n ≤ r → held r ranks ≡ held r (drop i ranks)
+    pub counted : sum + length (rest i) ≡ length whole
     pub long : length out ≡ length out₀
     pub left : marked at (rest i) out ≡ marked at whole out₀
 
-  pub windowing-none : (i : ℕ) (out : List ℕ) → Reached ranks i rank → Windowing i out out
-  windowing-none i out r = record {
-    from = 0;
-    ahead = r .ahead;
-    behind = λ k h. r .behind k (omega arith);
-    long = refl;
-    left = ap (λ (l : List Bool). marked at (setRows row l) out)
-        (sym (tab-in rank n (λ k. held k ranks) (λ k. held k (drop i ranks)) (λ k h m. r .behind k h)));
-  }
+  pub windowing-none : (i : ℕ) (out : List ℕ) → Reached ranks i rank → Windowing i 0 out out
+  windowing-none i out r =
+      let all : rest i ≡ whole =
+      ap (setRows row) (sym (tab-in rank n (λ k. held k ranks) (λ k. held k (drop i ranks)) (λ k h m. r .behind k h))) in
+      record {
+        from = 0;
+        ahead = r .ahead;
+        behind = λ k h. r .behind k (omega arith);
+        counted = omega (arith, ap length all);
+        long = refl;
+        left = ap (λ (rs : List ℕ). marked at rs out) all;
+      }
 
-  module _ (i : ℕ) (out₀ out : List ℕ) (w : Windowing i out₀ out) where
+  whole-count : length whole ≡ count (window rank n ranks)
+  whole-count = rows-count row (window rank n ranks)
+
+  module _ (i sum : ℕ) (out₀ out : List ℕ) (w : Windowing i sum out₀ out) where
     pub windowing-next : i < length ranks → NextRun (w .from) 1048576 i ranks
     windowing-next h = next-run (w .from) 1048576 i ranks h (w .ahead)
 
@@ -143,35 +155,48 @@ module _ (ranks : List ℕ) (rank n row at : ℕ) where
           let a : Apart (w .from) 1048576 (first ∷ past ∷ others) = rw (r .is) at (w .ahead) in
           ap (λ (ns : List ℕ). setRows row (window rank n ns)) (r .is) ∙ window-run row rank n (w .from) 1048576 first past others a
 
+      -- the run's are counted
+      more : sum + (into rank n past - into rank n first) + length (rest (i + 2)) ≡ length whole
+      more =
+          let own = into rank n past - into rank n first in
+          omega (arith, w .counted, ap length split, length-append part (rest (i + 2)), ones-many (row + into rank n first) own)
+
+      pub windowing-few : sum + (into rank n past - into rank n first) ≤ n
+      windowing-few =
+          omega (arith, more, whole-count, count-le-length (window rank n ranks), tab-length rank n (λ k. held k ranks))
+
       left-then : then ≡ marked at part out → marked at (rest (i + 2)) then ≡ marked at whole out₀
       left-then t =
           ap (marked at (rest (i + 2))) t ∙ sym (marked-append at part (rest (i + 2)) out) ∙ ap (λ (rs : List ℕ). marked at rs out) (sym split) ∙ w .left
 
       -- the window goes on behind the run
-      pub windowing-run : then ≡ marked at part out → past ≤ rank + n → Windowing (i + 2) out₀ then
-      windowing-run t k =
+      pub windowing-run : (set : ℕ) → set ≡ into rank n past - into rank n first → then ≡ marked at part out → past ≤ rank + n
+          → Windowing (i + 2) (sum + set) out₀ then
+      windowing-run set e t k =
           let r = windowing-next h in
           record {
             from = past;
             ahead = r .left;
             behind = λ m l. w .behind m l ∙ ap (held m) (r .is) ∙ held-past m first past (drop (i + 2) ranks) (omega arith);
+            counted = omega (arith, more, e);
             long = ap length t ∙ marked-length at part out ∙ w .long;
             left = left-then t;
           }
 
       -- it ends in the run, or before it
-      pub windowing-stop : then ≡ marked at part out → rank + n ≤ past
-          → Reached ranks i (rank + n) × (then ≡ marked at (setRows row (window rank n ranks)) out₀)
-      windowing-stop t k =
+      pub windowing-stop : (set : ℕ) → set ≡ into rank n past - into rank n first → then ≡ marked at part out → rank + n ≤ past
+          → Reached ranks i (rank + n) × (sum + set ≡ count (window rank n ranks)) × (then ≡ marked at (setRows row (window rank n ranks)) out₀)
+      windowing-stop set e t k =
           let r = windowing-next h in
           let none : rest (i + 2) ≡ [] =
           ap (setRows row) (window-below rank n past 1048576 (drop (i + 2) ranks) k (r .left)) ∙ unset-rows row n in
-          (reached, ap (λ (rs : List ℕ). marked at rs then) (sym none) ∙ left-then t)
+          (reached, omega (arith, more, e, ap length none, whole-count), ap (λ (rs : List ℕ). marked at rs then) (sym none) ∙ left-then t)
 
     -- no run is left
-    pub windowing-end : length ranks ≤ i → Reached ranks i (rank + n) × (out ≡ marked at (setRows row (window rank n ranks)) out₀)
+    pub windowing-end : length ranks ≤ i
+        → Reached ranks i (rank + n) × (sum ≡ count (window rank n ranks)) × (out ≡ marked at (setRows row (window rank n ranks)) out₀)
     windowing-end h =
         let none : rest i ≡ [] =
         ap (λ (ns : List ℕ). setRows row (window rank n ns)) (drop-of-length-le ranks {i = i} h)
         ∙ ap (setRows row) (window-below rank n (rank + n) 1048576 [] (omega arith) tt) ∙ unset-rows row n in
-        (reached, ap (λ (rs : List ℕ). marked at rs out) (sym none) ∙ w .left)
+        (reached, omega (arith, w .counted, ap length none, whole-count), ap (λ (rs : List ℕ). marked at rs out) (sym none) ∙ w .left)

@@ -20,7 +20,6 @@ use marks::inner::Place;
 use marks::inner::row_from;
 use rows::Rank;
 use rows::Row;
-use turns::inner::sum_runs;
 
 // Self in runs, the rank mask in words: each run takes as many rank bits as it has rows, and what is between is cleared.
 pub fn lay_ranks_under_runs(
@@ -68,8 +67,7 @@ pub fn lay_entries_in_runs(runs: &[u32], ranks: &[u32], len: u64, at: u64, out: 
     ranks.len() as u64
 }
 
-// Self and the rank mask in runs: that part of the output is cleared, and run by run the rows are marked whose ranks the rank mask has. It has no
-// rank past self's, so that all its rows are laid.
+// Self and the rank mask in runs: that part of the output is cleared, and run by run the rows are marked whose ranks the rank mask has.
 pub fn lay_runs_in_runs(runs: &[u32], ranks: &[u32], len: u64, at: u64, out: &mut [u64]) -> u64
     requires { ⌜ Apart 0 len (now runs) × Apart 0 (runLengths (now runs)) (now ranks) × (len ≤ 1048576) × Room at len (now out) ⌝ }
     ensures { λ r. ⌜ (r ≡ count (compose (inRuns len (now (runs .entry))) (inRuns (runLengths (now (runs .entry))) (now (ranks .entry)))))
@@ -77,8 +75,7 @@ pub fn lay_runs_in_runs(runs: &[u32], ranks: &[u32], len: u64, at: u64, out: &mu
         (inRuns (runLengths (now (runs .entry))) (now (ranks .entry)))) (now (out .entry))) ⌝ }
 {
     clear(out, at, len);
-    mark_runs(runs, ranks, len, at, out);
-    sum_runs(ranks)
+    mark_runs(runs, ranks, len, at, out)
 }
 
 // Self in words, the rank mask in runs; self's rows lie in the output already. Of each run the rows from its first rank to its last stay, and all

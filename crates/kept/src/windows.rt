@@ -5,7 +5,7 @@ ghost use mathlib.Core.Bool.{true};
 ghost use Prim.Native.Nat.{_+_, _-_, _≤_};
 ghost use lib.ListN.{replicate};
 ghost use denote.Ref.{now};
-ghost use Rattle.rows.specs.Rows.{compose};
+ghost use Rattle.rows.specs.Rows.{count, compose};
 ghost use Rattle.rows.specs.Lists.{setRows};
 ghost use Rattle.rows.specs.Runs.{inRuns, runLengths, Apart};
 ghost use Rattle.rows.specs.Laid.{marked};
@@ -29,23 +29,31 @@ fn ranks_into(from: Rank, n: u64, rank: Rank) -> u64
     passed
 }
 
-// What a run of ranks has in the window, marked; the window's first rank is under a row.
-fn mark_part(first: Rank, past: Rank, from: Rank, n: u64, at: u64, row: Row, out: &mut [u64])
+// What a run of ranks has in the window, marked; the window's first rank is under a row. How many they are.
+fn mark_part(first: Rank, past: Rank, from: Rank, n: u64, at: u64, row: Row, out: &mut [u64]) -> u64
     requires { ⌜ (first .0 ≤ past .0) × Room (at + row .0) n (now out) ⌝ }
-    ensures { λ _. ⌜ now (out .exit) ≡ marked at (setRows (row .0 + into (from .0) n (first .0))
-        (replicate (into (from .0) n (past .0) - into (from .0) n (first .0)) true)) (now (out .entry)) ⌝ }
+    ensures { λ r. ⌜ (r ≡ into (from .0) n (past .0) - into (from .0) n (first .0))
+        × (now (out .exit) ≡ marked at (setRows (row .0 + into (from .0) n (first .0))
+        (replicate (into (from .0) n (past .0) - into (from .0) n (first .0)) true)) (now (out .entry))) ⌝ }
 {
     let begin = ranks_into(from, n, first);
     let end = ranks_into(from, n, past);
     if begin == end {
-        return;
+        return 0;
     }
     let top = row.0 + begin;
     let below = row.0 + end;
     set_run(out, at, top, below);
+    end - begin
 }
 
-// The window's ranks, marked, from the run of ranks on that the walk has come to; and which it has come to then.
+// Which run of ranks the walk has come to, and how many rows were marked.
+pub struct Marked {
+    pub next: usize,
+    pub set: u64,
+}
+
+// The window's ranks, marked, from the run of ranks on that the walk has come to.
 fn mark_window(
     ranks: &[u32],
     next: usize,
@@ -54,31 +62,35 @@ fn mark_window(
     at: u64,
     row: Row,
     out: &mut [u64],
-) -> usize
+) -> Marked
     requires { ⌜ Reached (now ranks) next (from .0) × (from .0 + n ≤ 1048576) × Room (at + row .0) n (now out) ⌝ }
-    ensures { λ r. ⌜ Reached (now (ranks .entry)) r (from .0 + n)
+    ensures { λ r. ⌜ Reached (now (ranks .entry)) (r .next) (from .0 + n) × (r .set ≡ count (window (from .0) n (now (ranks .entry))))
         × (now (out .exit) ≡ marked at (setRows (row .0) (window (from .0) n (now (ranks .entry)))) (now (out .entry))) ⌝ }
 {
     let end = from.0 + n;
+    let mut set: u64 = 0;
     let mut i = next;
     while i < ranks.len() {
         let first = ranks[i] as u64;
         let past = ranks[i + 1] as u64;
-        mark_part(Rank(first), Rank(past), from, n, at, row, out);
+        let some = mark_part(Rank(first), Rank(past), from, n, at, row, out);
+        set += some;
         if end <= past {
-            return i;
+            return Marked { next: i, set: set };
         }
         i += 2;
     }
-    i
+    Marked { next: i, set: set }
 }
 
-// Self's rows whose ranks the rank mask has, marked: row 0 of self at bit at.
-pub fn mark_runs(runs: &[u32], ranks: &[u32], len: u64, at: u64, out: &mut [u64])
+// Self's rows whose ranks the rank mask has, marked: row 0 of self at bit at. How many they are.
+pub fn mark_runs(runs: &[u32], ranks: &[u32], len: u64, at: u64, out: &mut [u64]) -> u64
     requires { ⌜ Apart 0 len (now runs) × Apart 0 (runLengths (now runs)) (now ranks) × (len ≤ 1048576) × Room at len (now out) ⌝ }
-    ensures { λ _. ⌜ now (out .exit) ≡ marked at (setRows 0 (compose (inRuns len (now (runs .entry)))
-        (inRuns (runLengths (now (runs .entry))) (now (ranks .entry))))) (now (out .entry)) ⌝ }
+    ensures { λ r. ⌜ (r ≡ count (compose (inRuns len (now (runs .entry))) (inRuns (runLengths (now (runs .entry))) (now (ranks .entry)))))
+        × (now (out .exit) ≡ marked at (setRows 0 (compose (inRuns len (now (runs .entry)))
+        (inRuns (runLengths (now (runs .entry))) (now (ranks .entry))))) (now (out .entry))) ⌝ }
 {
+    let mut sum: u64 = 0;
     let mut rank: u64 = 0;
     let mut next: usize = 0;
     let mut i: usize = 0;
@@ -86,8 +98,11 @@ pub fn mark_runs(runs: &[u32], ranks: &[u32], len: u64, at: u64, out: &mut [u64]
         let first = runs[i] as u64;
         let past = runs[i + 1] as u64;
         let held = past - first;
-        next = mark_window(ranks, next, Rank(rank), held, at, Row(first), out);
+        let marked = mark_window(ranks, next, Rank(rank), held, at, Row(first), out);
+        next = marked.next;
+        sum += marked.set;
         rank += held;
         i += 2;
     }
+    sum
 }

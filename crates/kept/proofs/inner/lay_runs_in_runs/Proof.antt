@@ -9,7 +9,6 @@ use Rattle.rows.specs.Runs.{held, inRuns, runLengths}
 use Rattle.rows.specs.Laid.{marked}
 use Rattle.rows.proofs.ListLaws.{tab-length}
 use Rattle.marks.proofs.ListLaws.{marked-compose}
-use Rattle.kept.proofs.RunsInRunsLaws.{ranks-apart, runs-in-count}
 use Rattle.kept.proofs.inner.lay_runs_in_runs.Statement.{statement}
 use Rattle.kept.proofs.inner.lay_runs_in_runs.Tie as tie
 
@@ -35,30 +34,23 @@ clear-requires c κs = search needs
 mark-runs-requires : tie.Need-mark-runs-requires
 mark-runs-requires c κs = search needs
 
-sum-runs-requires : tie.Need-sum-runs-requires
-sum-runs-requires c κs =
-    let s = start (cleared (marks c .before)) in
-    let a = s .args in
-    ranks-apart (now (a .runs)) (now (a .ranks)) (a .len) (a .at) (s .pre .0) (s .pre .1) (s .pre .2)
-
 same-length : tie.Need-same-length
 same-length c = search needs
 
 returns : tie.Need-returns
 returns c =
-    let m = marks (c .before) in
+    let m = marks c in
     let z = cleared (m .before) in
-    let s = start z in
-    let a = s .args in
+    let a = start z .args in
     let runs = now (a .runs) in
     let ranks = now (a .ranks) in
     let self = inRuns (a .len) runs in
     let r = inRuns (runLengths runs) ranks in (
-      c .sum-runs .ensures ∙ runs-in-count runs ranks (a .len) (s .pre .0) (s .pre .1),
-      m .mark-runs .ensures ∙ ap (marked (a .at) (setRows 0 (compose self r))) (z .clear .ensures)
+      m .mark-runs .ensures .0,
+      m .mark-runs .ensures .1 ∙ ap (marked (a .at) (setRows 0 (compose self r))) (z .clear .ensures)
           ∙ marked-compose (a .at) (a .len) self r (now (a .out)) (tab-length 0 (a .len) (λ i. held i runs)),
     )
 
 pub lay-runs-in-runs-spec : {M : Type 1} → statement M
 lay-runs-in-runs-spec =
-    tie.close (tie.spec clear-requires mark-runs-requires sum-runs-requires same-length returns)
+    tie.close (tie.spec clear-requires mark-runs-requires same-length returns)

@@ -63,7 +63,7 @@ returns c =
     let t = c .before in
     let a = start t .args in
     let none : 0 ≡ end t - begin t = omega (arith, t .before .ranks-into .ensures, t .ranks-into2 .ensures) in
-    ap (λ (n : ℕ). marked (a .at) (setRows (a .row .0 + begin t) (replicate n true)) (now (a .out))) none
+    (none, ap (λ (n : ℕ). marked (a .at) (setRows (a .row .0 + begin t) (replicate n true)) (now (a .out))) none)
 
 add-top : tie.Need-add-top
 add-top c = omega (arith, some c, begin-is c, start (chosen c) .pre .1 .1)
@@ -77,6 +77,11 @@ set-run-requires c κs =
     let room = start (chosen k) .pre .1 in
     (omega (arith, some k, begin-is k, end-is k), (omega (arith, end-is k, room .0), omega (arith, end-is k, room .1)))
 
+sub-result : tie.Need-sub-result
+sub-result c =
+    let k = asked (written c .before) in
+    omega (arith, some k, begin-is k, end-is k)
+
 same-length : tie.Need-same-length
 same-length c = search needs
 
@@ -89,9 +94,11 @@ returns-2 c =
     let out = now (a .out) in
     let row = a .row .0 in
     let place : row + t .before .ranks-into .result ≡ row + begin t = omega (arith, begin-is k) in
-    let long : row + t .ranks-into2 .result - (row + t .before .ranks-into .result) ≡ end t - begin t = omega (arith, begin-is k, end-is k) in
-    w .set-run .ensures ∙ ap₂ (λ (b n : ℕ). laid (a .at + b) (replicate n true) out) place long
-    ∙ sym (ones-marked (a .at) (row + begin t) (end t - begin t) out (omega (arith, some k)))
+    let long : row + t .ranks-into2 .result - (row + t .before .ranks-into .result) ≡ end t - begin t = omega (arith, begin-is k, end-is k) in (
+      ap₂ (λ (x y : ℕ). x - y) (end-is k) (begin-is k),
+      w .set-run .ensures ∙ ap₂ (λ (b n : ℕ). laid (a .at + b) (replicate n true) out) place long
+          ∙ sym (ones-marked (a .at) (row + begin t) (end t - begin t) out (omega (arith, some k))),
+    )
 
 pub mark-part-spec : {M : Type 1} → statement M
 mark-part-spec =
@@ -103,5 +110,6 @@ mark-part-spec =
     add-top
     add-below
     set-run-requires
+    sub-result
     same-length
     returns-2)

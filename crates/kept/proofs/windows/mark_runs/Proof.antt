@@ -1,20 +1,23 @@
 -- `kept::windows::mark_runs` meets its contract.
--- The invariant: self's runs from number i on are left, and the walk over the rank mask's runs has come to rank `rank`. Assumes nothing.
+-- The invariant: self's runs from number i on are left, `sum` rows are marked, and the walk over the rank mask's runs has come to rank `rank`.
+-- Assumes nothing.
 use Prim.Native.Nat.{ℕ, _+_, _-_, _≤_}
 use mathlib.Core.List.{List}
 use native.Mathlib.Omega.{arith}
 use lib.ListN.{length, getD}
 use denote.Ref.{now}
+use Rattle.rows.specs.Rows.{count}
 use Rattle.rows.proofs.RunTurnLaws.{NextRun}
-use Rattle.kept.proofs.RunsInRunsLaws.{Composing, composing-none, composing-next, composing-few, composing-run, composing-all}
+use Rattle.kept.specs.Windows.{window}
+use Rattle.kept.proofs.RunsInRunsLaws.{Composing, composing-none, composing-next, composing-few, composing-sum, composing-run, composing-all}
 use Rattle.kept.proofs.windows.mark_runs.Statement.{statement}
 use Rattle.kept.proofs.windows.mark_runs.Tie as tie
 
 abbrev Inv-loop : tie.InvT-loop
-Inv-loop runs ranks len at out₀ rank₀ next₀ i₀ out rank next i = Composing runs ranks len at i rank next out₀ out
+Inv-loop runs ranks len at out₀ sum₀ rank₀ next₀ i₀ out sum rank next i = Composing runs ranks len at i rank next sum out₀ out
 
 abbrev μ-loop : tie.MeasureT-loop
-μ-loop runs ranks len at out₀ rank₀ next₀ i₀ out rank next i = length runs - i
+μ-loop runs ranks len at out₀ sum₀ rank₀ next₀ i₀ out sum rank next i = length runs - i
 
 -- ---- the places, each from the one after it
 
@@ -33,8 +36,8 @@ both c = c .before .before
 abbrev turn : tie.After-mark-window Inv-loop μ-loop → tie.In-loop Inv-loop μ-loop
 turn c = both (c .before .before)
 
-abbrev back : tie.After-slice-known2 Inv-loop μ-loop → tie.After-mark-window Inv-loop μ-loop
-back c = c .before .before
+abbrev back : tie.After-struct-known Inv-loop μ-loop → tie.After-mark-window Inv-loop μ-loop
+back c = c .before .before .before
 
 -- ---- a turn's run
 
@@ -55,13 +58,19 @@ module _ (c : tie.In-loop Inv-loop μ-loop) where
   next =
       let l = head c .loop in
       let a = s .args in
-      composing-next runs ranks (a .len) (a .at) i (l .rank) (l .next) (now (a .out)) (l .out) (l .inv) (omega arith)
+      composing-next runs ranks (a .len) (a .at) i (l .rank) (l .next) (l .sum) (now (a .out)) (l .out) (l .inv) (omega arith)
 
   few : head c .loop .rank + (getD runs (i + 1) 0 - getD runs i 0) ≤ s .args .len
   few =
       let l = head c .loop in
       let a = s .args in
-      composing-few runs ranks (a .len) (a .at) i (l .rank) (l .next) (now (a .out)) (l .out) (l .inv) (omega arith) (s .pre .0)
+      composing-few runs ranks (a .len) (a .at) i (l .rank) (l .next) (l .sum) (now (a .out)) (l .out) (l .inv) (omega arith) (s .pre .0)
+
+  sum-few : head c .loop .sum + count (window (head c .loop .rank) (getD runs (i + 1) 0 - getD runs i 0) ranks) ≤ s .args .len
+  sum-few =
+      let l = head c .loop in
+      let a = s .args in
+      composing-sum runs ranks (a .len) (a .at) i (l .rank) (l .next) (l .sum) (now (a .out)) (l .out) (l .inv) (omega arith)
 
 -- ---- the answers
 
@@ -106,6 +115,11 @@ mark-window-requires c κs =
       (omega (arith, r .some, r .within, l .inv .long, room .0), omega (arith, r .some, r .within, room .1)),
     )
 
+add-sum : tie.Need-add-sum Inv-loop μ-loop
+add-sum c =
+    let t = turn (back c) in
+    omega (arith, sum-few t, back c .mark-window .ensures .1, s t .pre .2)
+
 add-rank : tie.Need-add-rank Inv-loop μ-loop
 add-rank c =
     let t = turn (back c) in
@@ -123,8 +137,9 @@ loop-again c =
     let l = head t .loop in
     let a = s t .args in
     let e = back c .mark-window .ensures in
-    composing-run (runs t) (ranks t) (a .len) (a .at) (i t) (l .rank) (l .next) (now (a .out)) (l .out) (l .inv) (omega arith)
-    _ (back c .mark-window .result) (e .0) (e .1)
+    let m = back c .mark-window .result in
+    composing-run (runs t) (ranks t) (a .len) (a .at) (i t) (l .rank) (l .next) (l .sum) (now (a .out)) (l .out) (l .inv) (omega arith)
+    _ (m .next) (m .set) (e .0) (e .1) (e .2)
 
 same-length : tie.Need-same-length Inv-loop μ-loop
 same-length c = c .before .loop .inv .long
@@ -134,7 +149,7 @@ returns c =
     let h = c .before in
     let l = h .loop in
     let a = start h .args in
-    composing-all (now (a .runs)) (now (a .ranks)) (a .len) (a .at) (l .i) (l .rank) (l .next) (now (a .out)) (l .out) (l .inv) (omega arith)
+    composing-all (now (a .runs)) (now (a .ranks)) (a .len) (a .at) (l .i) (l .rank) (l .next) (l .sum) (now (a .out)) (l .out) (l .inv) (omega arith)
 
 pub mark-runs-spec : {M : Type 1} → statement M
 mark-runs-spec =
@@ -152,6 +167,7 @@ mark-runs-spec =
     cast-past
     sub-held
     mark-window-requires
+    add-sum
     add-rank
     add-i
     loop-less

@@ -1,5 +1,5 @@
 -- `kept::windows::mark_window` meets its contract.
--- The invariant: the runs of ranks from number i on are left, and those before it are behind the window. Assumes nothing.
+-- The invariant: the runs of ranks from number i on are left, those before it are behind the window, and `set` rows are marked. Assumes nothing.
 use Prim.Native.Nat.{ℕ, _+_, _-_}
 use mathlib.Core.List.{List}
 use native.Mathlib.Omega.{arith}
@@ -7,15 +7,15 @@ use lib.ListN.{length}
 use denote.Ref.{now}
 use borrow.Author.Needs.{needs}
 use Rattle.rows.proofs.RunTurnLaws.{NextRun}
-use Rattle.kept.proofs.WindowLaws.{Windowing, windowing-none, windowing-next, windowing-run, windowing-stop, windowing-end}
+use Rattle.kept.proofs.WindowLaws.{Windowing, windowing-none, windowing-next, windowing-few, windowing-run, windowing-stop, windowing-end}
 use Rattle.kept.proofs.windows.mark_window.Statement.{statement}
 use Rattle.kept.proofs.windows.mark_window.Tie as tie
 
 abbrev Inv-loop : tie.InvT-loop
-Inv-loop ranks next from n at row out₀ end i₀ out i = Windowing ranks (from .0) n (row .0) at i out₀ out
+Inv-loop ranks next from n at row out₀ end set₀ i₀ out set i = Windowing ranks (from .0) n (row .0) at i set out₀ out
 
 abbrev μ-loop : tie.MeasureT-loop
-μ-loop ranks next from n at row out₀ end i₀ out i = length ranks - i
+μ-loop ranks next from n at row out₀ end set₀ i₀ out set i = length ranks - i
 
 -- ---- the places, each from the one after it
 
@@ -50,7 +50,7 @@ module _ (c : tie.In-loop Inv-loop μ-loop) where
   next =
       let l = head c .loop in
       let a = s .args in
-      windowing-next ranks (a .from .0) (a .n) (a .row .0) (a .at) (l .i) (now (a .out)) (l .out) (l .inv) (omega arith)
+      windowing-next ranks (a .from .0) (a .n) (a .row .0) (a .at) (l .i) (l .set) (now (a .out)) (l .out) (l .inv) (omega arith)
 
 -- ---- the answers
 
@@ -89,6 +89,16 @@ mark-part-requires c κs =
     let room = s t .pre .2 in
     (omega (arith, next t .some), (omega (arith, head t .loop .inv .long, room .0), room .1))
 
+add-set : tie.Need-add-set Inv-loop μ-loop
+add-set c =
+    let m = back c in
+    let t = turn m in
+    let l = head t .loop in
+    let a = s t .args in
+    let few =
+    windowing-few (ranks t) (a .from .0) (a .n) (a .row .0) (a .at) (l .i) (l .set) (now (a .out)) (l .out) (l .inv) (omega arith) (l .out) in
+    omega (arith, few, m .mark-part .ensures .0, s t .pre .1)
+
 same-length : tie.Need-same-length Inv-loop μ-loop
 same-length c = search needs
 
@@ -98,8 +108,9 @@ returns c =
     let t = turn m in
     let l = head t .loop in
     let a = s t .args in
-    windowing-stop (ranks t) (a .from .0) (a .n) (a .row .0) (a .at) (l .i) (now (a .out)) (l .out) (l .inv) (omega arith) _
-    (m .mark-part .ensures) (c .if1 .taken)
+    let e = m .mark-part .ensures in
+    windowing-stop (ranks t) (a .from .0) (a .n) (a .row .0) (a .at) (l .i) (l .set) (now (a .out)) (l .out) (l .inv) (omega arith) _
+    (m .mark-part .result) (e .0) (e .1) (c .if1 .taken)
 
 add-i : tie.Need-add-i Inv-loop μ-loop
 add-i c = omega (arith, next (turn (back (c .before))) .pair)
@@ -113,8 +124,9 @@ loop-again c =
     let t = turn m in
     let l = head t .loop in
     let a = s t .args in
-    windowing-run (ranks t) (a .from .0) (a .n) (a .row .0) (a .at) (l .i) (now (a .out)) (l .out) (l .inv) (omega arith) _
-    (m .mark-part .ensures) (omega arith)
+    let e = m .mark-part .ensures in
+    windowing-run (ranks t) (a .from .0) (a .n) (a .row .0) (a .at) (l .i) (l .set) (now (a .out)) (l .out) (l .inv) (omega arith) _
+    (m .mark-part .result) (e .0) (e .1) (omega arith)
 
 same-length-2 : tie.Need-same-length-2 Inv-loop μ-loop
 same-length-2 c = c .before .loop .inv .long
@@ -124,7 +136,7 @@ returns-2 c =
     let h = c .before in
     let l = h .loop in
     let a = start h .args in
-    windowing-end (now (a .ranks)) (a .from .0) (a .n) (a .row .0) (a .at) (l .i) (now (a .out)) (l .out) (l .inv) (omega arith)
+    windowing-end (now (a .ranks)) (a .from .0) (a .n) (a .row .0) (a .at) (l .i) (l .set) (now (a .out)) (l .out) (l .inv) (omega arith)
 
 pub mark-window-spec : {M : Type 1} → statement M
 mark-window-spec =
@@ -142,6 +154,7 @@ mark-window-spec =
     shared-slice-read-past
     cast-past
     mark-part-requires
+    add-set
     same-length
     returns
     add-i
