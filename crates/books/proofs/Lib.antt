@@ -1,1 +1,2 @@
 pub mod ChunkLaws
+pub mod GatherLaws

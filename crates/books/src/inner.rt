@@ -11,6 +11,7 @@ ghost use Rattle.rows.specs.Words.{fit, bitsOfAll, view};
 ghost use Rattle.rows.specs.Laid.{laid};
 ghost use Rattle.rows.specs.Asks.{Room, Chunk};
 ghost use Rattle.books.specs.Chunks.{chunkAt};
+ghost use Rattle.books.specs.Gathers.{Parted, Gathers};
 use laid::inner::clear;
 use laid::inner::put;
 use laid::inner::set_bit;
@@ -67,6 +68,31 @@ pub fn rank_bits(ranks: &[u64], from: u64, rank: Rank) -> u64
 {
     let at = from + rank.0;
     read(ranks, at, 0)
+}
+
+// The rank bits of one chunk, gathered, and the entry after them.
+pub struct Gathered {
+    pub bits: u64,
+    pub next: usize,
+}
+
+// The rank bits of a chunk that has so many rows set, from a rank on: gathered from a list of ranks, whose entries before next are of earlier ranks.
+pub fn rank_bits_for_chunk(ranks: &[u32], next: usize, rank: Rank, set: u64) -> Gathered
+    requires { ⌜ (set ≤ 64) × (rank .0 + set < 2 ^ 64) × Parted (rank .0) next (now ranks) ⌝ }
+    ensures { λ r. ⌜ Gathers (rank .0) set (now (ranks .entry)) (r .bits) (r .next) ⌝ }
+{
+    let base = rank.0;
+    let mut bits: u64 = 0;
+    let mut j = next;
+    while j < ranks.len() {
+        let entry = ranks[j] as u64;
+        if entry >= base + set {
+            return Gathered { bits, next: j };
+        }
+        bits |= 1u64 << (entry - base);
+        j += 1;
+    }
+    Gathered { bits, next: j }
 }
 
 // The low n bits of bits over the output from a row on; row 0 is at bit at.

@@ -22,7 +22,7 @@ use Rattle.rows.proofs.WordsLaws.{fit-length, fit-all, bitsOf-wordOf-fit, view-
 use Rattle.rows.proofs.FitLaws.{fit-is-take, take-fit, compose-split, compose-take, compose-fit, compose-cut, view-step}
 use Rattle.rows.proofs.PdepLaws.{pdep-is}
 use Rattle.rows.proofs.LaidLaws.{laid-nil, laid-length, laid-append}
-use Rattle.deposits.proofs.GatherLaws.{tab-part}
+use Rattle.books.proofs.GatherLaws.{tab-part}
 
 -- t is a chunk of n rows, r the ranks from its first on, and the source has as many of them as t sets
 deposited-chunk : (n source : ℕ) (t r : List Bool) → length t ≡ n → n ≤ 64 → compose t (bitsOf 64 source) ≡ compose t r → bitsOf n (pdep 64 source (wordOf t)) ≡ compose t r

@@ -1,3 +1,2 @@
 pub mod DepositLaws
-pub mod GatherLaws
 pub mod WholeLaws

@@ -21,7 +21,7 @@ use Rattle.rows.proofs.WordsLaws.{bitsOfAll-length}
 use Rattle.rows.proofs.FitLaws.{fit-is-take, compose-cut}
 use Rattle.rows.proofs.PdepLaws.{pdep-is}
 use Rattle.rows.proofs.LaidLaws.{below-set, laid-nil, laid-word}
-use Rattle.deposits.proofs.GatherLaws.{tab-part}
+use Rattle.books.proofs.GatherLaws.{tab-part}
 use Rattle.deposits.proofs.DepositLaws.{rank-turn, laid-turn, chunk-turn, chunk-few}
 
 pdep-small : (source mask : ℕ) → pdep 64 source mask < 2 ^ 64

@@ -12,9 +12,10 @@ ghost use Rattle.rows.specs.Lists.{listed};
 ghost use Rattle.rows.specs.Pdep.{pdep};
 ghost use Rattle.rows.specs.Laid.{laid};
 ghost use Rattle.rows.specs.Asks.{Room, Chunk};
-ghost use Rattle.deposits.specs.Gathers.{Parted, Gathers};
+ghost use Rattle.books.specs.Gathers.{Parted};
 use books::inner::put_rows;
 use books::inner::rank_bits;
+use books::inner::rank_bits_for_chunk;
 use books::inner::self_bits;
 use lent::inner::chunk_len;
 use rows::Rank;
@@ -80,34 +81,10 @@ pub fn read_chunks(
     }
 }
 
-// The rank bits of one chunk, gathered, and the entry after them.
-pub struct Gathered {
-    pub bits: u64,
-    pub next: usize,
-}
-
 // Where the walk over a rank list stands: a rank, and the first entry that is not below it.
 pub struct Reached {
     pub rank: Rank,
     pub next: usize,
-}
-
-pub fn rank_bits_for_chunk(ranks: &[u32], next: usize, rank: Rank, set: u64) -> Gathered
-    requires { ⌜ (set ≤ 64) × (rank .0 + set < 2 ^ 64) × Parted (rank .0) next (now ranks) ⌝ }
-    ensures { λ r. ⌜ Gathers (rank .0) set (now (ranks .entry)) (r .bits) (r .next) ⌝ }
-{
-    let base = rank.0;
-    let mut bits: u64 = 0;
-    let mut j = next;
-    while j < ranks.len() {
-        let entry = ranks[j] as u64;
-        if entry >= base + set {
-            return Gathered { bits, next: j };
-        }
-        bits |= 1u64 << (entry - base);
-        j += 1;
-    }
-    Gathered { bits, next: j }
 }
 
 // Routes 7 and 8, chunk by chunk from a rank on: rank bits gathered, then deposit. Entries before next are of earlier ranks.

@@ -5,3 +5,4 @@ pub mod EntryLaws
 pub mod WindowLaws
 pub mod RunsInRunsLaws
 pub mod EntrySpanLaws
+pub mod GatheredLaws

@@ -13,6 +13,7 @@ ghost use Rattle.marks.specs.Entries.{entries};
 use super::copies::copy_ranks;
 use super::entries::mark_entries;
 use super::entries::mark_spans;
+use super::gathers::gather_under_runs;
 use super::windows::mark_runs;
 use books::inner::clear_rows;
 use laid::inner::clear;
@@ -55,16 +56,29 @@ pub fn lay_ranks_under_runs(
     sum
 }
 
-// Self in runs, the rank mask a list: that part of the output is cleared, and the row of each listed rank is marked in it.
-pub fn lay_entries_in_runs(runs: &[u32], ranks: &[u32], len: u64, at: u64, out: &mut [u64]) -> u64
+// Self in runs, the rank mask a list of so many ranks. Where at least every fourth is listed the rank bits are gathered; else that part of the output is
+// cleared, and the row of each listed rank is marked in it.
+pub fn lay_entries_in_runs(
+    runs: &[u32],
+    ranks: &[u32],
+    ranklen: u64,
+    len: u64,
+    at: u64,
+    out: &mut [u64],
+) -> u64
     requires { ⌜ Apart 0 len (now runs) × Ascending 0 (runLengths (now runs)) (now ranks) × (len ≤ 1048576) × Room at len (now out) ⌝ }
     ensures { λ r. ⌜ (r ≡ count (compose (inRuns len (now (runs .entry))) (listed (runLengths (now (runs .entry))) (now (ranks .entry)))))
         × (now (out .exit) ≡ laid at (compose (inRuns len (now (runs .entry)))
         (listed (runLengths (now (runs .entry))) (now (ranks .entry)))) (now (out .entry))) ⌝ }
 {
+    let listed = ranks.len() as u64;
+    if listed > ranklen / 4 {
+        gather_under_runs(runs, ranks, len, at, out);
+        return listed;
+    }
     clear(out, at, len);
     mark_entries(runs, ranks, len, at, out);
-    ranks.len() as u64
+    listed
 }
 
 // Self and the rank mask in runs: that part of the output is cleared, and run by run the rows are marked whose ranks the rank mask has.

@@ -2,5 +2,6 @@
 // bit of the output on, and tells how many; what calls it has checked the operands.
 mod copies;
 mod entries;
+mod gathers;
 pub mod inner;
 mod windows;

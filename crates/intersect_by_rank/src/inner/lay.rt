@@ -66,7 +66,7 @@ fn lay_at_ranks(s: Form, count: u64, srows: &[u32], rrows: &[u32], at: u64, out:
 {
     let len = length_of(s);
     if has_long_runs(s, count, srows) {
-        lay_entries_in_runs(srows, rrows, len, at, out);
+        lay_entries_in_runs(srows, rrows, count, len, at, out);
         return;
     }
     lay_entry_at_rank(srows, has_runs(s), rrows, len, at, out);

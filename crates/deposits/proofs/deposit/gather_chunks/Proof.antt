@@ -17,7 +17,7 @@ use Rattle.rows.specs.Laid.{laid}
 use Rattle.rows.proofs.WordLaws.{ones-word}
 use Rattle.rows.proofs.WordsLaws.{fit-length}
 use Rattle.rows.proofs.LaidLaws.{below-all}
-use Rattle.deposits.specs.Gathers.{Parted}
+use Rattle.books.specs.Gathers.{Parted}
 use Rattle.deposits.proofs.DepositLaws.{
   Deposited,
   chunk-few,

@@ -14,7 +14,7 @@ use Rattle.rows.proofs.RowLaws.{count-take-le}
 use Rattle.rows.proofs.LaidLaws.{laid-length}
 use native.Mathlib.Nat.{zero-add}
 use Rattle.rows.specs.Lists.{listed}
-use Rattle.deposits.proofs.GatherLaws.{ascending-climbs}
+use Rattle.books.proofs.GatherLaws.{ascending-climbs}
 use Rattle.deposits.proofs.WholeLaws.{whole-and-rest, count-rest, listed-more}
 use borrow.Author.Needs.{needs}
 use Rattle.deposits.proofs.inner.intersect_bit_buffer_by_rank_indices.Statement.{statement}

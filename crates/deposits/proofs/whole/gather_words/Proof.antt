@@ -16,7 +16,7 @@ use Rattle.rows.specs.Laid.{laid}
 use Rattle.rows.proofs.WordLaws.{ones-word}
 use Rattle.rows.proofs.WordsLaws.{fit-length}
 use Rattle.rows.proofs.LaidLaws.{below-all}
-use Rattle.deposits.specs.Gathers.{Parted}
+use Rattle.books.specs.Gathers.{Parted}
 use Rattle.deposits.proofs.DepositLaws.{gathered-same, rank-within, chunk-few}
 use Rattle.deposits.proofs.WholeLaws.{whole-rank, Stored, stored-none, stored-word}
 use borrow.Author.Needs.{needs}

@@ -1,23 +1,27 @@
 -- `kept::inner::lay_ranks_under_runs` meets its contract.
 -- The invariant: the rows before `done` are laid and `sum` of them set, and the runs from number i on are left. Assumes nothing.
 use Prim.Native.Nat.{ℕ, _+_, _-_, _*_, _^_, _≤_}
-use mathlib.Core.Path.{ap, _∙_}
-use mathlib.Core.Bool.{false}
+use mathlib.Core.Path.{_≡_, ap, _∙_}
+use mathlib.Core.Bool.{Bool, false}
 use mathlib.Core.List.{List}
 use native.Mathlib.Omega.{arith}
-use lib.ListN.{length, getD, replicate}
+use lib.ListN.{length, take, drop, getD, replicate}
 use denote.Ref.{now}
 use borrow.Author.Needs.{needs}
 use Rattle.rows.specs.Rows.{count}
-use Rattle.rows.specs.Words.{view}
+use Rattle.rows.specs.Words.{bitsOfAll, view}
+use Rattle.rows.specs.Runs.{runLengths}
+use Rattle.rows.specs.Laid.{laid}
 use Rattle.rows.proofs.LaidLaws.{below-all, laid-length}
 use Rattle.rows.proofs.RunTurnLaws.{NextRun}
-use Rattle.kept.proofs.UnderLaws.{Under, under-none, under-next, under-room, under-ranks, under-sum, under-run, under-last}
+use Rattle.kept.proofs.UnderLaws.{Under, under-none, under-next, under-ranks, under-few, under-run, under-last}
+use Rattle.kept.proofs.UnderLaws.{Sums, sums-none, sums-run, sums-few, sums-last, read-long, read-part}
 use Rattle.kept.proofs.inner.lay_ranks_under_runs.Statement.{statement}
 use Rattle.kept.proofs.inner.lay_ranks_under_runs.Tie as tie
 
 abbrev Inv-loop : tie.InvT-loop
-Inv-loop runs ranks from len at out₀ done₀ rank₀ sum₀ i₀ out done rank sum i = Under runs ranks from len at done i rank sum out₀ out
+Inv-loop runs ranks from len at out₀ done₀ rank₀ sum₀ i₀ out done rank sum i =
+    Under runs (drop from (bitsOfAll 64 ranks)) len at done i rank out₀ out × Sums runs (drop from (bitsOfAll 64 ranks)) len at done i rank sum
 
 abbrev μ-loop : tie.MeasureT-loop
 μ-loop runs ranks from len at out₀ done₀ rank₀ sum₀ i₀ out done rank sum i = length runs - i
@@ -54,6 +58,15 @@ last c = c .before .before .before
 abbrev cleared : tie.After-slice-known4 Inv-loop μ-loop → tie.After-clear-rows2 Inv-loop μ-loop
 cleared c = c .before .before
 
+-- ---- the rank bits
+
+module _ (s : tie.Start Inv-loop μ-loop) where
+  abbrev bits : List Bool
+  bits = drop (s .args .from) (bitsOfAll 64 (now (s .args .ranks)))
+
+  long : runLengths (now (s .args .runs)) ≤ length bits
+  long = read-long (now (s .args .ranks)) (s .args .from) (runLengths (now (s .args .runs))) (s .pre .3)
+
 -- ---- a turn's run
 
 module _ (c : tie.In-loop Inv-loop μ-loop) where
@@ -79,26 +92,31 @@ module _ (c : tie.In-loop Inv-loop μ-loop) where
   next =
       let l = head c .loop in
       let a = s .args in
-      under-next runs ranks (a .from) (a .len) (a .at) (l .done) i (l .rank) (l .sum) (now (a .out)) (l .out) (l .inv) (omega arith)
+      under-next runs (bits s) (a .len) (a .at) (l .done) i (l .rank) (now (a .out)) (l .out) (l .inv .0) (omega arith)
 
   -- its rank bits are there, and no more than the rows
   read-room : s .args .from + head c .loop .rank + held ≤ length ranks * 64
   read-room =
       let l = head c .loop in
       let a = s .args in
-      under-room runs ranks (a .from) (a .len) (a .at) (l .done) i (l .rank) (l .sum) (now (a .out)) (l .out) (l .inv) (omega arith) (s .pre .3)
+      omega (arith, s .pre .3,
+      under-ranks runs (bits s) (a .len) (a .at) (l .done) i (l .rank) (now (a .out)) (l .out) (l .inv .0) (omega arith) (long s))
 
   few : head c .loop .rank + held ≤ s .args .len
   few =
       let l = head c .loop in
       let a = s .args in
-      under-ranks runs ranks (a .from) (a .len) (a .at) (l .done) i (l .rank) (l .sum) (now (a .out)) (l .out) (l .inv) (omega arith) (s .pre .3) (s .pre .0)
+      under-few runs (bits s) (a .len) (a .at) (l .done) i (l .rank) (now (a .out)) (l .out) (l .inv .0) (omega arith) (long s) (s .pre .0)
+
+  part : view (s .args .from + head c .loop .rank) held ranks ≡ take held (drop (head c .loop .rank) (bits s))
+  part = read-part ranks (s .args .from) (head c .loop .rank) held
 
   sum-few : head c .loop .sum + count (view (s .args .from + head c .loop .rank) held ranks) ≤ s .args .len
   sum-few =
       let l = head c .loop in
       let a = s .args in
-      under-sum runs ranks (a .from) (a .len) (a .at) (l .done) i (l .rank) (l .sum) (now (a .out)) (l .out) (l .inv) (omega arith) (s .pre .3)
+      omega (arith, ap count part,
+      sums-few runs (bits s) (a .len) (a .at) (l .done) i (l .rank) (now (a .out)) (l .out) (l .inv .0) (omega arith) (long s) (l .sum) (l .inv .1))
 
 -- ---- the answers
 
@@ -107,7 +125,9 @@ loop-holds c =
     let s = entry c in
     let a = s .args in
     let out = now (a .out) in
-    under-none (now (a .runs)) (now (a .ranks)) (a .from) (a .len) (a .at) out (s .pre .0) (below-all (2 ^ 64) out (λ i. c .slice-known .given i .fits))
+    let rs = now (a .runs) in
+    let small = below-all (2 ^ 64) out (λ i. c .slice-known .given i .fits) in
+    (under-none rs (bits s) (a .len) (a .at) out (s .pre .0) small, sums-none rs (bits s) (a .len) (a .at) (s .pre .0))
 
 mul-first : tie.Need-mul-first Inv-loop μ-loop
 mul-first c = omega arith
@@ -141,7 +161,7 @@ clear-rows-requires c κs =
     let t = both (c .before) in
     let room = s t .pre .4 in
     let r = next t in
-    (omega (arith, r .from, r .some, r .within, head t .loop .inv .progress .long, room .0), omega (arith, r .from, r .some, r .within, room .1))
+    (omega (arith, r .from, r .some, r .within, head t .loop .inv .0 .progress .long, room .0), omega (arith, r .from, r .some, r .within, room .1))
 
 copy-ranks-requires : tie.Need-copy-ranks-requires Inv-loop μ-loop
 copy-ranks-requires c κs =
@@ -151,7 +171,7 @@ copy-ranks-requires c κs =
     let r = next t in
     let l = head t .loop in
     let unset = replicate (first t - l .done) false in
-    let long = ap length (g .clear-rows .ensures) ∙ laid-length 64 (s t .args .at + l .done) unset (l .out) ∙ l .inv .progress .long in (
+    let long = ap length (g .clear-rows .ensures) ∙ laid-length 64 (s t .args .at + l .done) unset (l .out) ∙ l .inv .0 .progress .long in (
       s t .pre .2,
       omega (arith, few t, s t .pre .1),
       read-room t,
@@ -180,16 +200,22 @@ loop-again c =
     let l = head t .loop in
     let a = s t .args in
     let e = back c .copy-ranks .ensures in
-    under-run (runs t) (ranks t) (a .from) (a .len) (a .at) (l .done) (i t) (l .rank) (l .sum) (now (a .out)) (l .out) (l .inv) (omega arith) (s t .pre .3)
-    (gone (back c .before) .clear-rows .last .0) _ (back c .copy-ranks .result) (gone (back c .before) .clear-rows .ensures) (e .1) (e .0)
+    let z = gone (back c .before) .clear-rows in
+    let w = long (s t) in
+    let lies = e .1 ∙ ap (λ (p : List Bool). laid (a .at + first t) p (z .last .0)) (part t) in (
+      under-run (runs t) (bits (s t)) (a .len) (a .at) (l .done) (i t) (l .rank) (now (a .out)) (l .out) (l .inv .0) (omega arith) w (z .last .0) _
+          (z .ensures) lies,
+      sums-run (runs t) (bits (s t)) (a .len) (a .at) (l .done) (i t) (l .rank) (now (a .out)) (l .out) (l .inv .0) (omega arith) w (l .sum)
+          (back c .copy-ranks .result) (e .0 ∙ ap count (part t)) (l .inv .1),
+    )
 
 sub-left : tie.Need-sub-left Inv-loop μ-loop
-sub-left c = c .before .loop .inv .within
+sub-left c = c .before .loop .inv .0 .within
 
 clear-rows-requires-2 : tie.Need-clear-rows-requires-2 Inv-loop μ-loop
 clear-rows-requires-2 c κs =
     let h = c .before .before in
-    let l = h .loop .inv in
+    let l = h .loop .inv .0 in
     let room = start h .pre .4 in
     (omega (arith, l .within, l .progress .long, room .0), omega (arith, l .within, room .1))
 
@@ -201,8 +227,11 @@ returns c =
     let h = last (cleared c) in
     let a = start h .args in
     let l = h .loop in
-    under-last (now (a .runs)) (now (a .ranks)) (a .from) (a .len) (a .at) (l .done) (l .i) (l .rank) (l .sum) (now (a .out)) (l .out) (l .inv)
-    _ (omega arith) (cleared c .clear-rows2 .ensures)
+    let rs = now (a .runs) in
+    let bs = bits (start h) in (
+      sums-last rs bs (a .len) (a .at) (l .done) (l .i) (l .rank) (now (a .out)) (l .out) (l .inv .0) (l .sum) (omega arith) (l .inv .1),
+      under-last rs bs (a .len) (a .at) (l .done) (l .i) (l .rank) (now (a .out)) (l .out) (l .inv .0) _ (omega arith) (cleared c .clear-rows2 .ensures),
+    )
 
 pub lay-ranks-under-runs-spec : {M : Type 1} → statement M
 lay-ranks-under-runs-spec =

@@ -1,4 +1,4 @@
--- `deposits::deposit::rank_bits_for_chunk` meets its contract.
+-- `books::inner::rank_bits_for_chunk` meets its contract.
 -- The invariant: the entries passed are in the word, and those left climb from the chunk's first rank on. Assumes nothing.
 use Prim.Native.Nat.{ℕ, suc, _+_, _-_, _*_, _%_, _≤_, _<_, _^_}
 use native.Mathlib.Numerals.{add-one}
@@ -13,10 +13,10 @@ use denote.Ref.{now}
 use Rattle.rows.specs.Word.{wordOf}
 use Rattle.rows.specs.Words.{Below}
 use Rattle.rows.specs.Lists.{tab, member}
-use Rattle.deposits.specs.Gathers.{Climbs}
-use Rattle.deposits.proofs.GatherLaws.{below-more, gather-start, gather-turn, gather-end, climbs-at, climbs-past, climbs-from, below-next}
-use Rattle.deposits.proofs.deposit.rank_bits_for_chunk.Statement.{statement}
-use Rattle.deposits.proofs.deposit.rank_bits_for_chunk.Tie as tie
+use Rattle.books.specs.Gathers.{Climbs}
+use Rattle.books.proofs.GatherLaws.{below-more, gather-start, gather-turn, gather-end, climbs-at, climbs-past, climbs-from, below-next}
+use Rattle.books.proofs.inner.rank_bits_for_chunk.Statement.{statement}
+use Rattle.books.proofs.inner.rank_bits_for_chunk.Tie as tie
 
 abbrev Inv-loop : tie.InvT-loop
 Inv-loop ranks next set base bits₀ j₀ bits j =

@@ -3,23 +3,24 @@
 -- Assumes nothing.
 use Prim.Native.Nat.{ℕ, zero, suc, _+_, _-_, _*_, _^_, _≤_, _<_, max}
 use native.Mathlib.Nat.{add-zero, suc-add, add-suc, pow-suc}
-use native.Mathlib.Decide.{ℕ-discrete}
+use native.Mathlib.Decide.{ℕ-discrete, decLt}
 use mathlib.Core.Path.{_≡_, refl, sym, ap, ap₂, _∙_, subst}
 use mathlib.Core.Logic.{_≢_}
 use mathlib.Core.Bool.{Bool, true, false, _||_, or-false}
 use mathlib.Core.List.{List, [], _∷_, _++_}
 use native.Mathlib.Omega.{arith}
-use lib.ListN.{length, take, drop, getD, take-append-drop}
-use lib.Seq.{take-suc, drop-cons}
+use lib.ListN.{length, take, drop, getD, take-append-drop, length-take}
+use lib.Seq.{take-suc, drop-cons, getD-take}
 use lib.Arith.{digits-div, digits-mod}
 use lib.Bits.{bitOr, or-step}
 use lib.Dec.{eqb}
 use Rattle.rows.specs.Word.{digit, wordOf}
 use Rattle.rows.specs.Words.{Below}
 use Rattle.rows.specs.Lists.{tab, member, Ascending}
-use Rattle.deposits.specs.Gathers.{Climbs}
+use Rattle.books.specs.Gathers.{Climbs, Parted}
 use Rattle.rows.proofs.WordLaws.{digit-lt}
 use Rattle.rows.proofs.ListLaws.{eqb-same, eqb-other}
+use Rattle.rows.proofs.MarkLaws.{below-at}
 
 -- ---- which entries count
 
@@ -141,3 +142,20 @@ below-next m j rows h b lt = subst (λ (l : List ℕ). Below m l) (sym (take-suc
 pub ascending-climbs : (b e : ℕ) (rs : List ℕ) → Ascending b e rs → Climbs b rs
 ascending-climbs b e [] a = tt
 ascending-climbs b e (r ∷ rs) a = (a .0, ascending-climbs (suc r) e rs (a .2))
+
+-- ---- a list is parted by a rank in one place
+
+pub parted-once : (rank m n : ℕ) (rows : List ℕ) → Parted rank m rows → Parted rank n rows → m ≡ n
+parted-once rank m n rows p q = go (decLt m n) (decLt n m)
+  where
+    -- an entry between the two would be below the rank and not below it
+    apart : (j k : ℕ) → Parted rank j rows → Parted rank k rows → j < k → ⊥
+    apart j k a b h =
+        let within : j < length rows = omega (arith, b .within) in
+        let low : getD (take k rows) j 0 < rank = below-at rank (take k rows) j (b .before) (omega (arith, length-take k rows, b .within)) in
+        omega (arith, low, getD-take k rows j 0 h, climbs-at rank j rows within (a .after) .0)
+
+    go : Dec (m < n) → Dec (n < m) → m ≡ n
+    go (yes h) d = absurd (apart m n p q h)
+    go (no h) (yes k) = absurd (apart n m q p k)
+    go (no h) (no k) = omega arith
