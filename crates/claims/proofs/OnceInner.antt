@@ -170,6 +170,8 @@ use Rattle.marks.proofs.inner.entry_at.Kinds as marks-entry-at-kinds
 use Rattle.marks.proofs.inner.entry_at.Reads as marks-entry-at
 use Rattle.marks.proofs.inner.row_from.Kinds as marks-row-from-kinds
 use Rattle.marks.proofs.inner.row_from.Reads as marks-row-from
+use Rattle.marks.proofs.inner.row_on.Kinds as marks-row-on-kinds
+use Rattle.marks.proofs.inner.row_on.Reads as marks-row-on
 use Rattle.kept.proofs.inner.lay_runs_in_runs.Kinds as runs-in-runs-kinds
 use Rattle.kept.proofs.inner.lay_runs_in_runs.Reads as runs-in-runs
 use Rattle.kept.proofs.inner.lay_entries_by_runs.Kinds as entries-by-runs-kinds
@@ -427,6 +429,9 @@ kept-lay-entries-by-runs-one κs a p x y v w hv hw = (hv .0 ∙ sym (hw .0), ap 
 
 pub marks-row-from-one : OneAnswer 1 marks-row-from-kinds.ps marks-row-from-kinds.r marks-row-from.Pre marks-row-from.Post
 marks-row-from-one κs a p x y v w hv hw = (hv ∙ sym hw, refl)
+
+pub marks-row-on-one : OneAnswer 1 marks-row-on-kinds.ps marks-row-on-kinds.r marks-row-on.Pre marks-row-on.Post
+marks-row-on-one κs a p x y v w hv hw = (hv ∙ sym hw, refl)
 
 pub kept-lay-entries-in-runs-one : OneAnswer 3 entries-in-runs-kinds.ps entries-in-runs-kinds.r entries-in-runs.Pre entries-in-runs.Post
 kept-lay-entries-in-runs-one κs a p x y v w hv hw = (hv .0 ∙ sym (hw .0), ap (λ (l : List ℕ). (tt, (tt, (tt, (tt, (l, tt)))))) (hv .1 ∙ sym (hw .1)))

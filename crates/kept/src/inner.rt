@@ -19,6 +19,7 @@ use books::inner::clear_rows;
 use laid::inner::clear;
 use marks::inner::Place;
 use marks::inner::row_from;
+use marks::inner::row_on;
 use rows::Rank;
 use rows::Row;
 
@@ -122,7 +123,7 @@ pub fn keep_words(
         let gap = from.row.0 - done;
         clear_rows(out, at, Row(done), gap);
         let last = past - 1;
-        let to = row_from(words, start, len, from.place, Rank(last));
+        let to = row_on(words, start, len, from, Rank(first), Rank(last));
         place = to.place;
         done = to.row.0 + 1;
         sum += past - first;

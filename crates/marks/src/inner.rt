@@ -47,6 +47,18 @@ pub fn row_from(words: &[u64], start: u64, len: u64, from: Place, rank: Rank) ->
     }
 }
 
+// The row of a rank, sought from the row of another that is not above it. Of a run of one rank both are the same, and nothing is sought.
+pub fn row_on(words: &[u64], start: u64, len: u64, from: Found, known: Rank, rank: Rank) -> Found
+    requires { ⌜ HasRows start len (now words) × (from ≡ foundAt (view start len (now words)) known)
+        × (known .0 ≤ rank .0) × (rank .0 < count (view start len (now words))) ⌝ }
+    ensures { λ r. ⌜ r ≡ foundAt (view start len (now (words .entry))) rank ⌝ }
+{
+    if rank.0 == known.0 {
+        return from;
+    }
+    row_from(words, start, len, from.place, rank)
+}
+
 // The self entry that has a rank.
 pub fn entry_at(rows: &[u32], single: bool, rank: Rank) -> Row
     requires { ⌜ rank .0 < length (entries single (now rows)) ⌝ }

@@ -65,7 +65,7 @@ gone c = c .before .before
 abbrev found : tie.After-slice-known2 Inv-loop μ-loop → tie.After-row-from Inv-loop μ-loop
 found c = sought (gone c .before)
 
-abbrev back : tie.After-struct-known2 Inv-loop μ-loop → tie.After-row-from2 Inv-loop μ-loop
+abbrev back : tie.After-struct-known2 Inv-loop μ-loop → tie.After-row-on Inv-loop μ-loop
 back c = c .before .before
 
 abbrev around : tie.After-struct-known2 Inv-loop μ-loop → tie.After-row-from Inv-loop μ-loop
@@ -133,14 +133,6 @@ module _ (c : tie.After-row-from Inv-loop μ-loop) where
   from-row : from .row .0 ≡ select (self (turn c)) (first (turn c))
   from-row = found-row (self (turn c)) (record { 0 = first (turn c) }) from (c .row-from .ensures)
 
-  from-walked : Walked (self (turn c)) (from .place)
-  from-walked = found-walked (self (turn c)) (record { 0 = first (turn c) }) from (c .row-from .ensures)
-
-  from-reached : from .place .passed .0 ≤ first (turn c)
-  from-reached =
-      let t = turn c in
-      found-reached (self t) (record { 0 = first t }) from (c .row-from .ensures) (omega (arith, next t .some, next t .within))
-
 -- ---- the row of its last, and what is behind it
 
 module _ (c : tie.After-struct-known2 Inv-loop μ-loop) where
@@ -148,17 +140,17 @@ module _ (c : tie.After-struct-known2 Inv-loop μ-loop) where
   t = turn (around c)
 
   abbrev to : Found
-  to = back c .row-from2 .result
+  to = back c .row-on .result
 
   to-row : to .row .0 ≡ select (self t) (past t - 1)
-  to-row = found-row (self t) (record { 0 = past t - 1 }) to (back c .row-from2 .ensures)
+  to-row = found-row (self t) (record { 0 = past t - 1 }) to (back c .row-on .ensures)
 
   to-walked : Walked (self t) (to .place)
-  to-walked = found-walked (self t) (record { 0 = past t - 1 }) to (back c .row-from2 .ensures)
+  to-walked = found-walked (self t) (record { 0 = past t - 1 }) to (back c .row-on .ensures)
 
   to-reached : to .place .passed .0 ≤ past t - 1
   to-reached =
-      found-reached (self t) (record { 0 = past t - 1 }) to (back c .row-from2 .ensures) (omega (arith, next t .some, next t .within))
+      found-reached (self t) (record { 0 = past t - 1 }) to (back c .row-on .ensures) (omega (arith, next t .some, next t .within))
 
   abbrev behind : ℕ
   behind = to .row .0 + 1
@@ -237,13 +229,13 @@ clear-rows-requires c κs =
 sub-last : tie.Need-sub-last Inv-loop μ-loop
 sub-last c = omega (arith, next (turn (found c)) .some)
 
-row-from-requires-2 : tie.Need-row-from-requires-2 Inv-loop μ-loop
-row-from-requires-2 c κs =
+row-on-requires : tie.Need-row-on-requires Inv-loop μ-loop
+row-on-requires c κs =
     let f = found c in
     let t = turn f in
     let in-words = s t .pre .0 in
     let r = next t in
-    ((in-words .0, in-words .2), from-walked f, omega (arith, from-reached f, r .some), omega (arith, r .some, r .within))
+    ((in-words .0, in-words .2), f .row-from .ensures, omega (arith, r .some), omega (arith, r .some, r .within))
 
 add-done : tie.Need-add-done Inv-loop μ-loop
 add-done c =
@@ -313,7 +305,7 @@ keep-words-spec =
     sub-gap
     clear-rows-requires
     sub-last
-    row-from-requires-2
+    row-on-requires
     add-done
     sub-sum
     add-sum
