@@ -1,7 +1,7 @@
 -- The contracts of the C library and of what stands in the `inner` modules admit one answer and one content of what is lent, on what they
 -- take: both are said to equal a function of the inputs.
 -- Assumes nothing.
-use mathlib.Core.Path.{sym, ap, _∙_, refl}
+use mathlib.Core.Path.{sym, ap, ap₂, _∙_, refl}
 use mathlib.Core.List.{List}
 use Prim.Native.Nat.{ℕ}
 use Rattle.claims.specs.OneAnswer.{OneAnswer}
@@ -14,6 +14,10 @@ use Rattle.books.proofs.inner.self_bits.Kinds as books-self-bits-kinds
 use Rattle.books.proofs.inner.self_bits.Reads as books-self-bits
 use Rattle.books.proofs.inner.rank_bits.Kinds as books-rank-bits-kinds
 use Rattle.books.proofs.inner.rank_bits.Reads as books-rank-bits
+use Rattle.books.specs.declared.inner.Gathered.{Gathered}
+use Rattle.books.proofs.GatherLaws.{parted-once}
+use Rattle.books.proofs.inner.rank_bits_for_chunk.Kinds as books-gather-kinds
+use Rattle.books.proofs.inner.rank_bits_for_chunk.Reads as books-gather
 use Rattle.books.proofs.inner.put_rows.Kinds as books-put-rows-kinds
 use Rattle.books.proofs.inner.put_rows.Reads as books-put-rows
 use Rattle.books.proofs.inner.mark_row.Kinds as books-mark-row-kinds
@@ -210,6 +214,11 @@ books-self-bits-one κs a p x y v w hv hw = (hv ∙ sym hw, refl)
 
 pub books-rank-bits-one : OneAnswer 1 books-rank-bits-kinds.ps books-rank-bits-kinds.r books-rank-bits.Pre books-rank-bits.Post
 books-rank-bits-one κs a p x y v w hv hw = (hv ∙ sym hw, refl)
+
+pub books-rank-bits-for-chunk-one : OneAnswer 1 books-gather-kinds.ps books-gather-kinds.r books-gather.Pre books-gather.Post
+books-rank-bits-for-chunk-one κs a p x y v w hv hw =
+    let make : ℕ → ℕ → Gathered = λ bits next. record { bits = bits; next = next } in
+    (ap₂ make (hv .is ∙ sym (hw .is)) (parted-once _ (x .next) (y .next) _ (hv .parted) (hw .parted)), refl)
 
 pub books-put-rows-one : OneAnswer 1 books-put-rows-kinds.ps books-put-rows-kinds.r books-put-rows.Pre books-put-rows.Post
 books-put-rows-one κs a p x y v w hv hw = (refl, ap (λ (l : List ℕ). (l, (tt, (tt, (tt, (tt, tt)))))) (hv ∙ sym hw))
@@ -434,7 +443,7 @@ pub marks-row-on-one : OneAnswer 1 marks-row-on-kinds.ps marks-row-on-kinds.r ma
 marks-row-on-one κs a p x y v w hv hw = (hv ∙ sym hw, refl)
 
 pub kept-lay-entries-in-runs-one : OneAnswer 3 entries-in-runs-kinds.ps entries-in-runs-kinds.r entries-in-runs.Pre entries-in-runs.Post
-kept-lay-entries-in-runs-one κs a p x y v w hv hw = (hv .0 ∙ sym (hw .0), ap (λ (l : List ℕ). (tt, (tt, (tt, (tt, (l, tt)))))) (hv .1 ∙ sym (hw .1)))
+kept-lay-entries-in-runs-one κs a p x y v w hv hw = (hv .0 ∙ sym (hw .0), ap (λ (l : List ℕ). (tt, (tt, (tt, (tt, (tt, (l, tt))))))) (hv .1 ∙ sym (hw .1)))
 
 pub laid-lay-same-one : OneAnswer 1 laid-lay-same-kinds.ps laid-lay-same-kinds.r laid-lay-same.Pre laid-lay-same.Post
 laid-lay-same-one κs a p x y v w hv hw = (refl, ap (λ (l : List ℕ). (l, (tt, (tt, (tt, tt))))) (hv ∙ sym hw))
