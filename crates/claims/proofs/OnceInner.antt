@@ -152,8 +152,8 @@ use Rattle.fills.proofs.inner.lay.lay_runs.Kinds as fills-lay-runs-kinds
 use Rattle.fills.proofs.inner.lay.lay_runs.Reads as fills-lay-runs
 use Rattle.fills.proofs.inner.list.list_runs.Kinds as fills-list-runs-kinds
 use Rattle.fills.proofs.inner.list.list_runs.Reads as fills-list-runs
-use Rattle.kept.proofs.inner.lay_ranks_under_runs.Kinds as ranks-under-runs-kinds
-use Rattle.kept.proofs.inner.lay_ranks_under_runs.Reads as ranks-under-runs
+use Rattle.under.proofs.inner.lay_ranks_under_runs.Kinds as ranks-under-runs-kinds
+use Rattle.under.proofs.inner.lay_ranks_under_runs.Reads as ranks-under-runs
 use Rattle.fills.proofs.inner.lay.lay_run.Kinds as fills-lay-run-kinds
 use Rattle.fills.proofs.inner.lay.lay_run.Reads as fills-lay-run
 use Rattle.mask.proofs.inner.answers.own_answer.Kinds as mask-own-answer-kinds
@@ -176,14 +176,14 @@ use Rattle.marks.proofs.inner.row_from.Kinds as marks-row-from-kinds
 use Rattle.marks.proofs.inner.row_from.Reads as marks-row-from
 use Rattle.marks.proofs.inner.row_on.Kinds as marks-row-on-kinds
 use Rattle.marks.proofs.inner.row_on.Reads as marks-row-on
-use Rattle.kept.proofs.inner.lay_runs_in_runs.Kinds as runs-in-runs-kinds
-use Rattle.kept.proofs.inner.lay_runs_in_runs.Reads as runs-in-runs
+use Rattle.under.proofs.inner.lay_runs_in_runs.Kinds as runs-in-runs-kinds
+use Rattle.under.proofs.inner.lay_runs_in_runs.Reads as runs-in-runs
 use Rattle.kept.proofs.inner.lay_entries_by_runs.Kinds as entries-by-runs-kinds
 use Rattle.kept.proofs.inner.lay_entries_by_runs.Reads as entries-by-runs
 use Rattle.kept.proofs.inner.keep_words.Kinds as kept-keep-words-kinds
 use Rattle.kept.proofs.inner.keep_words.Reads as kept-keep-words
-use Rattle.kept.proofs.inner.lay_entries_in_runs.Kinds as entries-in-runs-kinds
-use Rattle.kept.proofs.inner.lay_entries_in_runs.Reads as entries-in-runs
+use Rattle.under.proofs.inner.lay_entries_in_runs.Kinds as entries-in-runs-kinds
+use Rattle.under.proofs.inner.lay_entries_in_runs.Reads as entries-in-runs
 use Rattle.laid.proofs.inner.lay_same.Kinds as laid-lay-same-kinds
 use Rattle.laid.proofs.inner.lay_same.Reads as laid-lay-same
 use Rattle.laid.proofs.inner.fill.Kinds as laid-fill-kinds
@@ -424,14 +424,14 @@ fills-set-run-one κs a p x y v w hv hw = (refl, ap (λ (l : List ℕ). (l, (tt,
 pub fills-list-runs-one : OneAnswer 2 fills-list-runs-kinds.ps fills-list-runs-kinds.r fills-list-runs.Pre fills-list-runs.Post
 fills-list-runs-one κs a p x y v w hv hw = (refl, ap (λ (l : List ℕ). (tt, (tt, (l, tt)))) (hv ∙ sym hw))
 
-pub kept-lay-ranks-under-runs-one : OneAnswer 3 ranks-under-runs-kinds.ps ranks-under-runs-kinds.r ranks-under-runs.Pre ranks-under-runs.Post
-kept-lay-ranks-under-runs-one κs a p x y v w hv hw = (hv .0 ∙ sym (hw .0), ap (λ (l : List ℕ). (tt, (tt, (tt, (tt, (tt, (l, tt))))))) (hv .1 ∙ sym (hw .1)))
+pub under-lay-ranks-under-runs-one : OneAnswer 3 ranks-under-runs-kinds.ps ranks-under-runs-kinds.r ranks-under-runs.Pre ranks-under-runs.Post
+under-lay-ranks-under-runs-one κs a p x y v w hv hw = (hv .0 ∙ sym (hw .0), ap (λ (l : List ℕ). (tt, (tt, (tt, (tt, (tt, (l, tt))))))) (hv .1 ∙ sym (hw .1)))
 
 pub kept-keep-words-one : OneAnswer 3 kept-keep-words-kinds.ps kept-keep-words-kinds.r kept-keep-words.Pre kept-keep-words.Post
 kept-keep-words-one κs a p x y v w hv hw = (hv .0 ∙ sym (hw .0), ap (λ (l : List ℕ). (tt, (tt, (tt, (tt, (tt, (l, tt))))))) (hv .1 ∙ sym (hw .1)))
 
-pub kept-lay-runs-in-runs-one : OneAnswer 3 runs-in-runs-kinds.ps runs-in-runs-kinds.r runs-in-runs.Pre runs-in-runs.Post
-kept-lay-runs-in-runs-one κs a p x y v w hv hw = (hv .0 ∙ sym (hw .0), ap (λ (l : List ℕ). (tt, (tt, (tt, (tt, (l, tt)))))) (hv .1 ∙ sym (hw .1)))
+pub under-lay-runs-in-runs-one : OneAnswer 3 runs-in-runs-kinds.ps runs-in-runs-kinds.r runs-in-runs.Pre runs-in-runs.Post
+under-lay-runs-in-runs-one κs a p x y v w hv hw = (hv .0 ∙ sym (hw .0), ap (λ (l : List ℕ). (tt, (tt, (tt, (tt, (l, tt)))))) (hv .1 ∙ sym (hw .1)))
 
 pub kept-lay-entries-by-runs-one : OneAnswer 3 entries-by-runs-kinds.ps entries-by-runs-kinds.r entries-by-runs.Pre entries-by-runs.Post
 kept-lay-entries-by-runs-one κs a p x y v w hv hw = (hv .0 ∙ sym (hw .0), ap (λ (l : List ℕ). (tt, (tt, (tt, (tt, (tt, (l, tt))))))) (hv .1 ∙ sym (hw .1)))
@@ -442,8 +442,8 @@ marks-row-from-one κs a p x y v w hv hw = (hv ∙ sym hw, refl)
 pub marks-row-on-one : OneAnswer 1 marks-row-on-kinds.ps marks-row-on-kinds.r marks-row-on.Pre marks-row-on.Post
 marks-row-on-one κs a p x y v w hv hw = (hv ∙ sym hw, refl)
 
-pub kept-lay-entries-in-runs-one : OneAnswer 3 entries-in-runs-kinds.ps entries-in-runs-kinds.r entries-in-runs.Pre entries-in-runs.Post
-kept-lay-entries-in-runs-one κs a p x y v w hv hw = (hv .0 ∙ sym (hw .0), ap (λ (l : List ℕ). (tt, (tt, (tt, (tt, (tt, (l, tt))))))) (hv .1 ∙ sym (hw .1)))
+pub under-lay-entries-in-runs-one : OneAnswer 3 entries-in-runs-kinds.ps entries-in-runs-kinds.r entries-in-runs.Pre entries-in-runs.Post
+under-lay-entries-in-runs-one κs a p x y v w hv hw = (hv .0 ∙ sym (hw .0), ap (λ (l : List ℕ). (tt, (tt, (tt, (tt, (tt, (l, tt))))))) (hv .1 ∙ sym (hw .1)))
 
 pub laid-lay-same-one : OneAnswer 1 laid-lay-same-kinds.ps laid-lay-same-kinds.r laid-lay-same.Pre laid-lay-same.Post
 laid-lay-same-one κs a p x y v w hv hw = (refl, ap (λ (l : List ℕ). (l, (tt, (tt, (tt, tt))))) (hv ∙ sym hw))

@@ -1,7 +1,4 @@
-// Composition by rank where self or the rank mask is runs: what is between is copied, kept or cleared as a whole. Each kernel lays its rows from any
-// bit of the output on, and tells how many; what calls it has checked the operands.
-mod copies;
+// Composition by rank where the rank mask is runs, and self words or a list: of each run of ranks the rows stay, or are marked, as a whole. Each kernel
+// lays its rows from any bit of the output on, and tells how many; what calls it has checked the operands.
 mod entries;
-mod gathers;
 pub mod inner;
-mod windows;

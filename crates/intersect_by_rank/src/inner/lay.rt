@@ -24,9 +24,6 @@ use deposits::inner::intersect_bit_buffer_by_rank_indices;
 use deposits::inner::intersect_bit_buffers;
 use kept::inner::keep_words;
 use kept::inner::lay_entries_by_runs;
-use kept::inner::lay_entries_in_runs;
-use kept::inner::lay_ranks_under_runs;
-use kept::inner::lay_runs_in_runs;
 use laid::inner::clear;
 use marks::inner::lay_driven_by_list;
 use marks::inner::lay_driven_by_words;
@@ -46,6 +43,9 @@ use rules::Answer;
 use rules::Factors;
 use rules::Form;
 use rules::Route;
+use under::inner::lay_entries_in_runs;
+use under::inner::lay_ranks_under_runs;
+use under::inner::lay_runs_in_runs;
 
 // Runs, of which one at least is longer than a row: they have more rows than they are. Runs of one row each are laid as a list is.
 fn has_long_runs(s: Form, count: u64, numbers: &[u32]) -> bool

@@ -1,0 +1,6 @@
+pub mod CopyLaws
+pub mod UnderLaws
+pub mod EntryLaws
+pub mod WindowLaws
+pub mod RunsInRunsLaws
+pub mod GatheredLaws
