@@ -99,8 +99,11 @@ module _ (c : tie.In-loop Inv-loop μ-loop) where
   read-room =
       let l = head c .loop in
       let a = s .args in
-      omega (arith, s .pre .3,
-      under-ranks runs (bits s) (a .len) (a .at) (l .done) i (l .rank) (now (a .out)) (l .out) (l .inv .0) (omega arith) (long s))
+      omega (
+        arith,
+        s .pre .3,
+        under-ranks runs (bits s) (a .len) (a .at) (l .done) i (l .rank) (now (a .out)) (l .out) (l .inv .0) (omega arith) (long s),
+      )
 
   few : head c .loop .rank + held ≤ s .args .len
   few =
@@ -115,8 +118,11 @@ module _ (c : tie.In-loop Inv-loop μ-loop) where
   sum-few =
       let l = head c .loop in
       let a = s .args in
-      omega (arith, ap count part,
-      sums-few runs (bits s) (a .len) (a .at) (l .done) i (l .rank) (now (a .out)) (l .out) (l .inv .0) (omega arith) (long s) (l .sum) (l .inv .1))
+      omega (
+        arith,
+        ap count part,
+        sums-few runs (bits s) (a .len) (a .at) (l .done) i (l .rank) (now (a .out)) (l .out) (l .inv .0) (omega arith) (long s) (l .sum) (l .inv .1),
+      )
 
 -- ---- the answers
 
