@@ -43,6 +43,7 @@ NOTES = {
     "routes": "the route table",
     "rowwise": "row by row",
     "bitops": "set operations",
+    "by_route": "the kernel of a route",
     "intersect_by_rank": "composition by rank",
     "composer": "streams",
     "text": "the program's lines",

@@ -28,8 +28,8 @@ use Rattle.host.proofs.boltamber_select.Kinds as host-boltamber-select-kinds
 use Rattle.host.proofs.boltamber_select.Reads as host-boltamber-select
 use Rattle.routes.proofs.inner.few.Kinds as routes-few-kinds
 use Rattle.routes.proofs.inner.few.Reads as routes-few
-use Rattle.intersect_by_rank.proofs.inner.lay.compose_at.Kinds as intersect-by-rank-compose-at-kinds
-use Rattle.intersect_by_rank.proofs.inner.lay.compose_at.Reads as intersect-by-rank-compose-at
+use Rattle.by_route.proofs.inner.lay_by_route.Kinds as by-route-lay-by-route-kinds
+use Rattle.by_route.proofs.inner.lay_by_route.Reads as by-route-lay-by-route
 use Rattle.intersect_by_rank.proofs.inner.lay.lay_composition.Kinds as intersect-by-rank-lay-composition-kinds
 use Rattle.intersect_by_rank.proofs.inner.lay.lay_composition.Reads as intersect-by-rank-lay-composition
 use Rattle.routes.proofs.inner.document_factors.Kinds as routes-document-factors-kinds
@@ -235,8 +235,8 @@ host-boltamber-select-one κs a p x y v w hv hw = (hv ∙ sym hw, refl)
 pub routes-few-one : OneAnswer 0 routes-few-kinds.ps routes-few-kinds.r routes-few.Pre routes-few.Post
 routes-few-one κs a p x y v w hv hw = (hv ∙ sym hw, refl)
 
-pub intersect-by-rank-compose-at-one : OneAnswer 5 intersect-by-rank-compose-at-kinds.ps intersect-by-rank-compose-at-kinds.r intersect-by-rank-compose-at.Pre intersect-by-rank-compose-at.Post
-intersect-by-rank-compose-at-one κs a p x y v w hv hw = (refl, ap (λ (l : List ℕ). (tt, (tt, (tt, (tt, (tt, (tt, (tt, (tt, (l, tt)))))))))) (hv ∙ sym hw))
+pub by-route-lay-by-route-one : OneAnswer 5 by-route-lay-by-route-kinds.ps by-route-lay-by-route-kinds.r by-route-lay-by-route.Pre by-route-lay-by-route.Post
+by-route-lay-by-route-one κs a p x y v w hv hw = (refl, ap (λ (l : List ℕ). (tt, (tt, (tt, (tt, (tt, (tt, (tt, (tt, (l, tt)))))))))) (hv ∙ sym hw))
 
 pub intersect-by-rank-lay-composition-one : OneAnswer 5 intersect-by-rank-lay-composition-kinds.ps intersect-by-rank-lay-composition-kinds.r intersect-by-rank-lay-composition.Pre intersect-by-rank-lay-composition.Post
 intersect-by-rank-lay-composition-one κs a p x y v w hv hw = (hv .0 ∙ sym (hw .0), ap (λ (l : List ℕ). (tt, (tt, (tt, (tt, (tt, (tt, (tt, (tt, (l, tt)))))))))) (hv .1 ∙ sym (hw .1)))

@@ -1,4 +1,1 @@
-pub mod FitsLaws
 pub mod JudgeLaws
-pub mod OverLaws
-pub mod EntriesLaws

@@ -12,8 +12,8 @@ use Rattle.rules.specs.Compose.{Paired, result, routed}
 use Rattle.rules.specs.Route.{routeBy, routeOf, numberOf}
 use Rattle.rules.proofs.OperandLaws.{accepted-limit, accepted-few}
 use Rattle.rules.proofs.ComposeLaws.{result-length, result-count}
-use Rattle.intersect_by_rank.specs.Fits.{Fits}
-use Rattle.intersect_by_rank.proofs.FitsLaws.{route-fits}
+use Rattle.by_route.specs.Fits.{Fits}
+use Rattle.by_route.proofs.FitsLaws.{route-fits}
 use Rattle.intersect_by_rank.proofs.inner.lay.lay_composition.Statement.{statement}
 use Rattle.intersect_by_rank.proofs.inner.lay.lay_composition.Tie as tie
 use borrow.Author.Needs.{needs}

@@ -1,4 +1,4 @@
--- `intersect_by_rank::inner::lay::lay_if_set` meets its contract: rank bits are copied under runs, and looked at entry by entry for a list.
+-- `by_route::lists::lay_if_set` meets its contract: rank bits are copied under runs, and looked at entry by entry for a list.
 -- By what acceptance gives of each. Assumes nothing.
 use Prim.Native.Nat.{ℕ}
 use mathlib.Core.Path.{_≡_, sym, ap, _∙_, subst}
@@ -16,9 +16,9 @@ use Rattle.rows.specs.Laid.{laid}
 use Rattle.rules.specs.Operand.{Operand, lent, lengthOf}
 use Rattle.rules.proofs.OperandLaws.{accepted-few}
 use Rattle.marks.specs.Entries.{entries}
-use Rattle.intersect_by_rank.proofs.EntriesLaws.{AsRuns, AsEntries, as-runs, as-entries}
-use Rattle.intersect_by_rank.proofs.inner.lay.lay_if_set.Statement.{statement}
-use Rattle.intersect_by_rank.proofs.inner.lay.lay_if_set.Tie as tie
+use Rattle.by_route.proofs.EntriesLaws.{AsRuns, AsEntries, as-runs, as-entries}
+use Rattle.by_route.proofs.lists.lay_if_set.Statement.{statement}
+use Rattle.by_route.proofs.lists.lay_if_set.Tie as tie
 
 -- ---- the places, each from the one after it: runs, or entries
 

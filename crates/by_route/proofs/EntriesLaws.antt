@@ -14,7 +14,7 @@ use Rattle.operand.specs.Flat.{hasRuns}
 use Rattle.operand.proofs.NumberLaws.{list-numbers, accepted-list, list-rows, list-count, accepted-runs, runs-rows, runs-sum}
 use Rattle.marks.specs.Entries.{entries}
 use Rattle.marks.proofs.EntryLaws.{firsts-length, singles-listed, singles-ascending}
-use Rattle.intersect_by_rank.specs.Fits.{hasLongRuns}
+use Rattle.by_route.specs.Fits.{hasLongRuns}
 
 -- its runs
 pub record AsRuns (o : Operand) : Type 0 where

@@ -1,4 +1,4 @@
--- `intersect_by_rank::inner::lay::has_long_runs` meets its contract.
+-- `by_route::lists::has_long_runs` meets its contract.
 -- By the form: of runs, the count is held against how many they are. Assumes nothing.
 use Prim.Native.Nat.{_/_}
 use mathlib.Core.Path.{sym, ap, _∙_}
@@ -7,8 +7,8 @@ use denote.Ref.{now}
 use lib.Dec.{eqb}
 use lib.ListN.{length}
 use borrow.Author.Needs.{needs}
-use Rattle.intersect_by_rank.proofs.inner.lay.has_long_runs.Statement.{statement}
-use Rattle.intersect_by_rank.proofs.inner.lay.has_long_runs.Tie as tie
+use Rattle.by_route.proofs.lists.has_long_runs.Statement.{statement}
+use Rattle.by_route.proofs.lists.has_long_runs.Tie as tie
 
 abbrev start : tie.After-has-runs → tie.Start
 start c = c .before .before

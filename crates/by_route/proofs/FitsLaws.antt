@@ -32,7 +32,7 @@ use Rattle.rules.proofs.OperandLaws.{accepted-length, accepted-count, words-rea
 use Rattle.rules.proofs.ComposeLaws.{ranks-length}
 use Rattle.operand.specs.Flat.{hasRowNumbers, hasRuns, startOf}
 use Rattle.operand.proofs.NumberLaws.{accepted-list, list-numbers, list-rows, accepted-runs, runs-rows}
-use Rattle.intersect_by_rank.specs.Fits.{AsList, InWords, Fits, keepsRuns}
+use Rattle.by_route.specs.Fits.{AsList, InWords, Fits, keepsRuns}
 
 -- ---- the chosen route's line fits, whatever the factors are
 

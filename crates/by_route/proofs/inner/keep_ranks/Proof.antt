@@ -1,4 +1,4 @@
--- `intersect_by_rank::inner::lay::keep_ranks` meets its contract: self counts as a list, or is in words.
+-- `by_route::inner::keep_ranks` meets its contract: self counts as a list, or is in words.
 -- By what the route says of it. Assumes nothing.
 use mathlib.Core.Path.{_≡_, sym, ap, _∙_}
 use mathlib.Core.Bool.{Bool, true, false}
@@ -9,9 +9,9 @@ use Rattle.rows.specs.Rows.{compose}
 use Rattle.rows.specs.Runs.{inRuns}
 use Rattle.rows.specs.Laid.{laid}
 use Rattle.rules.specs.Operand.{Operand, lent, rowsOf, countOf, countsAsList}
-use Rattle.intersect_by_rank.proofs.FitsLaws.{bare-rows, bare-accepted, self-in-words}
-use Rattle.intersect_by_rank.proofs.inner.lay.keep_ranks.Statement.{statement}
-use Rattle.intersect_by_rank.proofs.inner.lay.keep_ranks.Tie as tie
+use Rattle.by_route.proofs.FitsLaws.{bare-rows, bare-accepted, self-in-words}
+use Rattle.by_route.proofs.inner.keep_ranks.Statement.{statement}
+use Rattle.by_route.proofs.inner.keep_ranks.Tie as tie
 
 -- ---- the places, each from the one after it
 
@@ -47,7 +47,8 @@ returns c =
     let t = k .before .before in
     let s = start (t .before) in
     k .keep-in-list .ensures
-    ∙ ap (λ (z : List Bool). laid (s .args .at) (compose z (inRuns (countOf (self s)) (now (s .args .rruns)))) (now (s .args .out))) (sym (bare-rows (self s) (listed t)))
+    ∙ ap (λ (z : List Bool). laid (s .args .at) (compose z (inRuns (countOf (self s)) (now (s .args .rruns)))) (now (s .args .out)))
+    (sym (bare-rows (self s) (listed t)))
 
 keep-in-words-requires : tie.Need-keep-in-words-requires
 keep-in-words-requires c κs =

@@ -1,4 +1,4 @@
--- `intersect_by_rank::inner::lay::lay_by_route` meets its contract: runs of ranks are kept, and all else goes by the route's kernel.
+-- `by_route::inner::lay_by_route` meets its contract: runs of ranks are kept, and all else goes by the route's kernel.
 -- By what is told of the route and of the rank mask's form. Assumes nothing.
 use mathlib.Core.Path.{_≡_, sym, ap, _∙_}
 use mathlib.Core.Bool.{Bool, true, false}
@@ -9,10 +9,10 @@ use borrow.Author.Needs.{needs}
 use Rattle.rows.specs.Laid.{laid}
 use Rattle.rules.specs.Operand.{Operand, lent}
 use Rattle.operand.specs.Flat.{hasRuns}
-use Rattle.intersect_by_rank.specs.Fits.{keepsRuns}
-use Rattle.intersect_by_rank.proofs.FitsLaws.{kept-runs, kept-self, runs-apart, runs-kept}
-use Rattle.intersect_by_rank.proofs.inner.lay.lay_by_route.Statement.{statement}
-use Rattle.intersect_by_rank.proofs.inner.lay.lay_by_route.Tie as tie
+use Rattle.by_route.specs.Fits.{keepsRuns}
+use Rattle.by_route.proofs.FitsLaws.{kept-runs, kept-self, runs-apart, runs-kept}
+use Rattle.by_route.proofs.inner.lay_by_route.Statement.{statement}
+use Rattle.by_route.proofs.inner.lay_by_route.Tie as tie
 
 -- ---- the places, each from the one after it: runs that are kept, or none
 

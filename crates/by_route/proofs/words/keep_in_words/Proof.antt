@@ -1,4 +1,4 @@
--- `intersect_by_rank::inner::lay::keep_in_words` meets its contract: self is laid, and of what lies there the runs of ranks are kept.
+-- `by_route::words::keep_in_words` meets its contract: self is laid, and of what lies there the runs of ranks are kept.
 -- What lies there is self's rows, and what is laid over it covers it. Assumes nothing.
 use Prim.Native.Nat.{ℕ, _+_, _*_, _≤_}
 use mathlib.Core.Path.{_≡_, sym, ap, ap₂, _∙_, subst}
@@ -18,10 +18,10 @@ use Rattle.rows.proofs.LaidLaws.{laid-length}
 use Rattle.rules.specs.Operand.{Operand, lent, rowsOf, lengthOf, countOf, Accepted}
 use Rattle.rules.proofs.OperandLaws.{accepted-length, accepted-count}
 use Rattle.operand.specs.Flat.{startOf}
-use Rattle.intersect_by_rank.proofs.FitsLaws.{in-words}
-use Rattle.intersect_by_rank.proofs.OverLaws.{view-laid, laid-over}
-use Rattle.intersect_by_rank.proofs.inner.lay.keep_in_words.Statement.{statement}
-use Rattle.intersect_by_rank.proofs.inner.lay.keep_in_words.Tie as tie
+use Rattle.by_route.proofs.FitsLaws.{in-words}
+use Rattle.by_route.proofs.OverLaws.{view-laid, laid-over}
+use Rattle.by_route.proofs.words.keep_in_words.Statement.{statement}
+use Rattle.by_route.proofs.words.keep_in_words.Tie as tie
 
 -- ---- the places, each from the one after it: self laid, its length asked, and its rows kept
 

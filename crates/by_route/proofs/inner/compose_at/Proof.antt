@@ -1,4 +1,4 @@
--- `intersect_by_rank::inner::lay::compose_at` meets its contract.
+-- `by_route::inner::compose_at` meets its contract.
 -- What the line of the route says is what its kernel asks for, and gives the composition. Assumes nothing.
 use Prim.Native.Nat.{ℕ, _+_, _*_, _≤_}
 use mathlib.Core.Path.{_≡_, sym, ap, ap₂, _∙_, subst}
@@ -18,12 +18,12 @@ use Rattle.rules.specs.Operand.{Operand, lent, rowsOf, lengthOf, countOf}
 use Rattle.rules.specs.Compose.{Paired, result}
 use Rattle.operand.specs.Flat.{hasRowNumbers, startOf}
 use Rattle.operand.proofs.NumberLaws.{list-numbers}
-use Rattle.intersect_by_rank.specs.Fits.{Fits, AsList, InWords, keepsRuns}
-use Rattle.intersect_by_rank.proofs.FitsLaws.{in-words, by-full-self, full-length, by-full-rank, by-empty}
-use Rattle.intersect_by_rank.proofs.FitsLaws.{words-ascends, words-listed, words-read}
-use Rattle.intersect_by_rank.proofs.FitsLaws.{alone-accepted, alone-ranks, alone-listed, alone-read}
-use Rattle.intersect_by_rank.proofs.inner.lay.compose_at.Statement.{statement}
-use Rattle.intersect_by_rank.proofs.inner.lay.compose_at.Tie as tie
+use Rattle.by_route.specs.Fits.{Fits, AsList, InWords, keepsRuns}
+use Rattle.by_route.proofs.FitsLaws.{in-words, by-full-self, full-length, by-full-rank, by-empty}
+use Rattle.by_route.proofs.FitsLaws.{words-ascends, words-listed, words-read}
+use Rattle.by_route.proofs.FitsLaws.{alone-accepted, alone-ranks, alone-listed, alone-read}
+use Rattle.by_route.proofs.inner.compose_at.Statement.{statement}
+use Rattle.by_route.proofs.inner.compose_at.Tie as tie
 use borrow.Author.Needs.{needs}
 
 -- ---- the places, each from the one after it: where the match stands, and each of its arms
@@ -273,8 +273,13 @@ lay-at-ranks-requires : tie.Need-lay-at-ranks-requires
 lay-at-ranks-requires c κs =
     let held = c .before in
     let q = at-rank (held .before) in
-    let f = fits-at-rank (held .before) in
-    (alone-accepted (s q) (r q) (both q) (f .0), f .0, omega (arith, held .length-of2 .ensures, both q .ranks), alone-ranks (s q) (r q) (both q) (f .0) (f .1), start q .pre .2)
+    let f = fits-at-rank (held .before) in (
+      alone-accepted (s q) (r q) (both q) (f .0),
+      f .0,
+      omega (arith, held .length-of2 .ensures, both q .ranks),
+      alone-ranks (s q) (r q) (both q) (f .0) (f .1),
+      start q .pre .2,
+    )
 
 enum-told-5 : tie.Need-enum-told-5
 enum-told-5 c = search needs

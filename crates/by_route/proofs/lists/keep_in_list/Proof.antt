@@ -1,4 +1,4 @@
--- `intersect_by_rank::inner::lay::keep_in_list` meets its contract: each run of ranks is laid, in runs or in a list.
+-- `by_route::lists::keep_in_list` meets its contract: each run of ranks is laid, in runs or in a list.
 -- By what acceptance gives of each. Assumes nothing.
 use Prim.Native.Nat.{ℕ}
 use mathlib.Core.Path.{_≡_, sym, ap, ap₂, _∙_, subst}
@@ -13,9 +13,9 @@ use Rattle.rows.specs.Runs.{inRuns, runLengths, Apart}
 use Rattle.rows.specs.Laid.{laid}
 use Rattle.rules.specs.Operand.{Operand, lent, lengthOf}
 use Rattle.marks.specs.Entries.{entries}
-use Rattle.intersect_by_rank.proofs.EntriesLaws.{AsRuns, AsEntries, as-runs, as-entries}
-use Rattle.intersect_by_rank.proofs.inner.lay.keep_in_list.Statement.{statement}
-use Rattle.intersect_by_rank.proofs.inner.lay.keep_in_list.Tie as tie
+use Rattle.by_route.proofs.EntriesLaws.{AsRuns, AsEntries, as-runs, as-entries}
+use Rattle.by_route.proofs.lists.keep_in_list.Statement.{statement}
+use Rattle.by_route.proofs.lists.keep_in_list.Tie as tie
 
 -- ---- the places, each from the one after it: runs, or entries
 

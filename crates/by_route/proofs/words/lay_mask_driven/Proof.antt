@@ -1,4 +1,4 @@
--- `intersect_by_rank::inner::lay::lay_mask_driven` meets its contract.
+-- `by_route::words::lay_mask_driven` meets its contract.
 -- Self is in words, and the rank mask a list or in words; each has its driver. Assumes nothing.
 use Prim.Native.Nat.{ℕ, _+_, _*_, _≤_}
 use mathlib.Core.Path.{_≡_, ap, ap₂, sym, _∙_, subst}
@@ -15,11 +15,11 @@ use Rattle.rows.specs.Asks.{InView, Room}
 use Rattle.rules.specs.Operand.{Operand, lent, lengthOf}
 use Rattle.rules.specs.Compose.{Paired, result}
 use Rattle.operand.specs.Flat.{hasRowNumbers, startOf}
-use Rattle.intersect_by_rank.specs.Fits.{InWords}
-use Rattle.intersect_by_rank.proofs.FitsLaws.{in-words, words-count, words-ascends, words-listed, words-words, rank-in-words}
+use Rattle.by_route.specs.Fits.{InWords}
+use Rattle.by_route.proofs.FitsLaws.{in-words, words-count, words-ascends, words-listed, words-words, rank-in-words}
 use borrow.Author.Needs.{needs}
-use Rattle.intersect_by_rank.proofs.inner.lay.lay_mask_driven.Statement.{statement}
-use Rattle.intersect_by_rank.proofs.inner.lay.lay_mask_driven.Tie as tie
+use Rattle.by_route.proofs.words.lay_mask_driven.Statement.{statement}
+use Rattle.by_route.proofs.words.lay_mask_driven.Tie as tie
 
 -- ---- the places, each from the one after it: length, start and kind are asked; then the rank mask is a list, or in words
 
@@ -125,7 +125,9 @@ module _ (c : tie.After-length-of2) where
   from = c .before .start-of2 .result
 
   worded-rank : InWords (rank reading)
-  worded-rank = rank-in-words (rank reading) (start reading .pre .1 .1) (start reading .pre .3) (sym (reading .has-row-numbers .ensures) ∙ by-words c .if1 .left)
+  worded-rank =
+      rank-in-words (rank reading) (start reading .pre .1 .1) (start reading .pre .3)
+      (sym (reading .has-row-numbers .ensures) ∙ by-words c .if1 .left)
 
   counted : ranks ≡ count (shown reading (first reading) (len reading))
   counted = c .length-of2 .ensures ∙ words-count (self reading) (rank reading) (both reading) (worded reading) ∙ same-count reading

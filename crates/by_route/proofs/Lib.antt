@@ -1,0 +1,3 @@
+pub mod FitsLaws
+pub mod OverLaws
+pub mod EntriesLaws
