@@ -43,7 +43,9 @@ module _ (s : tie.Start) where
   state = s .args .state
 
   abbrev pair : Pair
-  pair = pairOf (lent (s .args .s .form) (now (s .args .swords)) (now (s .args .srows))) (lent (s .args .r .form) (now (s .args .rwords)) (now (s .args .rrows)))
+  pair =
+      let a = s .args in
+      pairOf (lent (a .s .form) (now (a .swords)) (now (a .srows))) (lent (a .r .form) (now (a .rwords)) (now (a .rrows)))
 
   takes : Accepts state pair (length (now (s .args .out)))
   takes = feed-takes state pair (length (now (s .args .out))) (s .pre .0)
