@@ -4,7 +4,7 @@ use Prim.Native.Nat.{ℕ, zero, suc, _+_, _<_}
 use mathlib.Core.Path.{_≡_, refl, sym, ap, _∙_}
 use mathlib.Core.Bool.{Bool, true, false, not, _&&_, false≢true}
 use mathlib.Core.List.{List, [], _∷_, _++_}
-use native.Mathlib.Nat.{suc-inj}
+use native.Mathlib.Nat.{suc-inj, le-of-suc-le-suc}
 use native.Mathlib.Omega.{arith}
 use lib.ListN.{length, getD, replicate}
 use Rattle.rows.specs.Rows.{count, rankAt, compose, recover, outside}
@@ -133,3 +133,29 @@ recover-all (true ∷ s) = ap (λ (l : List Bool). true ∷ l) (recover-all s)
 -- every row kept lies in s: then the rows before a row do too, and those from it on
 pub inside-append : (s₁ s₂ k₁ k₂ : List Bool) → length k₁ ≡ length s₁ → count (outside (s₁ ++ s₂) (k₁ ++ k₂)) ≡ count (outside s₁ k₁) + count (outside s₂ k₂)
 inside-append s₁ s₂ k₁ k₂ e = ap count (outside-append s₁ s₂ k₁ k₂ e) ∙ count-append (outside s₁ k₁) (outside s₂ k₂)
+
+-- 5. the first row outside: it is one, and no earlier row is
+
+none-before : (s : List Bool) (p j : ℕ) → rankAt s p ≡ 0 → j < p → getD s j false ≡ false
+none-before [] p j e h = refl
+none-before (x ∷ s) zero j e h = absurd (omega arith)
+none-before (false ∷ s) (suc p) zero e h = refl
+none-before (false ∷ s) (suc p) (suc j) e h = none-before s p j e (le-of-suc-le-suc h)
+none-before (true ∷ s) (suc p) j e h = absurd (omega arith)
+
+in-first-only : (x y : Bool) → (x && not y) ≡ true → (x ≡ true) × (y ≡ false)
+in-first-only false y e = absurd (false≢true e)
+in-first-only true false e = (refl, refl)
+in-first-only true true e = absurd (false≢true e)
+
+pub record FirstOutside (s k : List Bool) (i : ℕ) : Type 0 where
+  pub kept : getD k i false ≡ true
+  pub not-self : getD s i false ≡ false
+  pub earlier : (j : ℕ) → j < i → (getD k j false && not (getD s j false)) ≡ false
+
+pub first-outside : (s k : List Bool) → 0 < count (outside s k) → FirstOutside s k (select (outside s k) 0)
+first-outside s k h =
+    let i = select (outside s k) 0 in
+    let found = selects (outside s k) 0 h in
+    let both = in-first-only (getD k i false) (getD s i false) (sym (outside-row s k i) ∙ found .set) in
+    record { kept = both .0; not-self = both .1; earlier = λ j l. sym (outside-row s k j) ∙ none-before (outside s k) i j (found .rank) l }

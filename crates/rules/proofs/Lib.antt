@@ -13,6 +13,8 @@ pub mod RoundTrips
 pub mod Densities
 pub mod Compositions
 pub mod SetOperations
+pub mod Recoveries
+pub mod ThereAndBack
 pub mod Feeds
 pub mod Demand3
 pub mod OperandExamples

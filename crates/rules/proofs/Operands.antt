@@ -107,3 +107,23 @@ operand-numbered k o = by (o .form)
     by (Words start len claimed) = (omega arith, (omega arith, (omega arith, (omega arith, tt))))
     by (Listed len) = (omega arith, (omega arith, (omega arith, tt)))
     by (Runs len) = (omega arith, (omega arith, tt))
+
+-- nor a number above 15: those are of what operands are to each other, of states and of texts
+pub operand-numbers : (k : ℕ) (o : Operand) (x : Refusal) → Wrong k o x → x .number ≤ 15
+operand-numbers k o x = by (o .form)
+  where
+    told : (n : ℕ) → n ≤ 15 → x ≡ refusal n k → x .number ≤ 15
+    told n h e = omega (arith, ap (λ (y : Refusal). y .number) e)
+
+    by : (f : Form) → WrongBy f k o x → x .number ≤ 15
+    by (All len) w = told 1 (omega arith) (w .0)
+    by (None len) w = told 1 (omega arith) (w .0)
+    by (Words start len claimed) (inl w) = told 1 (omega arith) (w .0)
+    by (Words start len claimed) (inr (inl w)) = told 2 (omega arith) (w .0)
+    by (Words start len claimed) (inr (inr (inl w))) = told 3 (omega arith) (w .0)
+    by (Words start len claimed) (inr (inr (inr w))) = told 4 (omega arith) (w .0)
+    by (Listed len) (inl w) = told 1 (omega arith) (w .0)
+    by (Listed len) (inr (inl w)) = told 5 (omega arith) (w .0)
+    by (Listed len) (inr (inr w)) = told 6 (omega arith) (w .0)
+    by (Runs len) (inl w) = told 1 (omega arith) (w .0)
+    by (Runs len) (inr w) = told 14 (omega arith) (w .0)

@@ -4,7 +4,7 @@
 -- Assumes nothing.
 use Prim.Native.Nat.{ℕ, suc, _*_, _≤_}
 use native.Mathlib.Nat.{zero-add}
-use mathlib.Core.Path.{_≡_, refl, sym, ap, _∙_}
+use mathlib.Core.Path.{_≡_, refl, sym, ap, subst, _∙_}
 use mathlib.Core.Bool.{Bool, true, false, _&&_}
 use mathlib.Core.List.{List, [], _∷_, _++_}
 use native.Mathlib.Omega.{arith}
@@ -28,7 +28,7 @@ use Rattle.rules.specs.Operand.{Operand, lent, climbs, lastBelow, runsFi
 use Rattle.rules.specs.Answer.{densityOf, accepted, answered}
 use Rattle.rules.specs.Convert.{convertChecks, toWordsVerdict, toWords, toWordsOut, toList, toListOut, toRuns, toRunsOut}
 use Rattle.rules.proofs.OperandLaws.{apart, accepted-length, accepted-count, accepted-limit}
-use Rattle.rules.proofs.Writes.{row, Writes, writes, Lists, WritesRuns}
+use Rattle.rules.proofs.Writes.{row, Writes, writes, written-back, Lists, WritesRuns}
 use Rattle.rules.proofs.Conversions.{convert-fine}
 
 T-both : (a b : Bool) → T a → T b → T (a && b)
@@ -73,10 +73,9 @@ module _ (o : Operand) (out : List ℕ) (well : Accepted o) where
     -- the words written, at start 0 with the same length and count, are an operand with the same rows
     pub to-words-back : let back = lent (Words 0 (lengthOf (o .form)) (countOf o)) (toWordsOut o out) [] in Accepted back × (rowsOf back ≡ rowsOf o)
     to-words-back =
-        let long = accepted-length o well in
-        let back : take len (bitsOfAll 64 (toWordsOut o out)) ≡ rows = ap (λ (l : List ℕ). take len (bitsOfAll 64 l)) to-words-out ∙ written-rows len rows out long in
-        let size : length (toWordsOut o out) ≡ length out = ap length to-words-out ∙ written-length len rows out long room in
-        ((accepted-limit o well, (omega arith, (omega (arith, zero-add len), (sym (ap count back ∙ accepted-count o well), tt)))), back)
+        subst (λ (p : ℕ × List ℕ). let back = lent (Words 0 len (p .0)) (p .1) [] in Accepted back × (rowsOf back ≡ rows))
+        (λ i. (accepted-count o well i, sym to-words-out i))
+        (written-back len rows out (accepted-length o well) (accepted-limit o well) room)
 
     -- its rows bit by bit, their own count, route 0, their density, the tail and the later words
     pub to-words-writes : Writes (lengthOf (o .form)) (row o) 0 (toWords o out) (toWordsOut o out) out

@@ -5,7 +5,9 @@ use Prim.Native.Nat.{ℕ, _*_, _≤_, _<_}
 use mathlib.Core.Path.{_≡_, refl, sym, ap, _∙_}
 use mathlib.Core.Logic.{_↔_, _⊎_, inl, inr}
 use mathlib.Core.Bool.{Bool, true, false, _&&_, _||_, false≢true}
-use mathlib.Core.List.{List}
+use mathlib.Core.List.{List, []}
+use native.Mathlib.Nat.{zero-add}
+use native.Mathlib.Omega.{arith}
 use lib.ListN.{length, take, drop, getD}
 use lib.Seq.{getD-take}
 use Rattle.rows.specs.declared.Verdict.{Verdict}
@@ -16,10 +18,11 @@ use Rattle.rows.specs.Lists.{setRows}
 use Rattle.rows.specs.Runs.{runsOf, runsIn}
 use Rattle.rows.specs.Laid.{wordsFor, written}
 use Rattle.rows.specs.Table.{noRefusal, ifFine}
-use Rattle.rows.proofs.WrittenLaws.{written-rows, written-tail, written-later}
+use Rattle.rows.proofs.WrittenLaws.{written-rows, written-length, written-tail, written-later}
 use Rattle.rules.specs.declared.Answer.{Answer}
 use Rattle.rules.specs.declared.Written.{Written}
-use Rattle.rules.specs.Operand.{Operand, rowsOf}
+use Rattle.rules.specs.declared.Form.the-variants.{Words}
+use Rattle.rules.specs.Operand.{Operand, lent, rowsOf, limit, Accepted}
 use Rattle.rules.specs.Answer.{answered, densityOf}
 
 abbrev pub bitAt : List ℕ → ℕ → Bool
@@ -72,6 +75,14 @@ writes v e n rows by out long rowAt law =
       tail = written-tail n rows out long;
       later = written-later n rows out long;
     })
+
+-- the words written, at start 0 with their own length and count, are an operand with the same rows
+pub written-back : (n : ℕ) (rows : List Bool) (out : List ℕ) → length rows ≡ n → n ≤ limit → wordsFor n ≤ length out
+    → let back = lent (Words 0 n (count rows)) (written n rows out) [] in Accepted back × (rowsOf back ≡ rows)
+written-back n rows out long few room =
+    let back : take n (bitsOfAll 64 (written n rows out)) ≡ rows = written-rows n rows out long in
+    let size : length (written n rows out) ≡ length out = written-length n rows out long room in
+    ((few, (omega arith, (omega (arith, zero-add n), (sym (ap count back), tt)))), back)
 
 -- ---- what is said of a row by a Bool, as a proposition
 

@@ -6,4 +6,5 @@ pub mod Route
 pub mod Compose
 pub mod SetOps
 pub mod Stream
+pub mod Recover
 pub mod Demand3

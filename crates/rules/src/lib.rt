@@ -92,3 +92,9 @@ pub struct Fed {
     pub answer: Answer,
     pub state: State,
 }
+
+// What a recovery gives: its answer, and with 17 the first row outside self, which is 0 in every other answer.
+pub struct Recovered {
+    pub answer: Answer,
+    pub outside: Row,
+}
