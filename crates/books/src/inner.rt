@@ -70,10 +70,28 @@ pub fn rank_bits(ranks: &[u64], from: u64, rank: Rank) -> u64
     read(ranks, at, 0)
 }
 
-// The rank bits of one chunk, gathered, and the entry after them.
+// The bits of one chunk, gathered, and the number after them, or the one that the walk has come to.
 pub struct Gathered {
     pub bits: u64,
     pub next: usize,
+}
+
+// The n bits from base on of a list whose entries before next are below base. Base is a row or a rank, as the entries are.
+pub fn entry_bits(entries: &[u32], next: usize, base: u64, n: u64) -> Gathered
+    requires { ⌜ (n ≤ 64) × (base + n < 2 ^ 64) × Parted base next (now entries) ⌝ }
+    ensures { λ r. ⌜ Gathers base n (now (entries .entry)) (r .bits) (r .next) ⌝ }
+{
+    let mut bits: u64 = 0;
+    let mut j = next;
+    while j < entries.len() {
+        let entry = entries[j] as u64;
+        if entry >= base + n {
+            return Gathered { bits, next: j };
+        }
+        bits |= 1u64 << (entry - base);
+        j += 1;
+    }
+    Gathered { bits, next: j }
 }
 
 // The rank bits of a chunk that has so many rows set, from a rank on: gathered from a list of ranks, whose entries before next are of earlier ranks.
@@ -81,18 +99,7 @@ pub fn rank_bits_for_chunk(ranks: &[u32], next: usize, rank: Rank, set: u64) -> 
     requires { ⌜ (set ≤ 64) × (rank .0 + set < 2 ^ 64) × Parted (rank .0) next (now ranks) ⌝ }
     ensures { λ r. ⌜ Gathers (rank .0) set (now (ranks .entry)) (r .bits) (r .next) ⌝ }
 {
-    let base = rank.0;
-    let mut bits: u64 = 0;
-    let mut j = next;
-    while j < ranks.len() {
-        let entry = ranks[j] as u64;
-        if entry >= base + set {
-            return Gathered { bits, next: j };
-        }
-        bits |= 1u64 << (entry - base);
-        j += 1;
-    }
-    Gathered { bits, next: j }
+    entry_bits(ranks, next, rank.0, set)
 }
 
 // The low n bits of bits over the output from a row on; row 0 is at bit at.

@@ -19,12 +19,12 @@ same-part b zero (suc n) (suc len) h = ap (λ (l : List Bool). b ∷ l) (same-pa
 same-part b (suc row) n zero h = absurd (omega arith)
 same-part b (suc row) n (suc len) h = same-part b row n len (omega arith)
 
-word-true : (n : ℕ) → suc (wordOf (replicate n true)) ≡ 2 ^ n
+pub word-true : (n : ℕ) → suc (wordOf (replicate n true)) ≡ 2 ^ n
 unfolding wordOf
 word-true zero = refl
 word-true (suc n) = omega (arith, word-true n, pow-suc 2 n)
 
-word-false : (n : ℕ) → wordOf (replicate n false) ≡ 0
+pub word-false : (n : ℕ) → wordOf (replicate n false) ≡ 0
 unfolding wordOf
 word-false zero = refl
 word-false (suc n) = ap (λ (x : ℕ). x * 2 + 0) (word-false n)

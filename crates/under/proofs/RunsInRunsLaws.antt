@@ -19,7 +19,7 @@ use Rattle.rows.proofs.MarkLaws.{marked-append, marked-length}
 use Rattle.rows.proofs.RunLaws.{runRows, tab-add, in-runs, rows-sum, runs-few, apart-wider}
 use Rattle.rows.proofs.RunTurnLaws.{NextRun, next-run, rows-next, rows-none, lengths-next, lengths-none}
 use Rattle.rows.proofs.ComposeRunLaws.{compose-unset, compose-set}
-use Rattle.under.specs.Windows.{window, Reached}
+use Rattle.books.specs.Windows.{window, Reached}
 use Rattle.under.proofs.WindowLaws.{unset-rows, rows-past}
 
 -- ---- runs of ranks under runs of self

@@ -18,7 +18,7 @@ use Rattle.rows.proofs.MarkRunLaws.{marked-run}
 use Rattle.rows.proofs.PartLaws.{rows-append}
 use Rattle.rows.proofs.RunLaws.{rowsFrom, held-below, held-first, held-past, tab-add, tab-all, apart-wider}
 use Rattle.rows.proofs.RunTurnLaws.{NextRun, next-run}
-use Rattle.under.specs.Windows.{window, into, Reached}
+use Rattle.books.specs.Windows.{window, into, Reached}
 
 -- ---- the set rows of unset rows, and of what follows them
 

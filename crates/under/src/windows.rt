@@ -10,7 +10,7 @@ ghost use Rattle.rows.specs.Lists.{setRows};
 ghost use Rattle.rows.specs.Runs.{inRuns, runLengths, Apart};
 ghost use Rattle.rows.specs.Laid.{marked};
 ghost use Rattle.rows.specs.Asks.{Room};
-ghost use Rattle.under.specs.Windows.{window, into, Reached};
+ghost use Rattle.books.specs.Windows.{window, into, Reached};
 use fills::inner::lay::set_run;
 use rows::Rank;
 use rows::Row;

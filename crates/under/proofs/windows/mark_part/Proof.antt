@@ -9,7 +9,7 @@ use denote.Ref.{now}
 use borrow.Author.Needs.{needs}
 use Rattle.rows.specs.Lists.{setRows}
 use Rattle.rows.specs.Laid.{laid, marked}
-use Rattle.under.specs.Windows.{into}
+use Rattle.books.specs.Windows.{into}
 use Rattle.under.proofs.WindowLaws.{ones-marked}
 use Rattle.under.proofs.windows.mark_part.Statement.{statement}
 use Rattle.under.proofs.windows.mark_part.Tie as tie

@@ -8,7 +8,7 @@ use lib.ListN.{length, getD}
 use denote.Ref.{now}
 use Rattle.rows.specs.Rows.{count}
 use Rattle.rows.proofs.RunTurnLaws.{NextRun}
-use Rattle.under.specs.Windows.{window}
+use Rattle.books.specs.Windows.{window}
 use Rattle.under.proofs.RunsInRunsLaws.{Composing, composing-none, composing-next, composing-few, composing-sum, composing-run, composing-all}
 use Rattle.under.proofs.windows.mark_runs.Statement.{statement}
 use Rattle.under.proofs.windows.mark_runs.Tie as tie

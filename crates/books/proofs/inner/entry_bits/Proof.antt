@@ -1,5 +1,5 @@
--- `books::inner::rank_bits_for_chunk` meets its contract.
--- The invariant: the entries passed are in the word, and those left climb from the chunk's first rank on. Assumes nothing.
+-- `books::inner::entry_bits` meets its contract.
+-- The invariant: the entries passed are in the word, and those left climb from the chunk's first number on. Assumes nothing.
 use Prim.Native.Nat.{ℕ, suc, _+_, _-_, _*_, _%_, _≤_, _<_, _^_}
 use native.Mathlib.Numerals.{add-one}
 use native.Mathlib.Nat.{mod-eq-of-lt, one-mul}
@@ -15,15 +15,15 @@ use Rattle.rows.specs.Words.{Below}
 use Rattle.rows.specs.Lists.{tab, member}
 use Rattle.books.specs.Gathers.{Climbs, Gathers}
 use Rattle.books.proofs.GatherLaws.{below-more, gather-start, gather-turn, gather-end, climbs-at, climbs-past, climbs-from, below-next}
-use Rattle.books.proofs.inner.rank_bits_for_chunk.Statement.{statement}
-use Rattle.books.proofs.inner.rank_bits_for_chunk.Tie as tie
+use Rattle.books.proofs.inner.entry_bits.Statement.{statement}
+use Rattle.books.proofs.inner.entry_bits.Tie as tie
 
 abbrev Inv-loop : tie.InvT-loop
-Inv-loop ranks next set base bits₀ j₀ bits j =
-    (j ≤ length ranks) × (bits ≡ wordOf (tab base set (λ i. member i (take j ranks)))) × Below (base + set) (take j ranks) × Climbs base (drop j ranks)
+Inv-loop entries next base n bits₀ j₀ bits j =
+    (j ≤ length entries) × (bits ≡ wordOf (tab base n (λ i. member i (take j entries)))) × Below (base + n) (take j entries) × Climbs base (drop j entries)
 
 abbrev μ-loop : tie.MeasureT-loop
-μ-loop ranks next set base bits₀ j₀ bits j = length ranks - j
+μ-loop entries next base n bits₀ j₀ bits j = length entries - j
 
 -- ---- the places, each from the one after it
 
@@ -37,13 +37,13 @@ module _ (c : tie.After-shared-slice-known Inv-loop μ-loop) where
   s = head c .before
 
   abbrev rank : ℕ
-  rank = s .args .rank .0
+  rank = s .args .base
 
   abbrev set : ℕ
-  set = s .args .set
+  set = s .args .n
 
   abbrev ranks : List ℕ
-  ranks = now (s .args .ranks)
+  ranks = now (s .args .entries)
 
   abbrev j : ℕ
   j = head c .loop .j
@@ -51,16 +51,16 @@ module _ (c : tie.After-shared-slice-known Inv-loop μ-loop) where
   left : (rank ≤ getD ranks j 0) × Climbs (suc (getD ranks j 0)) (drop (suc j) ranks)
   left = climbs-at rank j ranks (omega arith) (head c .loop .inv .3)
 
--- ---- what is told where no entry that is left is below the rank behind the chunk
+-- ---- what is told where no entry that is left is below what is behind the chunk
 
 module _ (h : tie.At-loop Inv-loop μ-loop) where
-  told : let a = h .before .args in Climbs (a .rank .0 + a .set) (drop (h .loop .j) (now (a .ranks)))
-      → Gathers (a .rank .0) (a .set) (now (a .ranks)) (h .loop .bits) (h .loop .j)
+  told : let a = h .before .args in Climbs (a .base + a .n) (drop (h .loop .j) (now (a .entries)))
+      → Gathers (a .base) (a .n) (now (a .entries)) (h .loop .bits) (h .loop .j)
   told past =
       let a = h .before .args in
       let l = h .loop in
       record {
-        is = l .inv .1 ∙ gather-end (a .rank .0) (a .set) (l .j) (now (a .ranks)) past;
+        is = l .inv .1 ∙ gather-end (a .base) (a .n) (l .j) (now (a .entries)) past;
         parted = record { within = l .inv .0; before = l .inv .2; after = past };
       }
 
@@ -69,12 +69,12 @@ module _ (h : tie.At-loop Inv-loop μ-loop) where
 loop-holds : tie.Need-loop-holds Inv-loop μ-loop
 loop-holds c =
     let a = c .args in
-    let b = a .rank .0 in
-    let rs = now (a .ranks) in
+    let b = a .base in
+    let rs = now (a .entries) in
     let p = c .pre .2 in (
       p .within,
-      gather-start b (a .set) (a .next) rs (p .before),
-      below-more b (b + a .set) (take (a .next) rs) (omega arith) (p .before),
+      gather-start b (a .n) (a .next) rs (p .before),
+      below-more b (b + a .n) (take (a .next) rs) (omega arith) (p .before),
       p .after,
     )
 
@@ -127,11 +127,11 @@ returns-2 : tie.Need-returns-2 Inv-loop μ-loop
 returns-2 c =
     let h = c .before in
     let a = h .before .args in
-    let none : drop (h .loop .j) (now (a .ranks)) ≡ [] = drop-of-length-le (now (a .ranks)) {i = h .loop .j} (omega arith) in
-    told h (subst (λ (l : List ℕ). Climbs (a .rank .0 + a .set) l) (sym none) tt)
+    let none : drop (h .loop .j) (now (a .entries)) ≡ [] = drop-of-length-le (now (a .entries)) {i = h .loop .j} (omega arith) in
+    told h (subst (λ (l : List ℕ). Climbs (a .base + a .n) l) (sym none) tt)
 
-pub rank-bits-for-chunk-spec : {M : Type 1} → statement M
-rank-bits-for-chunk-spec =
+pub entry-bits-spec : {M : Type 1} → statement M
+entry-bits-spec =
     tie.close
     (tie.spec
     Inv-loop
