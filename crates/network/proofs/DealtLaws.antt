@@ -159,7 +159,7 @@ dealt-room (suc w) s m h =
     omega (arith, dealt-odd w (s % 2 ^ ones m) m x, ap (λ (n : ℕ). dealt w n (m / 2)) hi, dealt-room w (s / 2) (m / 2) (omega arith), dealt-odd w s m x)) (digit m)
 
 -- ---- a run of k digits, and the rest of the mask with the rest of the source
-regroup-odd : (a p q d : ℕ) → (a * p + q) * 2 + d ≡ a * (p * 2) + (q * 2 + d)
+pub regroup-odd : (a p q d : ℕ) → (a * p + q) * 2 + d ≡ a * (p * 2) + (q * 2 + d)
 regroup-odd a p q d = let e : a * (p * 2) ≡ a * p * 2 = sym (mul-assoc a p 2) in omega arith
 
 regroup : (a p q d : ℕ) → (a * p + q) * 2 ≡ a * (p * 2) + (q * 2 + 0)

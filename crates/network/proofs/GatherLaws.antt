@@ -13,7 +13,7 @@ use Rattle.network.specs.Lanes.{each2, each, before, gathered}
 width-suc : (n : ℕ) → 2 ^ (8 * suc n) ≡ 2 ^ (8 * n) * 256
 width-suc n = ap (λ (e : ℕ). 2 ^ e) (mul-suc 8 n) ∙ pow-add 2 (8 * n) 8
 
-byte-suc : (x n : ℕ) → x / 256 / 2 ^ (8 * n) ≡ x / 2 ^ (8 * suc n)
+pub byte-suc : (x n : ℕ) → x / 256 / 2 ^ (8 * n) ≡ x / 2 ^ (8 * suc n)
 byte-suc x n = shr-shr x 8 (8 * n) ∙ ap (λ (e : ℕ). x / 2 ^ e) (let e : 8 + 8 * n ≡ 8 * suc n = omega (arith, mul-suc 8 n) in e)
 
 pub gathered-lt : (n s x : ℕ) → gathered n s x < 2 ^ (8 * n)

@@ -114,22 +114,24 @@ module _ (j k : ℕ) (e : j + k ≡ 8) where
       let r : z % 256 / 2 ^ k ≡ z / 2 ^ k % 2 ^ j = ap (λ (w : ℕ). z % 2 ^ w / 2 ^ k) (sym e) ∙ field z j k in
       sym (and-trunc j (z / 2 ^ k % 256) c h) ∙ ap (λ (n : ℕ). bitAnd n c) (q ∙ sym r)
 
-  pub each2-shr : (f : ℕ → ℕ → ℕ) → Bounded f → (c : ℕ) → c < 2 ^ j → (n x y : ℕ)
-      → bitAnd (each2 f n x y / 2 ^ k) (each2 (λ a b. c) n x y) ≡ each2 (λ a b. bitAnd (f a b / 2 ^ k) c) n x y
+  pub each2-shr : (f g : ℕ → ℕ → ℕ) → Bounded f → ((a b : ℕ) → a < 256 → b < 256 → g a b < 2 ^ j) → (n x y : ℕ)
+      → bitAnd (each2 f n x y / 2 ^ k) (each2 g n x y) ≡ each2 (λ a b. bitAnd (f a b / 2 ^ k) (g a b)) n x y
   unfolding each2
-  each2-shr f hf c h zero x y = and-zero-r (0 / 2 ^ k)
-  each2-shr f hf c h (suc n) x y =
+  each2-shr f g hf hg zero x y = and-zero-r (0 / 2 ^ k)
+  each2-shr f g hf hg (suc n) x y =
       let v : ℕ = f (x % 256) (y % 256) in
       let l : v < 256 = hf (x % 256) (y % 256) (low x) (low y) in
+      let c : ℕ = g (x % 256) (y % 256) in
+      let h : c < 2 ^ j = hg (x % 256) (y % 256) (low x) (low y) in
       let z′ : ℕ = each2 f n (x / 256) (y / 256) in
-      let c′ : ℕ = each2 (λ a b. c) n (x / 256) (y / 256) in
+      let c′ : ℕ = each2 g n (x / 256) (y / 256) in
       let z : ℕ = z′ * 256 + v in
       let hi : z / 256 ≡ z′ = omega arith in
       let lo : z % 256 ≡ v = omega arith in
       let hc : c < 256 = lt-of-lt-of-le h (pow-mono {j = 8} (omega arith)) in
       ap (λ (n : ℕ). bitAnd n (c′ * 256 + c)) (sym (split (z / 2 ^ k) 8)) ∙ and-block 8 (z / 2 ^ k / 256) c′ (z / 2 ^ k % 256) c (low (z / 2 ^ k)) hc
       ∙ ap₂ (λ (p q : ℕ). bitAnd p c′ * 256 + q) (shift-swap z k ∙ ap (λ (n : ℕ). n / 2 ^ k) hi) (kept z c h ∙ ap (λ (n : ℕ). bitAnd (n / 2 ^ k) c) lo)
-      ∙ ap (λ (p : ℕ). p * 256 + bitAnd (v / 2 ^ k) c) (each2-shr f hf c h n (x / 256) (y / 256))
+      ∙ ap (λ (p : ℕ). p * 256 + bitAnd (v / 2 ^ k) c) (each2-shr f g hf hg n (x / 256) (y / 256))
 
   both : 2 ^ j * 2 ^ k ≡ 256
   both = sym (pow-add 2 j k) ∙ ap (λ (w : ℕ). 2 ^ w) e

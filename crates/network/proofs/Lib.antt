@@ -3,9 +3,13 @@ pub mod EveryBelow
 pub mod LowestLaws
 pub mod ProductLaws
 pub mod DealtLaws
+pub mod CollectedLaws
 pub mod LaneLaws
 pub mod CountLaws
 pub mod GatherLaws
 pub mod NetworkLaws
 pub mod ByteLaw
+pub mod PackedByte
 pub mod Bytewise
+pub mod JoinLaws
+pub mod BytewiseBack

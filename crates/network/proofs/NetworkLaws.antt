@@ -53,7 +53,7 @@ down-is x k hx hk =
     let w : ℕ = each2 (λ a b. c) 8 x x in
     let e : 255 / 2 ^ k * 0x0101_0101_0101_0101 ≡ w = ap (λ (n : ℕ). n * 0x0101_0101_0101_0101) (ap (λ (w : ℕ). (2 ^ w - 1) / 2 ^ k) (sym jk) ∙ mask-down j k) ∙ each2-const c x x in
     let me : x ≡ each2 (λ a b. b) 8 x x = sym (each2-snd 8 x x hx) in
-    ap (bitAnd (x / 2 ^ k)) e ∙ ap (λ (n : ℕ). bitAnd (n / 2 ^ k) w) me ∙ each2-shr j k jk (λ a b. b) snd-bound c cl 8 x x
+    ap (bitAnd (x / 2 ^ k)) e ∙ ap (λ (n : ℕ). bitAnd (n / 2 ^ k) w) me ∙ each2-shr j k jk (λ a b. b) (λ a b. c) snd-bound (λ a b ha hb. cl) 8 x x
     ∙ each2-ext (λ a b. bitAnd (b / 2 ^ k) c) (λ a b. down8 k b)
     (λ a b ha hb. and-mask (b / 2 ^ k) j ∙ mod-eq-of-lt (shr-lt j k (subst (λ (n : ℕ). b < 2 ^ n) (sym jk) hb))) 8 x x
 
@@ -113,10 +113,10 @@ down-bound f k hf a b ha hb = lt-of-le-of-lt (shr-le (f a b) k) (hf a b ha hb)
 pub xor-bound : (f g : ℕ → ℕ → ℕ) → Bounded f → Bounded g → Bounded (λ a b. bitXor (f a b) (g a b))
 xor-bound f g hf hg a b ha hb = xor-lt 8 (f a b) (g a b) (hf a b ha hb) (hg a b ha hb)
 
-not-is : (f : ℕ → ℕ → ℕ) → Bounded f → (x y : ℕ) → 2 ^ 64 - 1 - each2 f 8 x y ≡ each2 (λ a b. 255 - f a b) 8 x y
+pub not-is : (f : ℕ → ℕ → ℕ) → Bounded f → (x y : ℕ) → 2 ^ 64 - 1 - each2 f 8 x y ≡ each2 (λ a b. 255 - f a b) 8 x y
 not-is f hf x y = omega (arith, each2-not f hf 8 x y)
 
-not-bound : (f : ℕ → ℕ → ℕ) → Bounded (λ a b. 255 - f a b)
+pub not-bound : (f : ℕ → ℕ → ℕ) → Bounded (λ a b. 255 - f a b)
 not-bound f a b ha hb = omega arith
 
 module _ (k z q : ℕ) (hz : z < 2 ^ 64) (hq : q < 2 ^ 64) where
@@ -235,3 +235,6 @@ shift-length zero h = inl refl
 shift-length (suc zero) h = inr (inl refl)
 shift-length (suc (suc zero)) h = inr (inr refl)
 shift-length (suc (suc (suc i))) h = absurd (omega arith)
+
+pub shift-small : (i : ℕ) → i < 3 → (k : ℕ) → 4 < 2 ^ k → (1 * 2 ^ i) % 2 ^ 32 < 2 ^ k
+shift-small i h k l = subst (λ (n : ℕ). n < 2 ^ k) (sym (shift-is i h)) (lt-of-le-of-lt (pow-mono {j = 2} (omega arith)) l)

@@ -31,6 +31,11 @@ unfoldable pub gathered : ℕ → ℕ → ℕ → ℕ
 gathered zero s x = zero
 gathered (suc n) s x = gathered n s (x / 256) * 256 + (s / 2 ^ (x % 256)) % 256
 
+-- the n low bytes of p on a word of w digits, byte j of them from the digit on that byte j of x says
+unfoldable pub joined : ℕ → ℕ → ℕ → ℕ → ℕ
+joined w zero p x = zero
+joined w (suc n) p x = bitOr (joined w n p x) ((p / 2 ^ (8 * n) % 256 * 2 ^ (x / 2 ^ (8 * n) % 256)) % 2 ^ w)
+
 -- ---- on one byte
 
 abbrev pub up8 : ℕ → ℕ → ℕ
@@ -103,3 +108,12 @@ undo w k l r = bitOr (bitAnd r (2 ^ w - 1 - l)) ((bitAnd r l * 2 ^ k) % 2 ^ w)
 unfoldable pub undoFrom : ℕ → List ℕ → ℕ → ℕ → ℕ
 undoFrom w ls zero r = r
 undoFrom w ls (suc i) r = undoFrom w ls i (undo w (2 ^ i) (getD ls i 0) r)
+
+-- a stage done, on a word of w digits: the bits of r that land at l move down by k
+abbrev pub move : ℕ → ℕ → ℕ → ℕ → ℕ
+move w k l r = bitOr (bitAnd r (2 ^ w - 1 - (l * 2 ^ k) % 2 ^ w)) (bitAnd (r / 2 ^ k) l)
+
+-- the stages below i done, the first one first, where the bits of each land at the entry of ls
+unfoldable pub moveTo : ℕ → List ℕ → ℕ → ℕ → ℕ
+moveTo w ls zero r = r
+moveTo w ls (suc i) r = move w (2 ^ i) (getD ls i 0) (moveTo w ls i r)

@@ -2,14 +2,15 @@
 //
 // In each byte the mask's bits are packed at the low end, and what moved is kept. A set bit has to move down by the number of clear bits
 // below it, which is at most 7: stage i, of three, moves by 2^i the bits whose number has digit i set (`one_stage`). The source's bits come
-// packed, and the stages undone on them, the last one first, take each to where the mask's bit came from (`spread`).
+// packed, and the stages undone on them, the last one first, take each to where the mask's bit came from (`spread`). Extract has the same
+// stages done on the source's bits at the mask's (`pack`).
 // A picture of the stages is in `specs/Lanes`.
 ghost use mathlib.Core.Path.{_≡_};
 ghost use mathlib.Core.List.{_∷_, []};
 ghost use mathlib.Core.Logic.{_⊎_};
 ghost use Prim.Native.Nat.{ℕ, _*_, _/_, _%_, _^_, _<_};
 ghost use lib.Count.{ones};
-ghost use Rattle.network.specs.Lanes.{before, down8, each, each2, gathered, landed8, landedAt, packed8, packedAt, parity8, undoFrom, up8, zeros8};
+ghost use Rattle.network.specs.Lanes.{before, down8, each, each2, gathered, joined, landed8, landedAt, moveTo, packed8, packedAt, parity8, undoFrom, up8, zeros8};
 use super::num::bytes;
 use super::num::wrapping_mul;
 
@@ -38,6 +39,19 @@ pub fn gather(source: u64, from: u64) -> u64
     for byte in 0u32..8 {
         let at = (from >> (8 * byte)) & 0xff;
         result |= ((source >> at) & 0xff) << (8 * byte);
+    }
+    result
+}
+
+// The bytes of packed joined: byte j from the bit on that byte j of to says. What `gather` takes apart.
+pub fn join(packed: u64, to: u64) -> u64
+    requires { ⌜ ((j : ℕ) → to / 2 ^ (8 * j) % 256 < 64) ⌝ }
+    ensures { λ r. ⌜ r ≡ joined 64 8 packed to ⌝ }
+{
+    let mut result: u64 = 0;
+    for byte in 0u32..8 {
+        let at = (to >> (8 * byte)) & 0xff;
+        result |= ((packed >> (8 * byte)) & 0xff) << at;
     }
     result
 }
@@ -130,6 +144,19 @@ pub fn spread(low: u64, landed: [u64; 3]) -> u64
         i -= 1;
         let l = landed[i];
         result = (result & !l) | ((result & l) << (1u32 << i));
+    }
+    result
+}
+
+// The stages done on bits that lie among the mask's, the first one first: the bits that a stage moves go down by its shift.
+pub fn pack(bits: u64, landed: [u64; 3]) -> u64
+    ensures { λ r. ⌜ r ≡ moveTo 64 landed 3 bits ⌝ }
+{
+    let mut result = bits;
+    for i in 0usize..3 {
+        let l = landed[i];
+        let shift = 1u32 << i;
+        result = (result & !(l << shift)) | ((result >> shift) & l);
     }
     result
 }

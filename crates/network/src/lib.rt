@@ -1,4 +1,4 @@
-// The byte network: word deposit a byte at a time.
+// The byte network: word deposit and extract a byte at a time.
 pub mod inner;
 mod lanes;
 mod num;

@@ -1,16 +1,17 @@
 // What our own crates call of the word layer: the two ways to deposit, which ask that the count is the mask's, deposit by either of them
-// with that checked, and select.
+// with that checked, extract, which asks it too, and select.
 ghost use mathlib.Core.Path.{_≡_};
 ghost use lib.Count.{ones};
 ghost use Rattle.rows.specs.Word.{bitsOf};
 ghost use Rattle.rows.specs.Lists.{select};
-ghost use Rattle.rows.specs.Pdep.{pdep};
+ghost use Rattle.rows.specs.Pdep.{pdep, pext};
 ghost use Rattle.rows.specs.WordAnswer.{deposited};
 use super::forms::deposit_two_holes;
 use super::forms::deposit_two_lowest;
 use super::num::if_odd;
 use super::num::lowest;
 use network::inner::deposit_bytewise;
+use network::inner::extract_bytewise;
 use rows::Deposited;
 use rows::Way;
 use rows::inner::answers::deposit_answer;
@@ -60,6 +61,16 @@ pub fn deposit_by(way: Way, source: u64, mask: u64, claimed: u64) -> Deposited
     match way {
         Way::Network => deposit_answer(none, deposit_portable(source, mask, count)),
         Way::Loop => deposit_answer(none, deposit_portable_loop(source, mask, count)),
+    }
+}
+
+// The network choice, as deposit has it: each source bit at a set bit of the mask goes to the rank of that bit.
+pub fn extract_portable(source: u64, mask: u64, count: u32) -> u64
+    requires { ⌜ count ≡ ones mask ⌝ }
+    ensures { λ r. ⌜ r ≡ pext 64 source mask ⌝ }
+{
+    match count {
+        _ => extract_bytewise(source, mask),
     }
 }
 

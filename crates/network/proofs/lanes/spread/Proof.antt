@@ -1,22 +1,16 @@
 -- `network::lanes::spread` meets its contract.
 -- The invariant: the stages undone so far, with those still to undo, are all of them. Assumes nothing.
-use mathlib.Core.Path.{_≡_, refl, sym, ap, _∙_, subst}
-use Prim.Native.Nat.{ℕ, suc, _-_, _*_, _%_, _^_, _<_, _≤_}
+use mathlib.Core.Path.{_≡_, refl, sym, ap, _∙_}
+use Prim.Native.Nat.{ℕ, suc, _-_, _*_, _%_, _^_, _≤_}
 use native.Mathlib.Omega.{arith}
 use mathlib.Core.List.{List}
-use native.Mathlib.Nat.{lt-of-le-of-lt}
 use lib.Dec.{lit<}
-use lib.Pow.{pow-mono}
 use lib.Bits.{bitAnd, bitOr}
 use lib.ListN.{getD}
 use Rattle.network.specs.Lanes.{undoFrom}
-use Rattle.network.proofs.NetworkLaws.{shift-is}
+use Rattle.network.proofs.NetworkLaws.{shift-is, shift-small}
 use Rattle.network.proofs.lanes.spread.Statement.{statement}
 use Rattle.network.proofs.lanes.spread.Tie as tie
-
--- the shift is 1, 2 or 4
-small : (i : ℕ) → i < 3 → (k : ℕ) → 4 < 2 ^ k → (1 * 2 ^ i) % 2 ^ 32 < 2 ^ k
-small i h k l = subst (λ (n : ℕ). n < 2 ^ k) (sym (shift-is i h)) (lt-of-le-of-lt (pow-mono {j = 2} (omega arith)) l)
 
 abbrev Inv-loop : tie.InvT-loop
 Inv-loop low landed result₀ i₀ result i = (i ≤ 3) × (undoFrom 64 landed i result ≡ undoFrom 64 landed 3 low)
@@ -43,10 +37,10 @@ shl-result : tie.Need-shl-result Inv-loop μ-loop
 shl-result c = omega arith
 
 cast-result-2 : tie.Need-cast-result-2 Inv-loop μ-loop
-cast-result-2 c = record { fits = small (c .before .loop .i - 1) (omega arith) 64 (lit< tt) }
+cast-result-2 c = record { fits = shift-small (c .before .loop .i - 1) (omega arith) 64 (lit< tt) }
 
 shl-result-2 : tie.Need-shl-result-2 Inv-loop μ-loop
-shl-result-2 c = small (c .before .loop .i - 1) (omega arith) 6 (lit< tt)
+shl-result-2 c = shift-small (c .before .loop .i - 1) (omega arith) 6 (lit< tt)
 
 loop-less : tie.Need-loop-less Inv-loop μ-loop
 loop-less c = omega arith
