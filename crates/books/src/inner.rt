@@ -37,7 +37,7 @@ fn chunk_at(words: &[u64], start: u64, len: u64, i: u64) -> u64
     words[(i / 64) as usize]
 }
 
-// The chunk of self from a row on.
+// The chunk of a mask of rows from a row on.
 pub fn self_chunk(words: &[u64], start: u64, len: u64, row: Row) -> u64
     requires { ⌜ (start + len ≤ length (now words) * 64) × (row .0 < len) ⌝ }
     ensures { λ r. ⌜ r ≡ wordOf (chunkAt (view start len (now (words .entry))) (row .0)) ⌝ }
@@ -108,6 +108,14 @@ pub fn put_rows(out: &mut [u64], at: u64, row: Row, n: u64, bits: u64)
     ensures { λ _. ⌜ now (out .exit) ≡ laid (at + row .0) (bitsOf n bits) (now (out .entry)) ⌝ }
 {
     put(out, at + row.0, n, bits);
+}
+
+// The low n bits of bits over the output from a rank on; rank 0 is at bit at.
+pub fn put_ranks(out: &mut [u64], at: u64, rank: Rank, n: u64, bits: u64)
+    requires { ⌜ Chunk n × Room (at + rank .0) n (now out) ⌝ }
+    ensures { λ _. ⌜ now (out .exit) ≡ laid (at + rank .0) (bitsOf n bits) (now (out .entry)) ⌝ }
+{
+    put(out, at + rank.0, n, bits);
 }
 
 // Zeros over the output from a row on, n of them; row 0 is at bit at.

@@ -1,1 +1,3 @@
 pub mod RunBitLaws
+pub mod WalkLaws
+pub mod ExtractLaws
