@@ -1,9 +1,10 @@
-// The closed forms of word deposit: masks of at most two set bits, and of at most two clear bits.
+// The closed forms of word deposit and extract: masks of at most two set bits, and of at most two clear bits.
 ghost use mathlib.Core.Path.{_≡_};
 ghost use Prim.Native.Nat.{_≤_};
 ghost use lib.Count.{ones};
-ghost use Rattle.rows.specs.Pdep.{pdep};
+ghost use Rattle.rows.specs.Pdep.{pdep, pext};
 ghost use Rattle.network.specs.Lowest.{pastHole, withoutLowest};
+use super::num::any;
 use super::num::if_odd;
 use super::num::lowest;
 
@@ -44,4 +45,14 @@ pub fn deposit_two_holes(source: u64, mask: u64) -> u64
     let once = past_hole(source, !mask);
     let twice = past_hole(once.source, once.holes);
     twice.source & mask
+}
+
+// Extract from the lowest two set bits of the mask: past the first there is at most one more.
+pub fn extract_two_lowest(source: u64, mask: u64) -> u64
+    requires { ⌜ ones mask ≤ 2 ⌝ }
+    ensures { λ r. ⌜ r ≡ pext 64 source mask ⌝ }
+{
+    let first = lowest(mask);
+    let second = mask ^ first;
+    any(source & first) | (any(source & second) << 1)
 }
