@@ -17,7 +17,8 @@ use Rattle.rows.proofs.WordLaws.{digit-isOne}
 use Rattle.rows.proofs.PdepLaws.{pext-is}
 use Rattle.network.specs.Lowest.{lowestSet, withoutLowest}
 use Rattle.network.proofs.DigitLaws.{digit, mod-digit, and-by}
-use Rattle.network.proofs.LowestLaws.{lowestSet-even, lowestSet-odd, withoutLowest-even, withoutLowest-odd, withoutLowest-lt, lowest-and-rest, ones-none, ones-clear-sub}
+use Rattle.network.proofs.LowestLaws.{lowestSet-even, lowestSet-odd, withoutLowest-even, withoutLowest-odd, withoutLowest-lt, lowest-and-rest}
+use Rattle.network.proofs.LowestLaws.{ones-none, ones-clear-sub}
 use Rattle.network.proofs.DealtLaws.{dealt, dealt-even, dealt-odd, regroup-odd, ones-low}
 
 -- PEXT, digit by digit from the lowest: where the mask's lowest digit is set the source's lowest digit goes below what the rest gives; where it
@@ -71,7 +72,8 @@ unfolding collected
 collected-no-mask zero s = refl
 collected-no-mask (suc w) s = collected-even w s 0 refl ∙ collected-no-mask w (s / 2)
 
-peel-even : (w s m : ℕ) → m % 2 ≡ 0 → collected w (s / 2) (m / 2) ≡ collected w (s / 2) (withoutLowest w (m / 2)) * 2 + min (bitAnd (s / 2) (lowestSet w (m / 2))) 1
+peel-even : (w s m : ℕ) → m % 2 ≡ 0
+    → collected w (s / 2) (m / 2) ≡ collected w (s / 2) (withoutLowest w (m / 2)) * 2 + min (bitAnd (s / 2) (lowestSet w (m / 2))) 1
     → collected (suc w) s m ≡ collected (suc w) s (withoutLowest (suc w) m) * 2 + min (bitAnd s (lowestSet (suc w) m)) 1
 peel-even w s m x ih =
     let k : ℕ = withoutLowest w (m / 2) in

@@ -41,7 +41,8 @@ closed-is (suc w) h s l =
     let ul : u < 2 ^ w = under-lt w (h / 2) in
     let e : under (suc w) h ≡ u * 2 + 1 = under-even w h x in
     let a : bitAnd s (under (suc w) h) ≡ bitAnd (s / 2) u * 2 + s % 2 =
-    and-by s (under (suc w) h) (s / 2) u (s % 2) 1 refl (omega arith) refl (omega arith) ∙ ap (λ (n : ℕ). bitAnd (s / 2) u * 2 + n) (min-one (s % 2) (omega arith)) in
+    and-by s (under (suc w) h) (s / 2) u (s % 2) 1 refl (omega arith) refl (omega arith)
+    ∙ ap (λ (n : ℕ). bitAnd (s / 2) u * 2 + n) (min-one (s % 2) (omega arith)) in
     let b : bitAnd (s / 2) (2 ^ suc w - 1 - under (suc w) h) ≡ bitAnd (s / 2 / 2) (2 ^ w - 1 - u) * 2 + 0 =
     and-by (s / 2) (2 ^ suc w - 1 - under (suc w) h) (s / 2 / 2) (2 ^ w - 1 - u) (s / 2 % 2) 0 refl (omega arith) refl (omega arith)
     ∙ ap (λ (n : ℕ). bitAnd (s / 2 / 2) (2 ^ w - 1 - u) * 2 + n) (min-zero (s / 2 % 2)) in
