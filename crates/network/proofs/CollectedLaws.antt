@@ -1,20 +1,24 @@
--- PEXT digit by digit: its bound, a run of digits at a time, and the way back by the deposit; and it is the published PEXT.
+-- PEXT digit by digit: its bound, one set digit of the mask at a time, a run of digits at a time, and the way back by the deposit; and it is the
+-- published PEXT.
 -- By recursion over the width; the published loop comes in by the law that it is recovery. Assumes nothing.
 use mathlib.Core.Path.{_≡_, refl, sym, ap, ap₂, _∙_, subst}
 use mathlib.Core.Logic.{⊎-elim}
-use Prim.Native.Nat.{ℕ, zero, suc, _+_, _*_, _/_, _%_, _^_, _≤_, _<_}
+use Prim.Native.Nat.{ℕ, zero, suc, _+_, _*_, _/_, _%_, _^_, _≤_, _<_, min}
 use native.Mathlib.Numerals.{one-add}
 use native.Mathlib.Nat.{zero-add, pow-suc, div-one, suc-add, min-zero, mod-lt, lt-of-lt-of-le}
 use native.Mathlib.Omega.{arith}
 use lib.Pow.{pow-pos, pow-mono, shr-shr}
-use lib.Bits.{bitAnd, and-zero-r}
-use lib.Count.{onesIn, ones-le}
+use lib.Bits.{bitAnd, and-zero-r, and-mask}
+use lib.Count.{ones, onesIn, ones-le}
 use Rattle.rows.specs.Rows.{recover}
 use Rattle.rows.specs.Word.{bitsOf, wordOf}
 use Rattle.rows.specs.Pdep.{pext}
 use Rattle.rows.proofs.WordLaws.{digit-isOne}
 use Rattle.rows.proofs.PdepLaws.{pext-is}
+use Rattle.network.specs.Lowest.{lowestSet, withoutLowest}
 use Rattle.network.proofs.DigitLaws.{digit, mod-digit, and-by}
+use Rattle.network.proofs.LowestLaws.{lowestSet-even, lowestSet-odd, withoutLowest-even, withoutLowest-odd, withoutLowest-lt, lowest-and-rest}
+use Rattle.network.proofs.LowestLaws.{ones-none, ones-clear-sub}
 use Rattle.network.proofs.DealtLaws.{dealt, dealt-even, dealt-odd, regroup-odd, ones-low}
 
 -- PEXT, digit by digit from the lowest: where the mask's lowest digit is set the source's lowest digit goes below what the rest gives; where it
@@ -61,6 +65,53 @@ collected-low (suc w) s m =
     ap₂ (λ (u v : ℕ). collected w u v * 2 ^ (m % 2 ^ suc w % 2) + (m % 2 ^ suc w % 2) * (s % 2 ^ suc w % 2)) (half s) (half m)
     ∙ ap₂ (λ (u v : ℕ). collected w (s / 2 % 2 ^ w) (m / 2 % 2 ^ w) * 2 ^ v + v * u) (last s) (last m)
     ∙ ap (λ (n : ℕ). n * 2 ^ (m % 2) + (m % 2) * (s % 2)) (collected-low w (s / 2) (m / 2))
+
+-- ---- the lowest set digit of the mask gives the lowest digit
+pub collected-no-mask : (w s : ℕ) → collected w s 0 ≡ 0
+unfolding collected
+collected-no-mask zero s = refl
+collected-no-mask (suc w) s = collected-even w s 0 refl ∙ collected-no-mask w (s / 2)
+
+peel-even : (w s m : ℕ) → m % 2 ≡ 0
+    → collected w (s / 2) (m / 2) ≡ collected w (s / 2) (withoutLowest w (m / 2)) * 2 + min (bitAnd (s / 2) (lowestSet w (m / 2))) 1
+    → collected (suc w) s m ≡ collected (suc w) s (withoutLowest (suc w) m) * 2 + min (bitAnd s (lowestSet (suc w) m)) 1
+peel-even w s m x ih =
+    let k : ℕ = withoutLowest w (m / 2) in
+    let l : ℕ = lowestSet w (m / 2) in
+    let c : withoutLowest (suc w) m ≡ k * 2 = withoutLowest-even w m x in
+    let ch : withoutLowest (suc w) m / 2 ≡ k = omega arith in
+    let d : lowestSet (suc w) m ≡ l * 2 = lowestSet-even w m x in
+    let rest : collected (suc w) s (withoutLowest (suc w) m) ≡ collected w (s / 2) k =
+    collected-even w s (withoutLowest (suc w) m) (omega arith) ∙ ap (collected w (s / 2)) ch in
+    let hit : bitAnd s (lowestSet (suc w) m) ≡ bitAnd (s / 2) l * 2 + min (s % 2) 0 =
+    and-by s (lowestSet (suc w) m) (s / 2) l (s % 2) 0 refl (omega arith) refl (omega arith) in
+    omega (arith, collected-even w s m x, min-zero (s % 2))
+
+peel-odd : (w s m : ℕ) → m % 2 ≡ 1 → collected (suc w) s m ≡ collected (suc w) s (withoutLowest (suc w) m) * 2 + min (bitAnd s (lowestSet (suc w) m)) 1
+peel-odd w s m x =
+    let c : withoutLowest (suc w) m ≡ m / 2 * 2 = withoutLowest-odd w m x in
+    let ch : withoutLowest (suc w) m / 2 ≡ m / 2 = omega arith in
+    let rest : collected (suc w) s (withoutLowest (suc w) m) ≡ collected w (s / 2) (m / 2) =
+    collected-even w s (withoutLowest (suc w) m) (omega arith) ∙ ap (collected w (s / 2)) ch in
+    let hit : bitAnd s (lowestSet (suc w) m) ≡ s % 2 = ap (bitAnd s) (lowestSet-odd w m x) ∙ and-mask s 1 in
+    omega (arith, collected-odd w s m x)
+
+collected-peel : (w s m : ℕ) → collected w s m ≡ collected w s (withoutLowest w m) * 2 + min (bitAnd s (lowestSet w m)) 1
+unfolding collected lowestSet withoutLowest
+collected-peel zero s m = sym (ap (λ (n : ℕ). 0 + min n 1) (and-zero-r s))
+collected-peel (suc w) s m = ⊎-elim (λ x. peel-even w s m x (collected-peel w (s / 2) (m / 2))) (peel-odd w s m) (digit m)
+
+-- a mask of at most one set digit, and of at most two
+one-collected : (w s m : ℕ) → m < 2 ^ w → ones m ≤ 1 → min (bitAnd s m) 1 ≡ collected w s m
+one-collected w s m h l =
+    let none : withoutLowest w m ≡ 0 = ones-none w (withoutLowest w m) (withoutLowest-lt w m h) (omega (arith, ones-clear-sub w m h)) in
+    let same : lowestSet w m ≡ m = omega (arith, lowest-and-rest w m h) in
+    let rest : collected w s (withoutLowest w m) ≡ 0 = ap (collected w s) none ∙ collected-no-mask w s in
+    omega (arith, collected-peel w s m, ap (λ (n : ℕ). min (bitAnd s n) 1) same)
+
+pub two-collected : (w s m : ℕ) → m < 2 ^ w → ones m ≤ 2 → min (bitAnd s (withoutLowest w m)) 1 * 2 + min (bitAnd s (lowestSet w m)) 1 ≡ collected w s m
+two-collected w s m h l =
+    omega (arith, one-collected w s (withoutLowest w m) (withoutLowest-lt w m h) (omega (arith, ones-clear-sub w m h)), collected-peel w s m)
 
 -- ---- a run of k digits, and the rest above what they give
 pub collected-split : (k w s m : ℕ) → collected (k + w) s m ≡ collected w (s / 2 ^ k) (m / 2 ^ k) * 2 ^ onesIn k m + collected k s m

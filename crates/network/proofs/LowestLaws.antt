@@ -87,6 +87,16 @@ withoutLowest-lt (suc w) m h =
     let ih : withoutLowest w (m / 2) < 2 ^ w = withoutLowest-lt w (m / 2) (omega arith) in
     ⊎-elim (λ (x : m % 2 ≡ 0). omega (arith, withoutLowest-even w m x)) (λ (x : m % 2 ≡ 1). omega (arith, withoutLowest-odd w m x)) (digit m)
 
+-- the two together are the word
+pub lowest-and-rest : (w m : ℕ) → m < 2 ^ w → lowestSet w m + withoutLowest w m ≡ m
+unfolding lowestSet withoutLowest
+lowest-and-rest zero m h = omega arith
+lowest-and-rest (suc w) m h =
+    let p : 2 ^ suc w ≡ 2 ^ w * 2 = pow-suc 2 w in
+    let ih : lowestSet w (m / 2) + withoutLowest w (m / 2) ≡ m / 2 = lowest-and-rest w (m / 2) (omega arith) in
+    ⊎-elim (λ (x : m % 2 ≡ 0). omega (arith, lowestSet-even w m x, withoutLowest-even w m x))
+    (λ (x : m % 2 ≡ 1). omega (arith, lowestSet-odd w m x, withoutLowest-odd w m x)) (digit m)
+
 pub lowestSet-lt : (w m : ℕ) → lowestSet w m < 2 ^ w
 unfolding lowestSet
 lowestSet-lt zero m = omega arith

@@ -1,5 +1,5 @@
--- The lowest set digit of a word of w digits, the word without it, and a source moved past it: by recursion over the
--- width, lowest digit first.
+-- The lowest set digit of a word of w digits, the word without it, and a source moved past it or without it: by recursion
+-- over the width, lowest digit first.
 -- Assumes nothing.
 use Prim.Native.Nat.{ℕ, zero, suc, _+_, _*_, _/_, _%_, _^_}
 
@@ -22,3 +22,8 @@ withoutLowest (suc w) n = ifSet (n % 2) (n / 2 * 2) (withoutLowest w (n / 2) * 2
 unfoldable pub pastHole : ℕ → ℕ → ℕ → ℕ → ℕ
 pastHole zero h c s = zero
 pastHole (suc w) h c s = ifSet (h % 2) ((s * 2 + c) % 2 ^ suc w) (pastHole w (h / 2) (s % 2) (s / 2) * 2 + s % 2)
+
+-- the source s without its digit at the lowest set digit of h: the digits above it moved down by one
+unfoldable pub closed : ℕ → ℕ → ℕ → ℕ
+closed zero h s = zero
+closed (suc w) h s = ifSet (h % 2) (s / 2) (closed w (h / 2) (s / 2) * 2 + s % 2)

@@ -10,7 +10,8 @@ ghost use mathlib.Core.List.{_∷_, []};
 ghost use mathlib.Core.Logic.{_⊎_};
 ghost use Prim.Native.Nat.{ℕ, _*_, _/_, _%_, _^_, _<_};
 ghost use lib.Count.{ones};
-ghost use Rattle.network.specs.Lanes.{before, down8, each, each2, gathered, joined, landed8, landedAt, moveTo, packed8, packedAt, parity8, undoFrom, up8, zeros8};
+ghost use Rattle.network.specs.Lanes.{before, down8, each, each2, gathered, joined, landed8, landedAt, moveTo, packed8, packedAt, parity8};
+ghost use Rattle.network.specs.Lanes.{undoFrom, up8, zeros8};
 use super::num::bytes;
 use super::num::wrapping_mul;
 
@@ -43,7 +44,7 @@ pub fn gather(source: u64, from: u64) -> u64
     result
 }
 
-// The bytes of packed joined: byte j from the bit on that byte j of to says. What `gather` takes apart.
+// The bytes of packed joined: byte j from the bit on that byte j of to says. `gather` takes such a word apart.
 pub fn join(packed: u64, to: u64) -> u64
     requires { ⌜ ((j : ℕ) → to / 2 ^ (8 * j) % 256 < 64) ⌝ }
     ensures { λ r. ⌜ r ≡ joined 64 8 packed to ⌝ }

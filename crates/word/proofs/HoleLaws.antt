@@ -19,11 +19,11 @@ unfoldable pub under : ℕ → ℕ → ℕ
 under zero h = zero
 under (suc w) h = ifSet (h % 2) 0 (under w (h / 2) * 2 + 1)
 
-under-even : (w h : ℕ) → h % 2 ≡ 0 → under (suc w) h ≡ under w (h / 2) * 2 + 1
+pub under-even : (w h : ℕ) → h % 2 ≡ 0 → under (suc w) h ≡ under w (h / 2) * 2 + 1
 unfolding under
 under-even w h e = rw e
 
-under-odd : (w h : ℕ) → h % 2 ≡ 1 → under (suc w) h ≡ 0
+pub under-odd : (w h : ℕ) → h % 2 ≡ 1 → under (suc w) h ≡ 0
 unfolding under
 under-odd w h e = rw e
 
@@ -71,7 +71,7 @@ pastHole-lt (suc w) h c s =
     ⊎-elim (λ (x : h % 2 ≡ 0). omega (arith, pastHole-even w h c s x, pastHole-lt w (h / 2) (s % 2) (s / 2)))
     (λ (x : h % 2 ≡ 1). omega (arith, pastHole-odd w h c s x, mod-lt (s * 2 + c) (pow-pos (suc w)))) (digit h)
 
-min-one : (d : ℕ) → d < 2 → min d 1 ≡ d
+pub min-one : (d : ℕ) → d < 2 → min d 1 ≡ d
 min-one zero h = refl
 min-one (suc zero) h = refl
 min-one (suc (suc d)) h = absurd (omega arith)
@@ -161,10 +161,10 @@ ones-comp (suc w) m h e =
     omega (arith, ones-step m, ones-step h, ones-comp w (m / 2) (h / 2) (omega arith), add-one w)
 
 -- a word by its lowest digit
-even-half : (a : ℕ) → a * 2 / 2 ≡ a
+pub even-half : (a : ℕ) → a * 2 / 2 ≡ a
 even-half a = omega arith
 
-digit-half : (a d : ℕ) → d < 2 → (a * 2 + d) / 2 ≡ a
+pub digit-half : (a d : ℕ) → d < 2 → (a * 2 + d) / 2 ≡ a
 digit-half a d h = omega arith
 
 hdep-lack : (w s h : ℕ) → lack w (hdep w s h) h ≡ hdep w s h

@@ -1,3 +1,4 @@
 pub mod NumLaws
 pub mod SelectWord
 pub mod HoleLaws
+pub mod CloseLaws

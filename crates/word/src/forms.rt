@@ -1,9 +1,10 @@
-// The closed forms of word deposit: masks of at most two set bits, and of at most two clear bits.
+// The closed forms of word deposit and extract: masks of at most two set bits, and of at most two clear bits.
 ghost use mathlib.Core.Path.{_≡_};
-ghost use Prim.Native.Nat.{_≤_};
+ghost use Prim.Native.Nat.{_/_, _≤_};
 ghost use lib.Count.{ones};
-ghost use Rattle.rows.specs.Pdep.{pdep};
-ghost use Rattle.network.specs.Lowest.{pastHole, withoutLowest};
+ghost use Rattle.rows.specs.Pdep.{pdep, pext};
+ghost use Rattle.network.specs.Lowest.{closed, pastHole, withoutLowest};
+use super::num::any;
 use super::num::if_odd;
 use super::num::lowest;
 
@@ -44,4 +45,36 @@ pub fn deposit_two_holes(source: u64, mask: u64) -> u64
     let once = past_hole(source, !mask);
     let twice = past_hole(once.source, once.holes);
     twice.source & mask
+}
+
+// Extract from the lowest two set bits of the mask: past the first there is at most one more.
+pub fn extract_two_lowest(source: u64, mask: u64) -> u64
+    requires { ⌜ ones mask ≤ 2 ⌝ }
+    ensures { λ r. ⌜ r ≡ pext 64 source mask ⌝ }
+{
+    let first = lowest(mask);
+    let second = mask ^ first;
+    any(source & first) | (any(source & second) << 1)
+}
+
+// The source's bit at the lowest hole goes, and those above it move down by one; the holes above go with them.
+pub fn close_hole(source: u64, holes: u64) -> Moved
+    ensures { λ r. ⌜ r ≡ record { source = closed 64 holes source; holes = withoutLowest 64 holes / 2 } ⌝ }
+{
+    let hole = lowest(holes);
+    let below = std::num::wrapping_sub_u64(hole, 1);
+    Moved {
+        source: (source & below) | ((source >> 1) & !below),
+        holes: (holes ^ hole) >> 1,
+    }
+}
+
+// Extract from a mask with at most two clear bits: the source moves down by one past each hole.
+pub fn extract_two_holes(source: u64, mask: u64) -> u64
+    requires { ⌜ 62 ≤ ones mask ⌝ }
+    ensures { λ r. ⌜ r ≡ pext 64 source mask ⌝ }
+{
+    let once = close_hole(source, !mask);
+    let twice = close_hole(once.source, once.holes);
+    twice.source
 }

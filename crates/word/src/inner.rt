@@ -8,6 +8,8 @@ ghost use Rattle.rows.specs.Pdep.{pdep, pext};
 ghost use Rattle.rows.specs.WordAnswer.{deposited};
 use super::forms::deposit_two_holes;
 use super::forms::deposit_two_lowest;
+use super::forms::extract_two_holes;
+use super::forms::extract_two_lowest;
 use super::num::if_odd;
 use super::num::lowest;
 use network::inner::deposit_bytewise;
@@ -70,6 +72,8 @@ pub fn extract_portable(source: u64, mask: u64, count: u32) -> u64
     ensures { λ r. ⌜ r ≡ pext 64 source mask ⌝ }
 {
     match count {
+        0..=2 => extract_two_lowest(source, mask),
+        62.. => extract_two_holes(source, mask),
         _ => extract_bytewise(source, mask),
     }
 }

@@ -1,6 +1,6 @@
-// Zero minus a word, modulo 2^64, and one bit of a word.
+// Zero minus a word, modulo 2^64, and one bit of a word or whether it has any.
 ghost use mathlib.Core.Path.{_≡_};
-ghost use Prim.Native.Nat.{_-_, _*_, _%_, _^_};
+ghost use Prim.Native.Nat.{_-_, _*_, _%_, _^_, min};
 ghost use Rattle.network.specs.Lowest.{lowestSet};
 
 // Zero minus x, modulo 2^64.
@@ -22,4 +22,11 @@ pub fn if_odd(x: u64, b: u64) -> u64
     ensures { λ r. ⌜ r ≡ x * (b % 2) ⌝ }
 {
     x & zero_minus(b & 1)
+}
+
+// 1 where a bit of x is set, and else 0.
+pub fn any(x: u64) -> u64
+    ensures { λ r. ⌜ r ≡ min x 1 ⌝ }
+{
+    if x == 0 { 0 } else { 1 }
 }
