@@ -13,7 +13,8 @@ use Rattle.rules.specs.Compose.{bothChecks}
 use Rattle.rules.specs.Stream.{Pair, long, stateChecks, pieceChecks, judged}
 use Rattle.operand.specs.Counts.{checkedOf}
 use Rattle.intersect_by_rank.specs.Judged.{judgedBoth}
-use Rattle.intersect_by_rank.proofs.JudgeLaws.{same-after, both-counts}
+use Rattle.intersect_by_rank.proofs.JudgeLaws.{same-after}
+use Rattle.operand.proofs.PairLaws.{both-counts}
 use Rattle.composer.specs.Opened.{thereafter}
 use Rattle.rules.proofs.OperandLaws.{accepted-limit}
 use Rattle.rules.proofs.ComposeLaws.{both-met}

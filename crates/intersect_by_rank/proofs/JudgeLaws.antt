@@ -9,36 +9,18 @@ use Rattle.rows.specs.declared.Verdict.{Verdict}
 use Rattle.rows.specs.declared.Verdict.the-variants.{Fine, Refused}
 use Rattle.rows.specs.Laid.{wordsFor}
 use Rattle.rows.specs.Table.{Line, need, first, inOrder, ifFine}
-use Rattle.rows.proofs.TableLaws.{never, then-told, last-told, then-fine}
-use Rattle.rules.specs.Operand.{Operand, lengthOf, countOf, operandChecks}
+use Rattle.rows.proofs.TableLaws.{then-told, last-told, then-fine}
+use Rattle.rules.specs.Operand.{Operand, lengthOf, countOf}
 use Rattle.rules.specs.Compose.{bothChecks, composeChecks}
 use Rattle.operand.specs.Counts.{checkedOf}
+use Rattle.operand.proofs.PairLaws.{both-counts}
 
 -- a verdict after another matters only where that one is fine
 pub same-after : (v x y : Verdict) → (v ≡ Fine → x ≡ y) → ifFine v x v ≡ ifFine v y v
 same-after Fine x y h = h refl
 same-after (Refused z) x y h = refl
 
-of-fine : (v : Verdict) (n : ℕ) → v ≡ Fine → ifFine v n 0 ≡ n
-of-fine Fine n e = refl
-of-fine (Refused z) n e = never e
-
 module _ (s r : Operand) where
-  abbrev own : Verdict
-  own = first (operandChecks 1 s)
-
-  abbrev ranked : Verdict
-  ranked = first (operandChecks 2 r)
-
-  pub both-verdict : ifFine (first (operandChecks 1 s)) (first (operandChecks 2 r)) (first (operandChecks 1 s)) ≡ first (bothChecks s r)
-  both-verdict = then-told (operandChecks 1 s) (operandChecks 2 r) [] refl refl (last-told (operandChecks 2 r) refl)
-
-  -- where both are accepted, the counts told are their own
-  pub both-counts : first (bothChecks s r) ≡ Fine → (checkedOf 1 s .count ≡ countOf s) × (checkedOf 2 r .count ≡ countOf r)
-  both-counts e =
-      let f = then-fine own ranked (both-verdict ∙ e) in
-      (of-fine own (countOf s) (f .0), of-fine ranked (countOf r) (f .1))
-
   module _ (room : ℕ) where
     abbrev seven : ℕ → List Line
     seven n = need (ℕ-discrete (lengthOf (r .form)) n) 7 0 ∷ []
@@ -59,7 +41,7 @@ module _ (s r : Operand) where
         (first (need (ℕ-discrete (lengthOf (r .form)) (checkedOf 1 s .count)) 7 0 ∷ [])))
         (first (bothChecks s r)) ≡ first (composeChecks s r room)
     told-verdict =
-        same-after (first (bothChecks s r)) (both-lines (checkedOf 1 s .count)) (both-lines (countOf s)) (λ e. ap both-lines (both-counts e .0))
+        same-after (first (bothChecks s r)) (both-lines (checkedOf 1 s .count)) (both-lines (countOf s)) (λ e. ap both-lines (both-counts s r e .0))
         ∙ ap (λ (v : Verdict). ifFine (first (bothChecks s r)) v (first (bothChecks s r))) (lines (countOf s)) ∙ all-verdict
       where
         both-lines : ℕ → Verdict
@@ -67,4 +49,4 @@ module _ (s r : Operand) where
 
     -- a composition that is accepted has both operands accepted
     pub all-counts : first (composeChecks s r room) ≡ Fine → (checkedOf 1 s .count ≡ countOf s) × (checkedOf 2 r .count ≡ countOf r)
-    all-counts e = both-counts (then-fine (first (bothChecks s r)) (first (inOrder (seven (countOf s) ∷ eight ∷ []))) (all-verdict ∙ e) .0)
+    all-counts e = both-counts s r (then-fine (first (bothChecks s r)) (first (inOrder (seven (countOf s) ∷ eight ∷ []))) (all-verdict ∙ e) .0)

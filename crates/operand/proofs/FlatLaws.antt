@@ -5,13 +5,16 @@ use mathlib.Core.Path.{_≡_, refl, sym}
 use mathlib.Core.Bool.{true, false, false≢true}
 use native.Mathlib.Omega.{arith}
 use lib.ListN.{length, length-replicate}
+use Rattle.rows.specs.Words.{view}
+use Rattle.rows.specs.Runs.{Apart, inRuns, runLengths}
+use Rattle.rows.specs.Asks.{InView}
 use Rattle.rows.specs.Table.{Met}
 use Rattle.rows.proofs.WordsLaws.{view-length}
 use Rattle.rules.specs.declared.Form.{Form}
 use Rattle.rules.specs.declared.Form.the-variants.{All, None, Words, List as Listed, Runs}
-use Rattle.rules.specs.Operand.{Operand, rowsBy, rowsOf, lengthOf, limit, checksBy, Accepted}
-use Rattle.rules.proofs.OperandLaws.{words-reach}
-use Rattle.operand.specs.Flat.{hasRowNumbers, hasRuns, FlatBy, Flat, flat}
+use Rattle.rules.specs.Operand.{Operand, rowsBy, rowsOf, lengthOf, countBy, countOf, limit, checksBy, Accepted}
+use Rattle.rules.proofs.OperandLaws.{words-reach, apart}
+use Rattle.operand.specs.Flat.{hasRowNumbers, hasRuns, hasWords, startOf, FlatBy, Flat, flat}
 
 pub accepted-flat : (o : Operand) → hasRowNumbers (o .form) ≡ false → hasRuns (o .form) ≡ false → Accepted o → Flat o
 accepted-flat o = by (o .form)
@@ -52,3 +55,28 @@ flat-limit o = by (o .form)
     by (Words start len claimed) m = m .0
     by (Listed len) m = absurd m
     by (Runs len) m = absurd m
+
+-- an operand in words: they reach, and its rows are a view of them
+pub accepted-words : (o : Operand) → hasWords (o .form) ≡ true → Accepted o
+    → InView (startOf (o .form)) (lengthOf (o .form)) (o .words) × (rowsOf o ≡ view (startOf (o .form)) (lengthOf (o .form)) (o .words))
+accepted-words o = by (o .form)
+  where
+    by : (f : Form) → hasWords f ≡ true → Met (checksBy f 0 o) → InView (startOf f) (lengthOf f) (o .words) × (rowsBy f o ≡ view (startOf f) (lengthOf f) (o .words))
+    by (All n) e m = absurd (false≢true e)
+    by (None n) e m = absurd (false≢true e)
+    by (Words start len claimed) e m = ((m .0, m .1 .0, omega (arith, words-reach start len claimed o m)), refl)
+    by (Listed len) e m = absurd (false≢true e)
+    by (Runs len) e m = absurd (false≢true e)
+
+-- an operand in runs
+pub accepted-runs : (o : Operand) → hasRuns (o .form) ≡ true → Accepted o
+    → Apart 0 (lengthOf (o .form)) (o .numbers) × (rowsOf o ≡ inRuns (lengthOf (o .form)) (o .numbers)) × (countOf o ≡ runLengths (o .numbers))
+accepted-runs o = by (o .form)
+  where
+    by : (f : Form) → hasRuns f ≡ true → Met (checksBy f 0 o)
+        → Apart 0 (lengthOf f) (o .numbers) × (rowsBy f o ≡ inRuns (lengthOf f) (o .numbers)) × (countBy f (o .numbers) ≡ runLengths (o .numbers))
+    by (All n) e m = absurd (false≢true e)
+    by (None n) e m = absurd (false≢true e)
+    by (Words start len claimed) e m = absurd (false≢true e)
+    by (Listed len) e m = absurd (false≢true e)
+    by (Runs len) e m = (apart 0 len (o .numbers) (m .1 .0), refl, refl)

@@ -3,3 +3,4 @@ pub mod ClimbLaws
 pub mod WeighLaws
 pub mod FlatLaws
 pub mod NumberLaws
+pub mod PairLaws

@@ -33,6 +33,14 @@ hasRuns (Words start len claimed) = false
 hasRuns (Listed len) = false
 hasRuns (Runs len) = true
 
+-- its rows are bits of the words lent
+abbrev pub hasWords : Form → Bool
+hasWords (All n) = false
+hasWords (None n) = false
+hasWords (Words start len claimed) = true
+hasWords (Listed len) = false
+hasWords (Runs len) = false
+
 -- what reading its rows chunk by chunk needs: no row numbers, no runs, and its words reach
 abbrev pub FlatBy : Form → List ℕ → Type 0
 FlatBy (All n) ws = n ≤ limit

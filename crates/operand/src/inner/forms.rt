@@ -1,7 +1,7 @@
 // What is asked of an operand's form: its length, where its words start, and what kind of mask it is.
 ghost use mathlib.Core.Path.{_≡_};
 ghost use Rattle.rules.specs.Operand.{lengthOf, countsAsList};
-ghost use Rattle.operand.specs.Flat.{hasRowNumbers, hasRuns, startOf};
+ghost use Rattle.operand.specs.Flat.{hasRowNumbers, hasRuns, hasWords, startOf};
 use rules::Form;
 
 pub fn length_of(form: Form) -> u64
@@ -85,5 +85,22 @@ pub fn has_runs(form: Form) -> bool
         } => false,
         Form::List { length: _ } => false,
         Form::Runs { length: _ } => true,
+    }
+}
+
+// Its rows are bits of the words lent.
+pub fn has_words(form: Form) -> bool
+    ensures { λ r. ⌜ r ≡ hasWords form ⌝ }
+{
+    match form {
+        Form::All { length: _ } => false,
+        Form::None { length: _ } => false,
+        Form::Words {
+            start: _,
+            length: _,
+            claimed: _,
+        } => true,
+        Form::List { length: _ } => false,
+        Form::Runs { length: _ } => false,
     }
 }

@@ -9,7 +9,7 @@ use Rattle.rules.specs.Operand.{Operand, lent}
 use Rattle.operand.specs.declared.inner.counts.Checked.{Checked}
 use Rattle.operand.specs.Counts.{checkedOf}
 use Rattle.intersect_by_rank.specs.declared.inner.judge.Judged.{Judged}
-use Rattle.intersect_by_rank.proofs.JudgeLaws.{both-verdict}
+use Rattle.operand.proofs.PairLaws.{both-verdict}
 use Rattle.intersect_by_rank.proofs.inner.judge.judge_both.Statement.{statement}
 use Rattle.intersect_by_rank.proofs.inner.judge.judge_both.Tie as tie
 
