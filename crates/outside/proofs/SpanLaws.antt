@@ -95,13 +95,8 @@ come-none ns e i b h w = record {
     none = drop-of-length-le ns {i = i * 2} (omega (arith, rising-even 0 e (drop (i * 2) ns) (w .ahead), length-drop (i * 2) ns))
 
 -- span number i, and what is left after it
-module _ (ns : List ℕ) (e i b : ℕ) (h : i < length ns / 2) (w : Come ns e i b) where
-  abbrev first : ℕ
-  first = getD ns (i * 2) 0
-
-  abbrev past : ℕ
-  past = getD ns (i * 2 + 1) 0
-
+module _ (ns : List ℕ) (e i b first past : ℕ) (h : i < length ns / 2)
+    (from : first ≡ getD ns (i * 2) 0) (to : past ≡ getD ns (i * 2 + 1) 0) (w : Come ns e i b) where
   abbrev left : List ℕ
   left = drop ((i + 1) * 2) ns
 
@@ -109,8 +104,8 @@ module _ (ns : List ℕ) (e i b : ℕ) (h : i < length ns / 2) (w : Come ns e i 
   is =
       let two : suc (suc (i * 2)) ≡ (i + 1) * 2 = omega arith in
       drop-cons ns (i * 2) 0 (omega arith)
-      ∙ ap (λ (l : List ℕ). first ∷ l) (drop-cons ns (suc (i * 2)) 0 (omega arith))
-      ∙ ap₂ (λ (k : ℕ) (l : List ℕ). first ∷ getD ns k 0 ∷ l) (sym (add-one (i * 2))) (ap (λ (k : ℕ). drop k ns) two)
+      ∙ ap₂ (λ (k : ℕ) (l : List ℕ). k ∷ l) (sym from) (drop-cons ns (suc (i * 2)) 0 (omega arith))
+      ∙ ap₂ (λ (k : ℕ) (l : List ℕ). first ∷ k ∷ l) (ap (λ (k : ℕ). getD ns k 0) (sym (add-one (i * 2))) ∙ sym to) (ap (λ (k : ℕ). drop k ns) two)
 
   rises : Rising 0 e (first ∷ past ∷ left)
   rises = rw is at (w .ahead)

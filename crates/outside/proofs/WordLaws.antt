@@ -4,7 +4,7 @@ use Prim.Native.Nat.{ℕ, zero, suc, _+_, _-_, _*_, _%_, _^_, _≤_, _<_}
 use native.Mathlib.Nat.{zero-add, le-of-suc-le-suc, suc-inj}
 use native.Mathlib.Decide.{decLt}
 use native.Mathlib.Omega.{arith}
-use mathlib.Core.Path.{_≡_, refl, sym, ap, ap₂, _∙_}
+use mathlib.Core.Path.{_≡_, refl, sym, ap, ap₂, subst, _∙_}
 use mathlib.Core.Bool.{Bool, true, false, not, _&&_, false≢true}
 use mathlib.Core.List.{List, [], _∷_, map}
 use lib.Bits.{bitAnd, bitXor, and-mask, and-le-l, and-le-r}
@@ -27,6 +27,7 @@ use Rattle.rows.proofs.ClearLaws.{rows-low, count-low}
 use Rattle.rows.proofs.SelectLaws.{selects}
 use Rattle.rows.proofs.RecoverLaws.{outside-row}
 use Rattle.outside.specs.First.{has, sought, flipped, Clear, First}
+use Rattle.outside.proofs.FirstLaws.{clear-join, first-behind, first-wider}
 
 -- a mask has no row past its length
 past-end : (s : List Bool) (i : ℕ) → length s ≤ i → has s i ≡ false
@@ -89,6 +90,19 @@ module _ (f : ℕ → Bool) (b n w : ℕ) (few : n ≤ 64) (shown : Shown f b n 
       clear = λ i h k. at i h (omega (arith, low-within)) ∙ none-before bits low (i - b) none (omega arith);
       here = λ l. sym (shown .bits low low-within) ∙ set;
     }
+
+  -- the same behind rows of which none is taken, before a later end
+  module _ (from e : ℕ) (on : from ≤ b) (within : b + n ≤ e) (behind : Clear f from b) where
+    pub none-behind : w ≡ 0 → Clear f from (b + n)
+    none-behind z = clear-join f from b (b + n) behind (shown-none z)
+
+    pub first-behind-shown : 0 < w → First f from e (b + trailingZeros 64 w)
+    first-behind-shown some =
+        first-behind f from b e _ on behind (first-wider f b (b + n) e _ (omega (arith, low-within some)) within (shown-first some))
+
+-- the word said otherwise
+pub shown-as : (f : ℕ → Bool) (b n v w : ℕ) → w ≡ v → Shown f b n v → Shown f b n w
+shown-as f b n v w e s = subst (λ (x : ℕ). Shown f b n x) (sym e) s
 
 -- ---- rows read from lent words
 

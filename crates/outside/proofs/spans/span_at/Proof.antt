@@ -14,50 +14,73 @@ use Rattle.outside.proofs.spans.span_at.Tie as tie
 use Rattle.outside.proofs.spans.span_at.Reads as reads
 use Rattle.outside.proofs.spans.span_at.Lts as lts
 
+-- ---- the numbers are runs, or they are entries
+module _ (c : tie.Then1) where
+  abbrev runs : List ℕ
+  runs = now (c .before .args .rows)
+
+  pair : c .before .args .i * 2 + 1 < length runs
+  pair = omega (arith, ap (λ (b : Bool). length (spans b runs)) (c .if1 .taken), c .before .pre)
+
+module _ (c : tie.Else1) where
+  abbrev entries : List ℕ
+  entries = now (c .before .args .rows)
+
+  entry : c .before .args .i < length entries
+  entry = omega (arith, ap (λ (b : Bool). length (spans b entries)) (c .if1 .left), doubled-length entries, c .before .pre)
+
+-- ---- the answers
 mul-first : tie.Need-mul-first
-mul-first c = ?
+mul-first c = omega (arith, pair c)
 
 mul-first-2 : tie.Need-mul-first-2
-mul-first-2 c = ?
+mul-first-2 c = omega (arith, pair c)
 
 shared-slice-read-first : tie.Need-shared-slice-read-first
-shared-slice-read-first c = ?
+shared-slice-read-first c = omega (arith, pair (c .before))
 
 cast-first : tie.Need-cast-first
-cast-first c = ?
+cast-first c = omega (arith, c .shared-slice-known .given (c .before .before .args .i * 2))
 
 mul-past : tie.Need-mul-past
-mul-past c = ?
+mul-past c = omega (arith, pair (c .before))
 
 add-past : tie.Need-add-past
-add-past c = ?
+add-past c = omega (arith, pair (c .before))
 
 mul-past-2 : tie.Need-mul-past-2
-mul-past-2 c = ?
+mul-past-2 c = omega (arith, pair (c .before))
 
 shared-slice-read-past : tie.Need-shared-slice-read-past
-shared-slice-read-past c = ?
+shared-slice-read-past c = omega (arith, pair (c .before .before))
 
 cast-past : tie.Need-cast-past
-cast-past c = ?
+cast-past c = omega (arith, c .shared-slice-known2 .given (c .before .before .before .args .i * 2 + 1))
 
 returns : tie.Need-returns
-returns c = ?
+returns c =
+    let t = c .before .before in
+    let a = t .before .args in
+    (ap (λ (b : Bool). getD (spans b (runs t)) (a .i * 2) 0) (sym (t .if1 .taken)), ap (λ (b : Bool). getD (spans b (runs t)) (a .i * 2 + 1) 0) (sym (t .if1 .taken)))
 
 mul-row : tie.Need-mul-row
-mul-row c = ?
+mul-row c = omega (arith, entry c)
 
 shared-slice-read-row : tie.Need-shared-slice-read-row
-shared-slice-read-row c = ?
+shared-slice-read-row c = omega (arith, entry (c .before))
 
 cast-row : tie.Need-cast-row
-cast-row c = ?
+cast-row c = omega (arith, c .shared-slice-known3 .given (c .before .before .args .i))
 
 add-after : tie.Need-add-after
-add-after c = ?
+add-after c = omega (arith, c .shared-slice-known3 .given (c .before .before .args .i))
 
 returns-2 : tie.Need-returns-2
-returns-2 c = ?
+returns-2 c =
+    let e = c .before in
+    let a = e .before .args in
+    let at = doubled-at (entries e) (a .i) (entry e) in
+    (at .0 ∙ ap (λ (b : Bool). getD (spans b (entries e)) (a .i * 2) 0) (sym (e .if1 .left)), at .1 ∙ ap (λ (b : Bool). getD (spans b (entries e)) (a .i * 2 + 1) 0) (sym (e .if1 .left)))
 
 pub span-at-spec : {M : Type 1} → statement M
 span-at-spec =
