@@ -78,8 +78,8 @@ module _ (s k : List Bool) (b a e : ℕ) (behind : Clear (has (outside s k)) 0 b
       clear-join (has (outside s k)) 0 b a behind (λ i h l. outside-row s k i ∙ ap (λ (x : Bool). x && not (has s i)) (next .clear i h l))
 
   -- what s has is not outside
-  pub leap-on : (r : ℕ) → Reach (has s) a e r → Clear (has (outside s k)) 0 r
-  leap-on r q =
+  pub leap-on : (end r : ℕ) → Reach (has s) a end r → Clear (has (outside s k)) 0 r
+  leap-on end r q =
       clear-join (has (outside s k)) 0 a r to-next
       (λ i h l. outside-row s k i ∙ ap (λ (x : Bool). has k i && not x) (q .full i h l) ∙ and-false (has k i))
 

@@ -8,20 +8,18 @@ use mathlib.Core.Path.{_≡_, refl, sym, ap, _∙_}
 use mathlib.Core.Bool.{true, false}
 use mathlib.Core.List.{List}
 use lib.ListN.{getD-replicate}
-use Rattle.rows.specs.Words.{view}
 use Rattle.rows.specs.Lists.{member, listed}
 use Rattle.rows.specs.Runs.{held, inRuns}
-use Rattle.rows.specs.Asks.{InView}
 use Rattle.rows.specs.Table.{Met}
 use Rattle.rows.proofs.ListLaws.{tab-at}
 use Rattle.rules.specs.declared.Form.{Form}
 use Rattle.rules.specs.declared.Form.the-variants.{All, None, Words, List as Listed, Runs}
 use Rattle.rules.specs.Operand.{lent, rowsOf, lengthOf, checksBy, Accepted}
 use Rattle.rules.proofs.OperandLaws.{words-reach, ascending, apart}
-use Rattle.outside.specs.First.{has, sought, First, Reach}
+use Rattle.outside.specs.First.{has, First, Reach}
 use Rattle.outside.specs.Spans.{spans, Come}
 use Rattle.outside.specs.Walks.{Walks}
-use Rattle.outside.proofs.FirstLaws.{clear-none, first-none, first-as, reach-as, reach-first}
+use Rattle.outside.proofs.FirstLaws.{clear-none, first-none, first-as, reach-as}
 use Rattle.outside.proofs.SpanLaws.{apart-rising, ascending-rising, doubled-held, come-start, come-later}
 
 -- ---- what numbers say of a row
@@ -41,6 +39,13 @@ accepted-walks (Words start len claimed) ws es m =
     (m .0, m .1 .0, omega (arith, words-reach start len claimed (lent (Words start len claimed) ws es) m))
 accepted-walks (Listed len) ws es m = come-start (spans false es) len (ascending-rising 0 len es (ascending len es (m .1 .0) (m .1 .1 .0)))
 accepted-walks (Runs len) ws es m = come-start es len (apart-rising 0 0 len es (omega arith) (apart 0 len es (m .1 .0)))
+
+pub walks-later : (f : Form) (ws es : List ℕ) (i b c : ℕ) → b ≤ c → Walks f ws es i b → Walks f ws es i c
+walks-later (All n) ws es i b c h w = tt
+walks-later (None n) ws es i b c h w = tt
+walks-later (Words start len claimed) ws es i b c h w = w
+walks-later (Listed len) ws es i b c h w = come-later (spans false es) len i b c h w
+walks-later (Runs len) ws es i b c h w = come-later es len i b c h w
 
 -- ---- its next set row r from row b on
 
@@ -81,10 +86,6 @@ module _ (ws es : List ℕ) (b i : ℕ) where
     full = λ k l m. absurd (omega arith);
     stuck = λ e. getD-replicate n b false false h;
   })
-
-  pub reach-words : (start len claimed r : ℕ) → b < len → InView start len ws → First (λ k. sought false (has (view start len ws) k)) b len r
-      → Reaches (Words start len claimed) ws es b i r
-  reach-words start len claimed r h v f = (v, reach-first (has (view start len ws)) b len r h f)
 
   pub reach-listed : (len r : ℕ) → b < len → Come (spans false es) len i r → Reach (λ k. held k (spans false es)) b len r → Reaches (Listed len) ws es b i r
   reach-listed len r h w f = (w, reach-as (λ k. held k (spans false es)) (has (listed len es)) b len r h (listed-has len es) f)
