@@ -7,7 +7,7 @@ use native.Mathlib.Decide.{decLt, ℕ-discrete}
 use native.Mathlib.Numerals.{add-one}
 use native.Mathlib.Omega.{arith}
 use mathlib.Core.Path.{_≡_, refl, sym, ap, ap₂, _∙_}
-use mathlib.Core.Bool.{Bool, true, false, _&&_, _||_, and-false}
+use mathlib.Core.Bool.{Bool, false, _&&_, _||_, and-false}
 use mathlib.Core.List.{List, [], _∷_}
 use borrow.Author.Tests.{lt-ltb, le-ltb, le-leb, lt-leb, eq-eqb, ne-eqb}
 use lib.Dec.{eqb, leb, ltb}
@@ -17,7 +17,7 @@ use Rattle.rows.specs.Lists.{member, Ascending}
 use Rattle.rows.specs.Runs.{held, Apart}
 use Rattle.rows.proofs.RunLaws.{held-past, held-first}
 use Rattle.outside.specs.First.{First, Reach}
-use Rattle.outside.specs.Spans.{doubled, spans, Rising, Come, Stands}
+use Rattle.outside.specs.Spans.{doubled, Rising, Come, Stands}
 
 -- ---- runs and entries are spans
 
@@ -34,7 +34,8 @@ pub doubled-length : (rs : List ℕ) → length (doubled rs) ≡ length rs * 2
 doubled-length [] = refl
 doubled-length (r ∷ rs) = omega (arith, doubled-length rs)
 
-pub doubled-at : (rs : List ℕ) (i : ℕ) → i < length rs → (getD rs i 0 ≡ getD (doubled rs) (i * 2) 0) × (getD rs i 0 + 1 ≡ getD (doubled rs) (i * 2 + 1) 0)
+pub doubled-at : (rs : List ℕ) (i : ℕ) → i < length rs
+    → (getD rs i 0 ≡ getD (doubled rs) (i * 2) 0) × (getD rs i 0 + 1 ≡ getD (doubled rs) (i * 2 + 1) 0)
 doubled-at [] i h = absurd (omega arith)
 doubled-at (r ∷ rs) zero h = (refl, add-one r)
 doubled-at (r ∷ rs) (suc i) h =
@@ -105,7 +106,9 @@ module _ (ns : List ℕ) (e i b first past : ℕ) (h : i < length ns / 2)
       let two : suc (suc (i * 2)) ≡ (i + 1) * 2 = omega arith in
       drop-cons ns (i * 2) 0 (omega arith)
       ∙ ap₂ (λ (k : ℕ) (l : List ℕ). k ∷ l) (sym from) (drop-cons ns (suc (i * 2)) 0 (omega arith))
-      ∙ ap₂ (λ (k : ℕ) (l : List ℕ). first ∷ k ∷ l) (ap (λ (k : ℕ). getD ns k 0) (sym (add-one (i * 2))) ∙ sym to) (ap (λ (k : ℕ). drop k ns) two)
+      ∙ ap₂ (λ (k : ℕ) (l : List ℕ). first ∷ k ∷ l)
+      (ap (λ (k : ℕ). getD ns k 0) (sym (add-one (i * 2))) ∙ sym to)
+      (ap (λ (k : ℕ). drop k ns) two)
 
   rises : Rising 0 e (first ∷ past ∷ left)
   rises = rw is at (w .ahead)

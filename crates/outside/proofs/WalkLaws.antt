@@ -4,17 +4,16 @@
 use Prim.Native.Nat.{ℕ, _≤_, _<_}
 use native.Mathlib.Nat.{zero-add}
 use native.Mathlib.Omega.{arith}
-use mathlib.Core.Path.{_≡_, refl, sym, ap, _∙_}
+use mathlib.Core.Path.{_≡_, sym, ap, _∙_}
 use mathlib.Core.Bool.{true, false}
 use mathlib.Core.List.{List}
 use lib.ListN.{getD-replicate}
 use Rattle.rows.specs.Lists.{member, listed}
 use Rattle.rows.specs.Runs.{held, inRuns}
-use Rattle.rows.specs.Table.{Met}
 use Rattle.rows.proofs.ListLaws.{tab-at}
 use Rattle.rules.specs.declared.Form.{Form}
 use Rattle.rules.specs.declared.Form.the-variants.{All, None, Words, List as Listed, Runs}
-use Rattle.rules.specs.Operand.{lent, rowsOf, lengthOf, checksBy, Accepted}
+use Rattle.rules.specs.Operand.{lent, rowsOf, lengthOf, Accepted}
 use Rattle.rules.proofs.OperandLaws.{words-reach, ascending, apart}
 use Rattle.outside.specs.First.{has, First, Reach}
 use Rattle.outside.specs.Spans.{spans, Come}
@@ -72,23 +71,31 @@ Reaches f ws es b i r = Walks f ws es i r × Reach (has (rowsOf (lent f ws es)))
 
 module _ (ws es : List ℕ) (b i : ℕ) where
   pub reach-all : (n : ℕ) → b < n → Reaches (All n) ws es b i n
-  reach-all n h = (tt, record {
-    on = omega arith;
-    within = omega arith;
-    full = λ k l m. getD-replicate n k true false m;
-    stuck = λ e. absurd (omega arith);
-  })
+  reach-all n h = (
+    tt,
+    record {
+      on = omega arith;
+      within = omega arith;
+      full = λ k l m. getD-replicate n k true false m;
+      stuck = λ e. absurd (omega arith);
+    },
+  )
 
   pub reach-no : (n : ℕ) → b < n → Reaches (None n) ws es b i b
-  reach-no n h = (tt, record {
-    on = omega arith;
-    within = omega arith;
-    full = λ k l m. absurd (omega arith);
-    stuck = λ e. getD-replicate n b false false h;
-  })
+  reach-no n h = (
+    tt,
+    record {
+      on = omega arith;
+      within = omega arith;
+      full = λ k l m. absurd (omega arith);
+      stuck = λ e. getD-replicate n b false false h;
+    },
+  )
 
-  pub reach-listed : (len r : ℕ) → b < len → Come (spans false es) len i r → Reach (λ k. held k (spans false es)) b len r → Reaches (Listed len) ws es b i r
+  pub reach-listed : (len r : ℕ) → b < len → Come (spans false es) len i r → Reach (λ k. held k (spans false es)) b len r
+      → Reaches (Listed len) ws es b i r
   reach-listed len r h w f = (w, reach-as (λ k. held k (spans false es)) (has (listed len es)) b len r h (listed-has len es) f)
 
-  pub reach-runs : (len r : ℕ) → b < len → Come (spans true es) len i r → Reach (λ k. held k (spans true es)) b len r → Reaches (Runs len) ws es b i r
+  pub reach-runs : (len r : ℕ) → b < len → Come (spans true es) len i r → Reach (λ k. held k (spans true es)) b len r
+      → Reaches (Runs len) ws es b i r
   reach-runs len r h w f = (w, reach-as (λ k. held k (spans true es)) (has (inRuns len es)) b len r h (runs-has len es) f)

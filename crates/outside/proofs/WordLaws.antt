@@ -1,6 +1,6 @@
 -- The first row by a word: its lowest set bit; and the words in which self's rows are held against another mask's, or turned over. Bit by bit.
 -- Assumes nothing.
-use Prim.Native.Nat.{ℕ, zero, suc, _+_, _-_, _*_, _%_, _^_, _≤_, _<_}
+use Prim.Native.Nat.{ℕ, zero, suc, _+_, _-_, _^_, _≤_, _<_}
 use native.Mathlib.Nat.{zero-add, le-of-suc-le-suc, suc-inj}
 use native.Mathlib.Decide.{decLt}
 use native.Mathlib.Omega.{arith}
@@ -15,7 +15,7 @@ use lib.Seq.{getD-take, getD-drop}
 use Rattle.rows.specs.Rows.{count, outside}
 use Rattle.rows.specs.Word.{bitsOf, wordOf, both}
 use Rattle.rows.specs.Words.{fit, bitsOfAll, view}
-use Rattle.rows.specs.Lists.{setRows, select}
+use Rattle.rows.specs.Lists.{select}
 use Rattle.rows.specs.Edges.{differs}
 use Rattle.rows.proofs.WordLaws.{bitsOf-length, wordOf-lt, wordOf-bitsOf-mod, and-bits, not-bits}
 use Rattle.rows.proofs.WordsLaws.{fit-length, fit-at, bitsOf-wordOf-fit}
@@ -169,13 +169,13 @@ module _ (sstart kstart len b n : ℕ) (sws kws : List ℕ) (few : n ≤ 64) (sh
   outside-shown = record {
     small = omega (arith, and-le-l of-k (2 ^ 64 - 1 - of-s), read-small kstart b n kws few);
     bits = λ i h. bit i
-    ∙ ap₂ (λ (p q : Bool). p && not q)
-    (read-bit kstart b n kws 64 len i (omega arith) h (omega arith))
-    (read-bit sstart b n sws 64 len i (omega arith) h (omega arith))
-    ∙ sym (outside-row (view sstart len sws) (view kstart len kws) (b + i));
+        ∙ ap₂ (λ (p q : Bool). p && not q)
+        (read-bit kstart b n kws 64 len i (omega arith) h (omega arith))
+        (read-bit sstart b n sws 64 len i (omega arith) h (omega arith))
+        ∙ sym (outside-row (view sstart len sws) (view kstart len kws) (b + i));
     rest = λ i h. bit i
-    ∙ ap (λ (p : Bool). p && not (has (bitsOf 64 of-s) i))
-    (bits-past 64 (word kstart b n kws) i (omega (arith, fit-length n (drop (kstart + b) (bitsOfAll 64 kws)))));
+        ∙ ap (λ (p : Bool). p && not (has (bitsOf 64 of-s) i))
+        (bits-past 64 (word kstart b n kws) i (omega (arith, fit-length n (drop (kstart + b) (bitsOfAll 64 kws)))));
   }
 
 -- ---- rows that are sought, in a word: set, or turned over
@@ -226,8 +226,8 @@ module _ (set : Bool) (start len b n : ℕ) (ws : List ℕ) (few : n ≤ 64) (sh
       record {
         small = omega (arith, and-le-r held (2 ^ n - 1), pow-pos n);
         bits = λ i h. ap (λ (v : ℕ). has (bitsOf 64 v) i) cut
-        ∙ ap (λ (l : List Bool). has l i) (bitsOf-wordOf-fit 64 (bitsOf n held))
-        ∙ fit-at 64 (bitsOf n held) i (omega arith)
-        ∙ held-bit i h;
+            ∙ ap (λ (l : List Bool). has l i) (bitsOf-wordOf-fit 64 (bitsOf n held))
+            ∙ fit-at 64 (bitsOf n held) i (omega arith)
+            ∙ held-bit i h;
         rest = λ i h. ap (λ (v : ℕ). has (bitsOf 64 v) i) cut ∙ bits-past 64 (bitsOf n held) i (omega (arith, bitsOf-length n held));
       }

@@ -37,7 +37,8 @@ fn count_spans(rows: &[u32], runs: bool) -> usize
 // Span number i.
 fn span_at(rows: &[u32], runs: bool, i: usize) -> Span
     requires { ⌜ i < length (spans runs (now rows)) / 2 ⌝ }
-    ensures { λ r. ⌜ (r .first ≡ getD (spans runs (now (rows .entry))) (i * 2) 0) × (r .past ≡ getD (spans runs (now (rows .entry))) (i * 2 + 1) 0) ⌝ }
+    ensures { λ r. ⌜ (r .first ≡ getD (spans runs (now (rows .entry))) (i * 2) 0)
+        × (r .past ≡ getD (spans runs (now (rows .entry))) (i * 2 + 1) 0) ⌝ }
 {
     if runs {
         let first = rows[i * 2] as u64;

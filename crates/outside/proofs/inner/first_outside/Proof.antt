@@ -46,7 +46,9 @@ module _ (c : tie.Start) (f g : Form) where
   Required = Accepted (lent f (now (c .args .swords)) (now (c .args .srows))) × Accepted second × (lengthOf g ≡ lengthOf f)
 
   abbrev Asked : Type 0
-  Asked = Walks f (now (c .args .swords)) (now (c .args .srows)) 0 0 × Walks g (now (c .args .kwords)) (now (c .args .krows)) 0 0 × (lengthOf g ≡ lengthOf f)
+  Asked =
+      Walks f (now (c .args .swords)) (now (c .args .srows)) 0 0 × Walks g (now (c .args .kwords)) (now (c .args .krows)) 0 0
+      × (lengthOf g ≡ lengthOf f)
 
   abbrev answer : ℕ
   answer = select (outside self (rowsOf second)) 0
@@ -103,9 +105,10 @@ returns-3 c =
     let s = t .before .s .given in
     let k = c .before .before .k .given in
     let w = asked (in-words t) _ _ (s .1) (k .1) in
+    let len : ℕ = k .0 .1 .0 in
+    let rows : ℕ → List Bool = λ n. outside (view (s .0 .0) n (now (a .swords))) (view (k .0 .0) len (now (a .kwords))) in
     answered (in-words t) _ _ (s .1) (k .1) _
-    (subst (λ (n : ℕ). First (has (outside (view (s .0 .0) n (now (a .swords))) (view (k .0 .0) (k .0 .1 .0) (now (a .kwords))))) 0 (k .0 .1 .0) (c .first-in-words .result))
-    (w .2) (c .first-in-words .ensures))
+    (subst (λ (n : ℕ). First (has (rows n)) 0 len (c .first-in-words .result)) (w .2) (c .first-in-words .ensures))
 
 pub first-outside-spec : {M : Type 1} → statement M
 first-outside-spec =

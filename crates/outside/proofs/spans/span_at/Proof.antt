@@ -1,18 +1,16 @@
 -- `outside::spans::span_at` meets its contract.
 -- A run is its pair of numbers, and an entry the pair of it and the row after it. Assumes nothing.
-use Prim.Native.Nat.{ℕ, _+_, _*_, _/_, _<_}
+use Prim.Native.Nat.{ℕ, _+_, _*_, _<_}
 use native.Mathlib.Omega.{arith}
-use mathlib.Core.Path.{_≡_, refl, sym, ap, _∙_}
-use mathlib.Core.Bool.{Bool, true, false}
+use mathlib.Core.Path.{_≡_, sym, ap, _∙_}
+use mathlib.Core.Bool.{Bool}
 use mathlib.Core.List.{List}
 use lib.ListN.{length, getD}
 use denote.Ref.{now}
-use Rattle.outside.specs.Spans.{doubled, spans}
+use Rattle.outside.specs.Spans.{spans}
 use Rattle.outside.proofs.SpanLaws.{doubled-length, doubled-at}
 use Rattle.outside.proofs.spans.span_at.Statement.{statement}
 use Rattle.outside.proofs.spans.span_at.Tie as tie
-use Rattle.outside.proofs.spans.span_at.Reads as reads
-use Rattle.outside.proofs.spans.span_at.Lts as lts
 
 -- ---- the numbers are runs, or they are entries
 module _ (c : tie.Then1) where
@@ -28,6 +26,10 @@ module _ (c : tie.Else1) where
 
   entry : c .before .args .i < length entries
   entry = omega (arith, ap (λ (b : Bool). length (spans b entries)) (c .if1 .left), doubled-length entries, c .before .pre)
+
+-- a number of the spans that the test tells
+as-told : (ns : List ℕ) (b told : Bool) (k : ℕ) → b ≡ told → getD (spans told ns) k 0 ≡ getD (spans b ns) k 0
+as-told ns b told k e = ap (λ (x : Bool). getD (spans x ns) k 0) (sym e)
 
 -- ---- the answers
 mul-first : tie.Need-mul-first
@@ -60,8 +62,8 @@ cast-past c = omega (arith, c .shared-slice-known2 .given (c .before .before .be
 returns : tie.Need-returns
 returns c =
     let t = c .before .before in
-    let a = t .before .args in
-    (ap (λ (b : Bool). getD (spans b (runs t)) (a .i * 2) 0) (sym (t .if1 .taken)), ap (λ (b : Bool). getD (spans b (runs t)) (a .i * 2 + 1) 0) (sym (t .if1 .taken)))
+    let i = t .before .args .i in
+    (as-told (runs t) _ _ (i * 2) (t .if1 .taken), as-told (runs t) _ _ (i * 2 + 1) (t .if1 .taken))
 
 mul-row : tie.Need-mul-row
 mul-row c = omega (arith, entry c)
@@ -78,9 +80,9 @@ add-after c = omega (arith, c .shared-slice-known3 .given (c .before .before .ar
 returns-2 : tie.Need-returns-2
 returns-2 c =
     let e = c .before in
-    let a = e .before .args in
-    let at = doubled-at (entries e) (a .i) (entry e) in
-    (at .0 ∙ ap (λ (b : Bool). getD (spans b (entries e)) (a .i * 2) 0) (sym (e .if1 .left)), at .1 ∙ ap (λ (b : Bool). getD (spans b (entries e)) (a .i * 2 + 1) 0) (sym (e .if1 .left)))
+    let i = e .before .args .i in
+    let at = doubled-at (entries e) i (entry e) in
+    (at .0 ∙ as-told (entries e) _ _ (i * 2) (e .if1 .left), at .1 ∙ as-told (entries e) _ _ (i * 2 + 1) (e .if1 .left))
 
 pub span-at-spec : {M : Type 1} → statement M
 span-at-spec =

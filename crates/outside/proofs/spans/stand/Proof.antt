@@ -1,8 +1,7 @@
 -- `outside::spans::stand` meets its contract.
 -- The invariant: the walk has come to the row. The measure is what is left of the spans. Assumes nothing.
-use Prim.Native.Nat.{ℕ, _+_, _*_, _-_, _/_, _≤_, _<_}
+use Prim.Native.Nat.{ℕ, _+_, _-_, _/_, _≤_, _<_}
 use native.Mathlib.Omega.{arith}
-use mathlib.Core.Path.{_≡_, refl, sym, ap, _∙_}
 use mathlib.Core.List.{List}
 use lib.ListN.{length, getD}
 use denote.Ref.{now}
@@ -11,10 +10,6 @@ use Rattle.outside.specs.Spans.{spans, Come, Stands}
 use Rattle.outside.proofs.SpanLaws.{come-next, come-stands, come-none}
 use Rattle.outside.proofs.spans.stand.Statement.{statement}
 use Rattle.outside.proofs.spans.stand.Tie as tie
-use Rattle.outside.proofs.spans.stand.Reads as reads
-use Rattle.outside.proofs.spans.stand.Lts as lts
-use Rattle.outside.proofs.spans.count_spans.Reads as count-spans-reads
-use Rattle.outside.proofs.spans.span_at.Reads as span-at-reads
 
 abbrev Inv-loop : tie.InvT-loop
 Inv-loop rows runs len next row n i₀ i = Come (spans runs rows) len i row
@@ -57,9 +52,10 @@ module _ (c : tie.After-struct-known Inv-loop μ-loop) where
       × (s .args .row < c .before .span-at .result .past
       → Stands (all s) (s .args .len) (s .args .row) (c .before .span-at .result .first) (c .before .span-at .result .past))
   passed-or-held =
-      let e = c .before .span-at .ensures in
-      (come-next (all s) (s .args .len) i (s .args .row) _ _ (some (turn c)) (e .0) (e .1) came,
-      come-stands (all s) (s .args .len) i (s .args .row) _ _ (some (turn c)) (e .0) (e .1) came)
+      let e = c .before .span-at .ensures in (
+        come-next (all s) (s .args .len) i (s .args .row) _ _ (some (turn c)) (e .0) (e .1) came,
+        come-stands (all s) (s .args .len) i (s .args .row) _ _ (some (turn c)) (e .0) (e .1) came,
+      )
 
 count-spans-requires : tie.Need-count-spans-requires Inv-loop μ-loop
 count-spans-requires c κs = search needs

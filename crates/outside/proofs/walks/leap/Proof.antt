@@ -1,9 +1,9 @@
 -- `outside::walks::leap` meets its contract.
 -- The invariant: both walks have come to the row, and before it no row is outside. The measure is what is left of the length. Assumes nothing.
-use Prim.Native.Nat.{ℕ, _-_, _≤_, _<_}
+use Prim.Native.Nat.{ℕ, _-_, _≤_}
 use native.Mathlib.Omega.{arith}
 use mathlib.Core.Path.{_≡_, sym, subst, _∙_}
-use mathlib.Core.Bool.{Bool, false}
+use mathlib.Core.Bool.{Bool}
 use mathlib.Core.List.{List}
 use denote.Ref.{now}
 use borrow.Author.Needs.{needs}
@@ -16,11 +16,6 @@ use Rattle.outside.proofs.FirstLaws.{clear-none, first-none, leap-on, l
 use Rattle.outside.proofs.WalkLaws.{walks-later}
 use Rattle.outside.proofs.walks.leap.Statement.{statement}
 use Rattle.outside.proofs.walks.leap.Tie as tie
-use Rattle.outside.proofs.walks.leap.Reads as reads
-use Rattle.outside.proofs.walks.leap.Lts as lts
-use Rattle.operand.proofs.inner.forms.length_of.Reads as length-of-reads
-use Rattle.outside.proofs.walks.next_set.Reads as next-set-reads
-use Rattle.outside.proofs.walks.reach.Reads as reach-reads
 
 -- a mask's rows
 abbrev rows : Form → List ℕ → List ℕ → List Bool
@@ -108,9 +103,10 @@ returns c =
 reach-requires : tie.Need-reach-requires Inv-loop μ-loop
 reach-requires c κs =
     let s = c .before in
-    let t = head s in
-    (walks-later (a t .args .s) (now (a t .args .swords)) (now (a t .args .srows)) (t .loop .snext) (t .loop .row) (here s) (next s .on) (t .loop .inv .1),
-    omega (arith, next s .within, c .if1 .left, measured t, a t .pre .2))
+    let t = head s in (
+      walks-later (a t .args .s) (now (a t .args .swords)) (now (a t .args .srows)) (t .loop .snext) (t .loop .row) (here s) (next s .on) (t .loop .inv .1),
+      omega (arith, next s .within, c .if1 .left, measured t, a t .pre .2),
+    )
 
 returns-2 : tie.Need-returns-2 Inv-loop μ-loop
 returns-2 c =

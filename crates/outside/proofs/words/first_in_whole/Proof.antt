@@ -2,14 +2,12 @@
 -- The invariant: of the words passed no row is outside. A turn's word is that of the rows outside. Assumes nothing.
 use Prim.Native.Nat.{ℕ, _+_, _*_, _-_, _^_, _≤_, _<_}
 use native.Mathlib.Omega.{arith}
-use mathlib.Core.Path.{_≡_, refl, sym, ap, ap₂, _∙_}
+use mathlib.Core.Path.{_≡_, ap₂}
 use mathlib.Core.Bool.{Bool}
 use mathlib.Core.List.{List}
 use lib.Bits.{bitAnd}
 use lib.Count.{trailingZeros, trailing-le}
-use lib.ListN.{length}
 use denote.Ref.{now}
-use borrow.Author.Needs.{needs}
 use Rattle.rows.specs.Rows.{outside}
 use Rattle.rows.specs.Words.{view}
 use Rattle.outside.specs.First.{has, Clear, First}
@@ -17,9 +15,6 @@ use Rattle.outside.proofs.FirstLaws.{clear-none, first-none}
 use Rattle.outside.proofs.WordLaws.{Shown, shown-as, none-behind, first-behind-shown, outside-shown}
 use Rattle.outside.proofs.words.first_in_whole.Statement.{statement}
 use Rattle.outside.proofs.words.first_in_whole.Tie as tie
-use Rattle.outside.proofs.words.first_in_whole.Reads as reads
-use Rattle.outside.proofs.words.first_in_whole.Lts as lts
-use Rattle.lent.proofs.inner.whole_word.Reads as whole-word-reads
 
 -- the rows of a view that another has not
 abbrev test : List ℕ → ℕ → List ℕ → ℕ → ℕ → ℕ → Bool

@@ -1,12 +1,11 @@
 -- `outside::words::first_in_words` meets its contract.
 -- The first of the whole words, and else the first of the chunk behind them. Assumes nothing.
-use Prim.Native.Nat.{ℕ, _+_, _*_, _-_, _/_, _^_, _≤_, _<_}
+use Prim.Native.Nat.{ℕ, _+_, _*_, _-_, _/_, _^_, _≤_}
 use native.Mathlib.Omega.{arith}
-use mathlib.Core.Path.{_≡_, ap₂}
+use mathlib.Core.Path.{ap₂}
 use mathlib.Core.Bool.{Bool}
-use mathlib.Core.List.{List}
 use lib.Bits.{bitAnd}
-use lib.Count.{trailingZeros, trailing-le}
+use lib.Count.{trailing-le}
 use denote.Ref.{now}
 use borrow.Author.Needs.{needs}
 use Rattle.rows.specs.Rows.{outside}
@@ -21,8 +20,11 @@ use Rattle.outside.proofs.words.first_in_words.Tie as tie
 abbrev start : tie.After-first-in-whole → tie.Start
 start c = c .before .before .before
 
+abbrev left : tie.After-chunk2 → tie.Else2
+left c = c .before .before
+
 abbrev whole : tie.After-chunk2 → tie.After-first-in-whole
-whole c = c .before .before .before .before
+whole c = left c .before .before
 
 -- ---- behind the whole words
 module _ (c : tie.After-first-in-whole) where

@@ -1,8 +1,8 @@
 -- `outside::words::seek` meets its contract.
 -- The invariant: from the row on, to where the loop has come, no row is as sought. A chunk is the word of what is sought in it. Assumes nothing.
-use Prim.Native.Nat.{ℕ, _+_, _*_, _-_, _^_, _≤_, _<_, min}
+use Prim.Native.Nat.{ℕ, _+_, _-_, _≤_, _<_}
 use native.Mathlib.Omega.{arith}
-use mathlib.Core.Path.{_≡_, refl, sym, ap, ap₂, _∙_}
+use mathlib.Core.Path.{_≡_, ap₂}
 use mathlib.Core.Bool.{Bool}
 use mathlib.Core.List.{List}
 use lib.Bits.{bitAnd, bitXor}
@@ -10,17 +10,11 @@ use lib.Count.{trailingZeros, trailing-le}
 use denote.Ref.{now}
 use borrow.Author.Needs.{needs}
 use Rattle.rows.specs.Words.{view}
-use Rattle.outside.specs.First.{has, sought, flipped, Clear, First}
+use Rattle.outside.specs.First.{has, sought, Clear, First}
 use Rattle.outside.proofs.FirstLaws.{clear-none, first-none}
 use Rattle.outside.proofs.WordLaws.{Shown, shown-as, none-behind, first-behind-shown, sought-shown}
 use Rattle.outside.proofs.words.seek.Statement.{statement}
 use Rattle.outside.proofs.words.seek.Tie as tie
-use Rattle.outside.proofs.words.seek.Reads as reads
-use Rattle.outside.proofs.words.seek.Lts as lts
-use Rattle.lent.proofs.inner.chunk_len.Reads as chunk-len-reads
-use Rattle.lent.proofs.inner.ones.Reads as ones-reads
-use Rattle.lent.proofs.inner.read.Reads as read-reads
-use Rattle.outside.proofs.words.flip.Reads as flip-reads
 
 -- what is sought of a row
 abbrev test : List ℕ → ℕ → ℕ → Bool → ℕ → Bool
