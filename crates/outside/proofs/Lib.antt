@@ -1,0 +1,4 @@
+pub mod FirstLaws
+pub mod WordLaws
+pub mod SpanLaws
+pub mod WalkLaws
