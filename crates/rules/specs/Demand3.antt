@@ -27,7 +27,7 @@ Pieces [] = Unit {0}
 Pieces (p ∷ ps) = Accepted (p .self) × Accepted (p .rank) × (lengthOf (p .rank .form) ≡ count (rowsOf (p .self))) × Pieces ps
 
 -- the rows of one side of the pieces, joined; and a pair whose rows are the pieces' joined, in whatever form
-abbrev pub joined : (Pair → Operand) → List Pair → List Bool
+abbrev pub joined : {A : Type 0} → (A → Operand) → List A → List Bool
 joined side [] = []
 joined side (p ∷ ps) = rowsOf (side p) ++ joined side ps
 
@@ -40,11 +40,11 @@ abbrev pub AllAccepted : List Answer → Type 0
 AllAccepted [] = Unit {0}
 AllAccepted (a ∷ xs) = (a .refusal .number ≡ 0) × AllAccepted xs
 
-abbrev pub keepIf : ℕ → Pair → List Pair → List Pair
+abbrev pub keepIf : {A : Type 0} → ℕ → A → List A → List A
 keepIf zero p ps = p ∷ ps
 keepIf (suc n) p ps = ps
 
-abbrev pub taken : List Pair → List Answer → List Pair
+abbrev pub taken : {A : Type 0} → List A → List Answer → List A
 taken [] xs = []
 taken (p ∷ ps) [] = []
 taken (p ∷ ps) (a ∷ xs) = keepIf (a .refusal .number) p (taken ps xs)

@@ -8,3 +8,5 @@ pub mod SetOps
 pub mod Stream
 pub mod Recover
 pub mod Demand3
+pub mod RecoverStream
+pub mod RecoverCut

@@ -98,3 +98,18 @@ pub struct Recovered {
     pub answer: Answer,
     pub outside: Row,
 }
+
+// A recovery stream's state: the rows fed, the ranks fed, which are self's set rows among them, and how many of these were kept. The ranks fed are
+// the next piece's first bit in the output; done is where it begins in both masks.
+pub struct RecoveryState {
+    pub done: Row,
+    pub ranks: Rank,
+    pub kept: u64,
+}
+
+// What a feed of recovery gives: its answer, with 17 the first row outside self, counted in the piece, and the state to hand to the next feed.
+pub struct RecoveryFed {
+    pub answer: Answer,
+    pub outside: Row,
+    pub state: RecoveryState,
+}
