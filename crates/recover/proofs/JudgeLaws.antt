@@ -9,6 +9,7 @@ use mathlib.Core.List.{List, [], _∷_}
 use native.Mathlib.Omega.{arith}
 use lib.ListN.{length}
 use Rattle.rows.specs.declared.Refusal.{Refusal}
+use Rattle.rows.specs.declared.Row.{Row}
 use Rattle.rows.specs.declared.Verdict.{Verdict}
 use Rattle.rows.specs.declared.Verdict.the-variants.{Fine, Refused}
 use Rattle.rows.specs.Rows.{count}
@@ -27,7 +28,15 @@ use Rattle.rules.proofs.ComposeLaws.{both-met}
 use Rattle.rules.proofs.Compositions.{OperandRefuses, both-refuses}
 use Rattle.operand.specs.Counts.{checkedOf}
 use Rattle.operand.proofs.PairLaws.{both-verdict, both-counts}
-use Rattle.recover.specs.Judged.{matchChecks, lastChecks}
+use Rattle.recover.specs.declared.inner.judge.Found.{Found}
+use Rattle.recover.specs.declared.inner.judge.Judged.{Judged}
+use Rattle.recover.specs.Judged.{matchChecks, lastChecks, foundBy, foundOf, judgedBy, judgedOf}
+
+abbrev found : Verdict → Row → Found
+found v row = record { verdict = v; outside = row }
+
+abbrev pub judged : Verdict → Row → ℕ → ℕ → Judged
+judged v row set kept = record { verdict = v; outside = row; set = set; kept = kept }
 
 module _ (s k : Operand) where
   -- ---- the operands, then 7
@@ -72,27 +81,57 @@ module _ (s k : Operand) where
       ∙ then-then b l e ∙ ap (λ (v : Verdict). ifFine v e v) (sym matched-parts)
 
   module _ (same : lengthOf (k .form) ≡ lengthOf (s .form)) (own : Accepted s) (other : Accepted k) (bits room : ℕ) where
-    -- a row lies outside where the first that does is below the length
-    pub some-outside : select (strays s k) 0 ≢ lengthOf (s .form) → first (lastChecks s k bits room) ≡ Refused (refusal 17 0)
-    some-outside h =
+    -- a row lies outside where the first that does is below the length: it is told with 17
+    pub stray-told : select (strays s k) 0 ≢ lengthOf (s .form) → (v : Verdict) → v ≡ Refused (refusal 17 0) → (row : Row) → row .0 ≡ select (strays s k) 0
+        → found v row ≡ foundOf s k bits room
+    stray-told h v told row first-row =
         let out : count (strays s k) ≢ 0 = λ e. h (select-none (strays s k) 0 (omega arith) ∙ outside-length (rowsOf s) (rowsOf k) ∙ accepted-length k other ∙ same) in
-        sym (then-told {v = Refused (refusal 17 0)} {w = first (inOrder (roomChecks bits room ∷ []))} (insideChecks s k) (roomChecks bits room) [] refl
-        (sym (alone-refused (ℕ-discrete (count (strays s k)) 0) 17 0 out)) refl)
+        let verdict : Refused (refusal 17 0) ≡ first (lastChecks s k bits room) =
+        then-told (insideChecks s k) (roomChecks bits room) [] refl (sym (alone-refused (ℕ-discrete (count (strays s k)) 0) 17 0 out)) refl in
+        let row-is : row .0 ≡ rowTold (Refused (refusal 17 0)) (strays s k) = first-row ∙ sym (chosen (ℕ-discrete 17 17) (select (strays s k) 0) 0 refl) in
+        (λ i. found (told i) (record { 0 = row-is i })) ∙ ap (λ (w : Verdict). foundBy w s k) verdict
 
-    pub none-outside : select (strays s k) 0 ≡ lengthOf (s .form) → first (roomChecks bits room) ≡ first (lastChecks s k bits room)
-    none-outside e =
-        then-told {v = Fine} (insideChecks s k) (roomChecks bits room) [] refl
-        (sym (alone-fine (ℕ-discrete (count (strays s k)) 0) 17 0 (none (count (strays s k)) refl))) (last-told (roomChecks bits room) refl)
+    -- and where none does the room decides, and no row is told
+    pub room-told : select (strays s k) 0 ≡ lengthOf (s .form) → (v : Verdict) → v ≡ first (roomChecks bits room)
+        → found v (record { 0 = 0 }) ≡ foundOf s k bits room
+    room-told e v told =
+        let none : count (strays s k) ≡ 0 = inside (count (strays s k)) refl in
+        let verdict : v ≡ first (lastChecks s k bits room) =
+        then-told (insideChecks s k) (roomChecks bits room) [] refl
+        (sym (alone-fine (ℕ-discrete (count (strays s k)) 0) 17 0 none)) (last-told (roomChecks bits room) told) in
+        ap (λ (n : ℕ). found v (record { 0 = n })) (sym (no-row v told)) ∙ ap (λ (w : Verdict). foundBy w s k) verdict
       where
-        none : (n : ℕ) → n ≡ count (strays s k) → count (strays s k) ≡ 0
-        none zero q = sym q
-        none (suc n) q =
-            let found = selects (strays s k) 0 (omega arith) in
-            absurd (omega (arith, found .within, outside-length (rowsOf s) (rowsOf k), accepted-length k other, same, e))
+        inside : (n : ℕ) → n ≡ count (strays s k) → count (strays s k) ≡ 0
+        inside zero q = sym q
+        inside (suc n) q =
+            let row = selects (strays s k) 0 (omega arith) in
+            absurd (omega (arith, row .within, outside-length (rowsOf s) (rowsOf k), accepted-length k other, same, e))
 
-    -- the row told with 8, or with none, is 0
-    pub room-row : (v : Verdict) → v ≡ first (roomChecks bits room) → rowTold v (strays s k) ≡ 0
-    room-row Fine e = refl
-    room-row (Refused x) e = passed-over (ℕ-discrete (x .number) 17) _ 0 (λ q.
-      let w = line-refuses (decLe (wordsFor bits) room) 8 0 x .0 (first-exactly (roomChecks bits room) (Refused x) .0 (sym e)) in
-      omega (arith, ap (λ (y : Refusal). y .number) (w .0), q))
+        no-row : (w : Verdict) → w ≡ first (roomChecks bits room) → rowTold w (strays s k) ≡ 0
+        no-row Fine q = refl
+        no-row (Refused x) q = passed-over (ℕ-discrete (x .number) 17) _ 0 (λ n.
+          let w = line-refuses (decLe (wordsFor bits) room) 8 0 x .0 (first-exactly (roomChecks bits room) (Refused x) .0 (sym q)) in
+          omega (arith, ap (λ (y : Refusal). y .number) (w .0), n))
+
+  -- ---- all parts, and the row that is told beside them
+
+  module _ (room : ℕ) where
+    pub refused-told : (x : Refusal) → first (matchChecks s k) ≡ Refused x → judged (Refused x) (record { 0 = 0 }) (checkedOf 1 s .count) (checkedOf 2 k .count) ≡ judgedOf s k room
+    refused-told x e =
+        let verdict : Refused x ≡ first (recoverChecks s k room) = sym (all-verdict room ∙ ap (λ (v : Verdict). ifFine v (first (lastChecks s k (countOf s) room)) v) e) in
+        ap (λ (n : ℕ). judged (Refused x) (record { 0 = n }) (checkedOf 1 s .count) (checkedOf 2 k .count)) (sym (passed-over (ℕ-discrete (x .number) 17) (select (strays s k) 0) 0 (match-numbers x e)))
+        ∙ ap (λ (v : Verdict). judgedBy v s k) verdict
+
+    pub found-told : first (matchChecks s k) ≡ Fine → (f : Found) (n : ℕ) → n ≡ countOf s → f ≡ foundOf s k n room
+        → judged (f .verdict) (f .outside) (checkedOf 1 s .count) (checkedOf 2 k .count) ≡ judgedOf s k room
+    found-told e f n own told =
+        let verdict : first (lastChecks s k (countOf s) room) ≡ first (recoverChecks s k room) =
+        sym (all-verdict room ∙ ap (λ (v : Verdict). ifFine v (first (lastChecks s k (countOf s) room)) v) e) in
+        ap (λ (g : Found). judged (g .verdict) (g .outside) (checkedOf 1 s .count) (checkedOf 2 k .count)) (told ∙ ap (λ (m : ℕ). foundOf s k m room) own)
+        ∙ ap (λ (v : Verdict). judgedBy v s k) verdict
+
+    -- a recovery that is accepted has both operands accepted
+    pub all-counts : first (recoverChecks s k room) ≡ Fine → (checkedOf 1 s .count ≡ countOf s) × (checkedOf 2 k .count ≡ countOf k)
+    all-counts e =
+        let fine = match-fine (then-fine (first (matchChecks s k)) (first (lastChecks s k (countOf s) room)) (sym (all-verdict room) ∙ e) .0) in
+        (fine .3, fine .4)

@@ -113,9 +113,11 @@ pub fn judge(
         },
         Verdict::Fine => {
             let found = judge_inside(s, swords, srows, k, kwords, krows, set, room);
+            let inside = found.verdict;
+            let outside = found.outside;
             Judged {
-                verdict: found.verdict,
-                outside: found.outside,
+                verdict: inside,
+                outside,
                 set,
                 kept,
             }

@@ -7,14 +7,11 @@ use mathlib.Core.Logic.{_≢_}
 use mathlib.Core.List.{[], _∷_}
 use denote.Ref.{now}
 use borrow.Author.Needs.{needs}
-use Rattle.rows.specs.declared.Verdict.{Verdict}
 use Rattle.rows.specs.Lists.{select}
 use Rattle.rows.specs.Table.{first, need}
 use Rattle.rules.specs.Operand.{Operand, lent, lengthOf}
 use Rattle.rules.specs.Recover.{strays, roomChecks}
-use Rattle.recover.specs.declared.inner.judge.Found.{Found}
-use Rattle.recover.specs.Judged.{lastChecks, foundBy}
-use Rattle.recover.proofs.JudgeLaws.{some-outside, none-outside, room-row}
+use Rattle.recover.proofs.JudgeLaws.{stray-told, room-told}
 use Rattle.recover.proofs.inner.judge.judge_inside.Statement.{statement}
 use Rattle.recover.proofs.inner.judge.judge_inside.Tie as tie
 
@@ -62,12 +59,10 @@ refuse-requires c κs = search needs
 returns : tie.Need-returns
 returns c =
     let t = c .before .before in
-    let p = s t .pre in
-    let a = self (s t) in
-    let b = other (s t) in
-    let far : select (strays a b) 0 ≢ lengthOf (s t .args .s) = λ e. c .before .if1 .taken (row t ∙ e ∙ sym (long t)) in
-    let v = some-outside a b (p .2) (p .0) (p .1) (s t .args .bits) (s t .args .room) far in
-    ?
+    let b = s t in
+    let p = b .pre in
+    let far : select (strays (self b) (other b)) 0 ≢ lengthOf (b .args .s) = λ e. c .before .if1 .taken (row t ∙ e ∙ sym (long t)) in
+    stray-told (self b) (other b) (p .2) (p .0) (p .1) (b .args .bits) (b .args .room) far _ (c .refuse .ensures) _ (row t)
 
 words-for-requires : tie.Need-words-for-requires
 words-for-requires c κs = search needs
@@ -78,13 +73,12 @@ has-room-requires c κs = search needs
 returns-2 : tie.Need-returns-2
 returns-2 c =
     let t = c .before .before .before in
-    let p = s t .pre in
-    let a = self (s t) in
-    let b = other (s t) in
-    let at-end : select (strays a b) 0 ≡ lengthOf (s t .args .s) = sym (row t) ∙ ? in
-    let told : c .has-room .result ≡ first (roomChecks (s t .args .bits) (s t .args .room)) =
-    c .has-room .ensures ∙ ap (λ (n : ℕ). first (need (decLe n (s t .args .room)) 8 0 ∷ [])) (c .before .words-for .ensures) in
-    ?
+    let b = s t in
+    let p = b .pre in
+    let at-end : select (strays (self b) (other b)) 0 ≡ lengthOf (b .args .s) = sym (row t) ∙ c .before .before .if1 .left ∙ long t in
+    let told : c .has-room .result ≡ first (roomChecks (b .args .bits) (b .args .room)) =
+    c .has-room .ensures ∙ ap (λ (n : ℕ). first (need (decLe n (b .args .room)) 8 0 ∷ [])) (c .before .words-for .ensures) in
+    room-told (self b) (other b) (p .2) (p .0) (p .1) (b .args .bits) (b .args .room) at-end _ told
 
 pub judge-inside-spec : {M : Type 1} → statement M
 judge-inside-spec =
