@@ -45,7 +45,7 @@ module _ (s k : Operand) where
       (ifFine (first (operandChecks 1 s)) (first (operandChecks 2 k)) (first (operandChecks 1 s))) ≡ first (matchChecks s k)
   match-verdict = then-told (bothChecks s k) (lengthsChecks s k) [] refl (both-verdict s k) (last-told (lengthsChecks s k) refl)
 
-  matched-parts : first (matchChecks s k) ≡ ifFine (first (bothChecks s k)) (first (lengthsChecks s k)) (first (bothChecks s k))
+  pub matched-parts : first (matchChecks s k) ≡ ifFine (first (bothChecks s k)) (first (lengthsChecks s k)) (first (bothChecks s k))
   matched-parts = sym (then-told (bothChecks s k) (lengthsChecks s k) [] refl refl (last-told (lengthsChecks s k) refl))
 
   -- both are accepted and of one length, and the counts told are their own
@@ -113,22 +113,29 @@ module _ (s k : Operand) where
           let w = line-refuses (decLe (wordsFor bits) room) 8 0 x .0 (first-exactly (roomChecks bits room) (Refused x) .0 (sym q)) in
           omega (arith, ap (λ (y : Refusal). y .number) (w .0), n))
 
-  -- ---- all parts, and the row that is told beside them
+  -- ---- what is told with the counts beside it, by the verdict of the whole table
+
+  -- a refusal that is not 17 tells no row
+  pub barred-told : (v : Verdict) (x : Refusal) → v ≡ Refused x → x .number ≢ 17
+      → judged (Refused x) (record { 0 = 0 }) (checkedOf 1 s .count) (checkedOf 2 k .count) ≡ judgedBy v s k
+  barred-told v x e other =
+      ap (λ (n : ℕ). judged (Refused x) (record { 0 = n }) (checkedOf 1 s .count) (checkedOf 2 k .count))
+      (sym (passed-over (ℕ-discrete (x .number) 17) (select (strays s k) 0) 0 other))
+      ∙ ap (λ (w : Verdict). judgedBy w s k) (sym e)
+
+  -- what was found is told as it is
+  pub found-told : (v : Verdict) (f : Found) → f ≡ foundBy v s k
+      → judged (f .verdict) (f .outside) (checkedOf 1 s .count) (checkedOf 2 k .count) ≡ judgedBy v s k
+  found-told v f e = ap (λ (g : Found). judged (g .verdict) (g .outside) (checkedOf 1 s .count) (checkedOf 2 k .count)) e
+
+  -- ---- the whole table, by its parts
 
   module _ (room : ℕ) where
-    pub refused-told : (x : Refusal) → first (matchChecks s k) ≡ Refused x → judged (Refused x) (record { 0 = 0 }) (checkedOf 1 s .count) (checkedOf 2 k .count) ≡ judgedOf s k room
-    refused-told x e =
-        let verdict : Refused x ≡ first (recoverChecks s k room) = sym (all-verdict room ∙ ap (λ (v : Verdict). ifFine v (first (lastChecks s k (countOf s) room)) v) e) in
-        ap (λ (n : ℕ). judged (Refused x) (record { 0 = n }) (checkedOf 1 s .count) (checkedOf 2 k .count)) (sym (passed-over (ℕ-discrete (x .number) 17) (select (strays s k) 0) 0 (match-numbers x e)))
-        ∙ ap (λ (v : Verdict). judgedBy v s k) verdict
+    pub all-refused : (x : Refusal) → first (matchChecks s k) ≡ Refused x → first (recoverChecks s k room) ≡ Refused x
+    all-refused x e = all-verdict room ∙ ap (λ (v : Verdict). ifFine v (first (lastChecks s k (countOf s) room)) v) e
 
-    pub found-told : first (matchChecks s k) ≡ Fine → (f : Found) (n : ℕ) → n ≡ countOf s → f ≡ foundOf s k n room
-        → judged (f .verdict) (f .outside) (checkedOf 1 s .count) (checkedOf 2 k .count) ≡ judgedOf s k room
-    found-told e f n own told =
-        let verdict : first (lastChecks s k (countOf s) room) ≡ first (recoverChecks s k room) =
-        sym (all-verdict room ∙ ap (λ (v : Verdict). ifFine v (first (lastChecks s k (countOf s) room)) v) e) in
-        ap (λ (g : Found). judged (g .verdict) (g .outside) (checkedOf 1 s .count) (checkedOf 2 k .count)) (told ∙ ap (λ (m : ℕ). foundOf s k m room) own)
-        ∙ ap (λ (v : Verdict). judgedBy v s k) verdict
+    pub all-passed : first (matchChecks s k) ≡ Fine → first (lastChecks s k (countOf s) room) ≡ first (recoverChecks s k room)
+    all-passed e = sym (all-verdict room ∙ ap (λ (v : Verdict). ifFine v (first (lastChecks s k (countOf s) room)) v) e)
 
     -- a recovery that is accepted has both operands accepted
     pub all-counts : first (recoverChecks s k room) ≡ Fine → (checkedOf 1 s .count ≡ countOf s) × (checkedOf 2 k .count ≡ countOf k)

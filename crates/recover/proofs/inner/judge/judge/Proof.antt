@@ -4,13 +4,14 @@ use Prim.Native.Nat.{ℕ}
 use mathlib.Core.Path.{_≡_, sym, ap, ap₂, _∙_}
 use denote.Ref.{now}
 use borrow.Author.Needs.{needs}
+use Rattle.rows.specs.declared.Verdict.{Verdict}
 use Rattle.rows.specs.declared.Verdict.the-variants.{Fine, Refused}
 use Rattle.rows.specs.Table.{first}
 use Rattle.rules.specs.Operand.{Operand, lent}
 use Rattle.recover.specs.declared.inner.judge.Matched.{Matched}
 use Rattle.operand.specs.Counts.{checkedOf}
-use Rattle.recover.specs.Judged.{matchChecks, matchedOf}
-use Rattle.recover.proofs.JudgeLaws.{judged, match-fine, refused-told, found-told}
+use Rattle.recover.specs.Judged.{matchChecks, matchedOf, foundBy, foundOf}
+use Rattle.recover.proofs.JudgeLaws.{judged, match-fine, match-numbers, barred-told, found-told, all-refused, all-passed}
 use Rattle.recover.proofs.inner.judge.judge.Statement.{statement}
 use Rattle.recover.proofs.inner.judge.judge.Tie as tie
 
@@ -77,7 +78,7 @@ returns c =
     let v = c .before in
     let m = barred v in
     ap₂ (λ (set kept : ℕ). judged (Refused (v .verdict .given .0 .0)) (record { 0 = 0 }) set kept) (set-told m) (kept-told m)
-    ∙ refused-told (self m) (other m) (s m .args .room) (v .verdict .given .0 .0) (refuses v)
+    ∙ barred-told (self m) (other m) _ (v .verdict .given .0 .0) (all-refused (self m) (other m) (s m .args .room) _ (refuses v)) (match-numbers (self m) (other m) _ (refuses v))
 
 returns-2 : tie.Need-returns-2
 returns-2 c =
@@ -87,7 +88,9 @@ returns-2 c =
     let own = match-fine (self m) (other m) (fine t) .3 in
     let found = f .judge-inside .result in
     ap₂ (λ (set kept : ℕ). judged (found .verdict) (found .outside) set kept) (set-told m) (kept-told m)
-    ∙ found-told (self m) (other m) (s m .args .room) (fine t) found _ (set-told m ∙ own) (f .judge-inside .ensures)
+    ∙ found-told (self m) (other m) _ found
+    (f .judge-inside .ensures ∙ ap (λ (n : ℕ). foundOf (self m) (other m) n (s m .args .room)) (set-told m ∙ own)
+    ∙ ap (λ (w : Verdict). foundBy w (self m) (other m)) (all-passed (self m) (other m) (s m .args .room) (fine t)))
 
 pub judge-spec : {M : Type 1} → statement M
 judge-spec = tie.close (tie.spec judge-masks-requires enum-known-verdict enum-told judge-inside-requires returns returns-2)
