@@ -30,6 +30,23 @@ use Rattle.rules.proofs.Writes.{bitAt, row, Writes, writes, in-both}
 use Rattle.rules.proofs.ComposeLaws.{both-met}
 use Rattle.rules.proofs.Compositions.{OperandRefuses, both-refuses, both-numbered}
 
+-- ---- the row told, by the verdict: the first of those outside self with 17, else 0
+
+pub told-first : (v : Verdict) (rows : List Bool) (route : ℕ) (away : List Bool) → answered v rows route .refusal .number ≡ 17 → rowTold v away ≡ select away 0
+told-first Fine rows route away e = absurd (omega arith)
+told-first (Refused x) rows route away e = chosen (ℕ-discrete (x .number) 17) _ 0 e
+
+pub told-else : (v : Verdict) (rows : List Bool) (route : ℕ) (away : List Bool) → answered v rows route .refusal .number ≢ 17 → rowTold v away ≡ 0
+told-else Fine rows route away h = refl
+told-else (Refused x) rows route away h = passed-over (ℕ-discrete (x .number) 17) _ 0 h
+
+pub number : {x y : Refusal} → x ≡ y → x .number ≡ y .number
+number e = ap (λ (x : Refusal). x .number) e
+
+pub some : (n : ℕ) → n ≢ 0 → 0 < n
+some zero h = absurd (h refl)
+some (suc n) h = omega arith
+
 module _ (s k : Operand) where
   -- ---- the two operands where their needs are met
 
@@ -166,20 +183,9 @@ module _ (s k : Operand) where
 
     -- ---- the row told: with 17 it is in the second mask and not in self, and no earlier row is; else it is 0
 
-    told-else : (v : Verdict) (rows : List Bool) (route : ℕ) → answered v rows route .refusal .number ≢ 17 → rowTold v (strays s k) ≡ 0
-    told-else Fine rows route h = refl
-    told-else (Refused x) rows route h = passed-over (ℕ-discrete (x .number) 17) _ 0 h
-
     pub outside-else : recovered s k out .answer .refusal .number ≢ 17 → recovered s k out .outside .0 ≡ 0
     unfolding recovered
-    outside-else = told-else (first (recoverChecks s k (length out))) _ _
-
-    told-first : (v : Verdict) (rows : List Bool) (route : ℕ) → answered v rows route .refusal .number ≡ 17 → rowTold v (strays s k) ≡ select (strays s k) 0
-    told-first Fine rows route e = absurd (omega arith)
-    told-first (Refused x) rows route e = chosen (ℕ-discrete (x .number) 17) _ 0 e
-
-    number : {x y : Refusal} → x ≡ y → x .number ≡ y .number
-    number e = ap (λ (x : Refusal). x .number) e
+    outside-else = told-else (first (recoverChecks s k (length out))) _ _ (strays s k)
 
     -- 17 is told where a row lies outside, and nowhere else
     seventeen : Refuses (length out) (refusal 17 0) → 0 < count (strays s k)
@@ -187,15 +193,11 @@ module _ (s k : Operand) where
     seventeen (inl (inr (t, w))) = absurd (omega (arith, operand-numbers 2 k (refusal 17 0) w))
     seventeen (inr (inl t)) = absurd (omega (arith, number (t .0)))
     seventeen (inr (inr (inl (e, t, u, l, d)))) = some (count (strays s k)) d
-      where
-        some : (n : ℕ) → n ≢ 0 → 0 < n
-        some zero h = absurd (h refl)
-        some (suc n) h = omega arith
     seventeen (inr (inr (inr t))) = absurd (omega (arith, number (t .0)))
 
     outside-told : recovered s k out .answer .refusal .number ≡ 17 → recovered s k out .outside .0 ≡ select (strays s k) 0
     unfolding recovered
-    outside-told = told-first (first (recoverChecks s k (length out))) _ _
+    outside-told = told-first (first (recoverChecks s k (length out))) _ _ (strays s k)
 
     pub outside-first : recovered s k out .answer .refusal ≡ refusal 17 0 → FirstOutside (rowsOf s) (rowsOf k) (recovered s k out .outside .0)
     outside-first e =
