@@ -18,6 +18,7 @@ pub mod ThereAndBack
 pub mod Feeds
 pub mod Demand3
 pub mod RecoverFeeds
+pub mod RecoverCut
 pub mod OperandExamples
 pub mod RouteExamples
 pub mod WordExamples
