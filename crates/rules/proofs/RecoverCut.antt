@@ -3,7 +3,7 @@
 use Prim.Native.Nat.{ℕ, zero, suc, _+_, _*_, _≤_}
 use native.Mathlib.Nat.{zero-add, add-zero, add-assoc}
 use native.Mathlib.Omega.{arith}
-use mathlib.Core.Path.{_≡_, refl, sym, ap, subst, _∙_}
+use mathlib.Core.Path.{_≡_, refl, sym, ap, _∙_}
 use mathlib.Core.Bool.{Bool}
 use mathlib.Core.List.{List, [], _∷_, _++_}
 use lib.ListN.{length, length-append}
@@ -19,7 +19,7 @@ use Rattle.rows.proofs.SpliceLaws.{splice-nil}
 use Rattle.rows.proofs.LaidLaws.{laid-length}
 use Rattle.rules.specs.declared.Answer.{Answer}
 use Rattle.rules.specs.declared.RecoveryState.{RecoveryState}
-use Rattle.rules.specs.Operand.{limit, inWords, rowsOf, lengthOf, Accepted}
+use Rattle.rules.specs.Operand.{limit, inWords, rowsOf, Accepted}
 use Rattle.rules.specs.Answer.{answered, noRoute}
 use Rattle.rules.specs.Recover.{strays, Within, recoverChecks, recovered, recoveredOut}
 use Rattle.rules.specs.RecoverStream.{Masks, masksOf, long, set, ranks, stateOf, fresh, moved, judged, fedBy, outBy, Run, after, run}
@@ -166,16 +166,12 @@ all-taken (m ∷ ms) st out b f i l w =
     let parts : count (strays (m .self) (m .kept)) + count (outside (selves ms) (kepts ms)) ≡ 0 = sym (inside-append s (selves ms) k (kepts ms) same) ∙ i in
     let more : length (s ++ selves ms) ≡ length s + length (selves ms) = length-append s (selves ms) in
     let sets : count (s ++ selves ms) ≡ count s + count (selves ms) = count-append s (selves ms) in
-    let size : length (laid (st .ranks .0) (ranks m) out) ≡ length out = laid-length 64 (st .ranks .0) (ranks m) out in
-    let now : Accepts st m (length out) = record {
-          bounded = b;
-          within = record { self = f .0; kept = f .1; lengths = f .2; inside = omega (arith, parts) };
-          limited = omega (arith, more, ls, l);
-          space = omega (arith, sets, cs, w);
-        } in
-    let ih =
-        all-taken ms (moved st m) (laid (st .ranks .0) (ranks m) out) (moved-bounded st m (length out) now) (f .3) (omega (arith, parts))
-        (omega (arith, more, l)) (omega (arith, sets, size, w)) in
+    let out′ = laid (st .ranks .0) (ranks m) out in
+    let size : length out′ ≡ length out = laid-length 64 (st .ranks .0) (ranks m) out in
+    let within : Within (m .self) (m .kept) = record { self = f .0; kept = f .1; lengths = f .2; inside = omega (arith, parts) } in
+    let now : Accepts st m (length out) = record { bounded = b; within = within; limited = omega (arith, more, ls, l); space = omega (arith, sets, cs, w) } in
+    let next = moved-bounded st m (length out) now in
+    let ih = all-taken ms (moved st m) out′ next (f .3) (omega (arith, parts)) (omega (arith, more, l)) (omega (arith, sets, size, w)) in
     rw (feed-fine st m (length out) .1 now) ((refl, ih .0), ap (λ (l : List Masks). m ∷ l) (ih .1))
 
 -- two masks that recovery accepts, cut into pieces that match: every feed is accepted, and the run is the whole
@@ -187,8 +183,7 @@ forward w out ms ok f j =
     let ls : length S ≡ long w = ap length (sym (j .selves)) ∙ accepted-length (w .self) (t .self) in
     let cs : count S ≡ set w = ap count (sym (j .selves)) ∙ accepted-count (w .self) (t .self) in
     let inside : count (outside S (kepts ms)) ≡ 0 = rw (← j .selves, ← j .kepts) (t .inside) in
-    let all =
-        all-taken ms fresh out (omega arith, omega arith, omega arith) f inside
-        (omega (arith, ls, zero-add (length S), accepted-limit (w .self) (t .self)))
-        (omega (arith, cs, zero-add (count S), a .1)) in
+    let limited : 0 + length S ≤ limit = omega (arith, ls, zero-add (length S), accepted-limit (w .self) (t .self)) in
+    let space : wordsFor (0 + count S) ≤ length out = omega (arith, cs, zero-add (count S), a .1) in
+    let all = all-taken ms fresh out (omega arith, omega arith, omega arith) f inside limited space in
     (all .0, converse w out ms (t .self) (t .kept) (record { selves = rw (all .1) (j .selves); kepts = rw (all .1) (j .kepts) }))

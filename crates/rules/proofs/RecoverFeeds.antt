@@ -79,6 +79,10 @@ module _ (st : RecoveryState) (m : Masks) where
   abbrev both : List Line
   both = bothChecks (m .self) (m .kept)
 
+  -- the piece's rows outside self
+  abbrev pub away : List Bool
+  away = strays (m .self) (m .kept)
+
   -- the lines after the operands'
   abbrev later : ℕ → List (List Line)
   later room =
@@ -94,8 +98,8 @@ module _ (st : RecoveryState) (m : Masks) where
   PieceRefuses room x =
       ((x ≡ refusal 7 0) × (lengthOf (m .kept .form) ≢ long m))
       ⊎ ((x ≡ refusal 11 0) × (lengthOf (m .kept .form) ≡ long m) × (limit < st .done .0 + long m))
-      ⊎ ((x ≡ refusal 17 0) × (lengthOf (m .kept .form) ≡ long m) × (st .done .0 + long m ≤ limit) × (count (strays (m .self) (m .kept)) ≢ 0))
-      ⊎ ((x ≡ refusal 8 0) × (lengthOf (m .kept .form) ≡ long m) × (st .done .0 + long m ≤ limit) × (count (strays (m .self) (m .kept)) ≡ 0) × (room < wordsFor (st .ranks .0 + set m)))
+      ⊎ ((x ≡ refusal 17 0) × (lengthOf (m .kept .form) ≡ long m) × (st .done .0 + long m ≤ limit) × (count away ≢ 0))
+      ⊎ ((x ≡ refusal 8 0) × (lengthOf (m .kept .form) ≡ long m) × (st .done .0 + long m ≤ limit) × (count away ≡ 0) × (room < wordsFor (st .ranks .0 + set m)))
 
   abbrev pub Refuses : ℕ → Refusal → Type 0
   Refuses room x =
@@ -127,11 +131,10 @@ module _ (st : RecoveryState) (m : Masks) where
       from (inr (inr (inr (e, a, b, c, d)))) = inl (a, inl (b, inl (c, inr (λ h. omega arith, ap Refused e))))
 
   table-refuses : (room : ℕ) (x : Refusal) → First (feedChecks st m room) (Refused x) ↔ Refuses room x
-  table-refuses room x = (λ h. one (state-part .0 h), λ w. state-part .1 (from w))
+  table-refuses room x =
+      let p = parts-refuses (stateChecks st) (both ∷ later room) x in
+      (λ h. one (p .0 h), λ w. p .1 (from w))
     where
-      state-part : First (feedChecks st m room) (Refused x) ↔ (First (stateChecks st) (Refused x) ⊎ (Met (stateChecks st) × First (inOrder (both ∷ later room)) (Refused x)))
-      state-part = parts-refuses (stateChecks st) (both ∷ later room) x
-
       operand-part : First (inOrder (both ∷ later room)) (Refused x) ↔ (First both (Refused x) ⊎ (Met both × First (inOrder (later room)) (Refused x)))
       operand-part = parts-refuses both (later room) x
 
@@ -160,7 +163,8 @@ module _ (st : RecoveryState) (m : Masks) where
   feed-numbered room =
       parts-numbered _ _ (omega arith, (omega arith, (omega arith, tt)))
       (parts-numbered _ _ (both-numbered (m .self) (m .kept))
-      (parts-numbered _ _ (omega arith, tt) (parts-numbered _ _ (omega arith, tt) (parts-numbered _ _ (omega arith, tt) (parts-numbered _ _ (omega arith, tt) none-numbered)))))
+      (parts-numbered _ _ (omega arith, tt)
+      (parts-numbered _ _ (omega arith, tt) (parts-numbered _ _ (omega arith, tt) (parts-numbered _ _ (omega arith, tt) none-numbered)))))
 
   -- no refusal tells the number 0
   pub refused-number : (room : ℕ) (x : Refusal) → judged st m room ≡ Refused x → x .number ≢ 0
@@ -187,6 +191,9 @@ module _ (st : RecoveryState) (m : Masks) where
             space = search;
           }
 
+      with-met : (t : List Line) (ts : List (List Line)) → Met t → Met (inOrder ts) → Met (inOrder (t ∷ ts))
+      with-met t ts a b = parts-met t ts .1 (a, b)
+
       from : Accepts st m room → Met (feedChecks st m room)
       from t =
           let state = bounded-met .1 (t .bounded) in
@@ -195,7 +202,7 @@ module _ (st : RecoveryState) (m : Masks) where
           let limited = t .limited in
           let inside = t .within .inside in
           let space = t .space in
-          parts-met _ _ .1 (search, parts-met _ _ .1 (search, parts-met _ _ .1 (search, parts-met _ _ .1 (search, parts-met _ _ .1 (search, parts-met _ _ .1 (search, none-met))))))
+          with-met _ _ (search) (with-met _ _ (search) (with-met _ _ (search) (with-met _ _ (search) (with-met _ _ (search) (with-met _ _ (search) none-met)))))
 
   -- a feed that has what it needs is let pass, and no other
   pub feed-fine : (room : ℕ) → (judged st m room ≡ Fine) ↔ Accepts st m room
@@ -223,24 +230,24 @@ module _ (st : RecoveryState) (m : Masks) where
     -- ---- the row told, counted in the piece: with 17 it is in the second mask and not in self, and no earlier row is; else it is 0
 
     -- 17 is told where a row lies outside, and nowhere else
-    seventeen : (x : Refusal) → x .number ≡ 17 → Refuses (length out) x → 0 < count (strays (m .self) (m .kept))
+    seventeen : (x : Refusal) → x .number ≡ 17 → Refuses (length out) x → 0 < count away
     seventeen x e (inl t) = absurd (omega (arith, e, number (t .0)))
     seventeen x e (inr (inl (b, inl w))) = absurd (omega (arith, e, operand-numbers 1 (m .self) x w))
     seventeen x e (inr (inl (b, inr (s, w)))) = absurd (omega (arith, e, operand-numbers 2 (m .kept) x w))
     seventeen x e (inr (inr (b, s, k, inl t))) = absurd (omega (arith, e, number (t .0)))
     seventeen x e (inr (inr (b, s, k, inr (inl t)))) = absurd (omega (arith, e, number (t .0)))
-    seventeen x e (inr (inr (b, s, k, inr (inr (inl (f, l, d, h)))))) = some (count (strays (m .self) (m .kept))) h
+    seventeen x e (inr (inr (b, s, k, inr (inr (inl (f, l, d, h)))))) = some (count away) h
     seventeen x e (inr (inr (b, s, k, inr (inr (inr t))))) = absurd (omega (arith, e, number (t .0)))
 
     pub fed-outside-first : fed st m out .answer .refusal .number ≡ 17 → FirstOutside (rowsOf (m .self)) (rowsOf (m .kept)) (fed st m out .outside .0)
     fed-outside-first e =
-        let told = told-first (judged st m (length out)) (ranks m) noRoute (strays (m .self) (m .kept)) e in
+        let told = told-first (judged st m (length out)) (ranks m) noRoute away e in
         let x = fed st m out .answer .refusal in
-        let away = seventeen x e (fed-refuses out x (omega (arith, e)) .0 refl) in
-        subst (FirstOutside (rowsOf (m .self)) (rowsOf (m .kept))) (sym told) (first-outside (rowsOf (m .self)) (rowsOf (m .kept)) away)
+        let found = seventeen x e (fed-refuses out x (omega (arith, e)) .0 refl) in
+        subst (FirstOutside (rowsOf (m .self)) (rowsOf (m .kept))) (sym told) (first-outside (rowsOf (m .self)) (rowsOf (m .kept)) found)
 
     pub fed-outside-else : fed st m out .answer .refusal .number ≢ 17 → fed st m out .outside .0 ≡ 0
-    fed-outside-else = told-else (judged st m (length out)) (ranks m) noRoute (strays (m .self) (m .kept))
+    fed-outside-else = told-else (judged st m (length out)) (ranks m) noRoute away
 
 -- what an accepted feed leaves: from the state's ranks on a bit for each of the piece's set rows, the r-th as the r-th of them is kept, and no other
 -- bit written; the second mask's count, route 0 and the density told; and all three numbers added to
@@ -266,16 +273,17 @@ fed-feeds st m out t =
           λ r h. ap (λ (l : List Bool). getD l (st .ranks .0 + r) false) at
           ∙ splice-in (st .ranks .0) (bitsOfAll 64 out) (ranks m) r false (omega (arith, long, short)) (omega (arith, long))
           ∙ recover-rank (rowsOf (m .self)) (rowsOf (m .kept)) r (omega (arith, self-count m w));
-      others = λ i h. ap (λ (l : List Bool). getD l i false) at ∙ away i h;
+      others = λ i h. ap (λ (l : List Bool). getD l i false) at ∙ elsewhere i h;
       counted = ranks-count m w;
       route = refl;
       dense = ap (densityOf (count (ranks m))) long;
       state = λ i. stateOf (st .done .0 + self-length m w i) (st .ranks .0 + self-count m w i) (st .kept + count (ranks m));
     })
   where
-    away : (i : ℕ) → (i < st .ranks .0) ⊎ (st .ranks .0 + set m ≤ i) → getD (splice (st .ranks .0) (bitsOfAll 64 out) (ranks m)) i false ≡ getD (bitsOfAll 64 out) i false
-    away i (inl h) = splice-before (st .ranks .0) (bitsOfAll 64 out) (ranks m) i false h
-    away i (inr h) = splice-after (st .ranks .0) (bitsOfAll 64 out) (ranks m) i false (omega (arith, ranks-length m (t .within)))
+    elsewhere : (i : ℕ) → (i < st .ranks .0) ⊎ (st .ranks .0 + set m ≤ i)
+        → getD (splice (st .ranks .0) (bitsOfAll 64 out) (ranks m)) i false ≡ getD (bitsOfAll 64 out) i false
+    elsewhere i (inl h) = splice-before (st .ranks .0) (bitsOfAll 64 out) (ranks m) i false h
+    elsewhere i (inr h) = splice-after (st .ranks .0) (bitsOfAll 64 out) (ranks m) i false (omega (arith, ranks-length m (t .within)))
 
 -- two pieces of length 0 change nothing
 pub fed-nothing : (st : RecoveryState) (m : Masks) (out : List ℕ) → Accepts st m (length out) → long m ≡ 0

@@ -4,11 +4,11 @@
 use Prim.Native.Nat.{ℕ, zero, suc, _≤_, _<_}
 use mathlib.Core.Path.{_≡_, refl, sym, ap, subst, _∙_}
 use mathlib.Core.Logic.{_↔_, _≢_, _⊎_, inl, inr}
-use mathlib.Core.Bool.{Bool, true, false, not, _&&_}
+use mathlib.Core.Bool.{Bool}
 use mathlib.Core.List.{List, [], _∷_}
 use native.Mathlib.Decide.{ℕ-discrete, decLe}
 use native.Mathlib.Omega.{arith}
-use lib.ListN.{length, getD}
+use lib.ListN.{length}
 use Rattle.rows.specs.declared.Refusal.{Refusal}
 use Rattle.rows.specs.declared.Verdict.{Verdict}
 use Rattle.rows.specs.declared.Verdict.the-variants.{Fine, Refused}
@@ -18,15 +18,14 @@ use Rattle.rows.specs.Laid.{wordsFor}
 use Rattle.rows.specs.Table.{Line, First, Met, Numbered, first, inOrder, refusal}
 use Rattle.rows.proofs.TableLaws.{fine-exactly, parts-met, none-met, parts-refuses, then-refuses, line-refuses, parts-numbered, none-numbered, chosen, passed-over}
 use Rattle.rows.proofs.RecoverLaws.{recover-length, recover-rank, recover-count, FirstOutside, first-outside}
-use Rattle.rules.specs.declared.Recovered.{Recovered}
 use Rattle.rules.specs.Answer.{answered}
 use Rattle.rules.specs.Operand.{Operand, rowsOf, lengthOf, countOf, Accepted}
 use Rattle.rules.specs.Compose.{bothChecks}
 use Rattle.rules.specs.Recover.{strays, Within, lengthsChecks, insideChecks, roomChecks, recoverChecks, recovery, rowTold, recovered, recoveredOut}
 use Rattle.rules.proofs.OperandLaws.{accepted-length, accepted-count}
 use Rattle.rules.proofs.Operands.{operand-numbers}
-use Rattle.rules.proofs.AnswerLaws.{Bare, answered-told, answer-refuses, answer-accepts, nothing-done}
-use Rattle.rules.proofs.Writes.{bitAt, row, Writes, writes, in-both}
+use Rattle.rules.proofs.AnswerLaws.{Bare, answer-refuses, answer-accepts, nothing-done}
+use Rattle.rules.proofs.Writes.{row, Writes, writes}
 use Rattle.rules.proofs.ComposeLaws.{both-met}
 use Rattle.rules.proofs.Compositions.{OperandRefuses, both-refuses, both-numbered}
 
@@ -84,8 +83,7 @@ module _ (s k : Operand) where
       let p = parts-refuses (lengthsChecks s k) rest x in
       let seven = line-refuses (ℕ-discrete (lengthOf (k .form)) (lengthOf (s .form))) 7 0 x in
       let lines = then-refuses (insideChecks s k) (decLe (wordsFor (countOf s)) room) 8 0 x in
-      let seventeen = line-refuses (ℕ-discrete (count (strays s k)) 0) 17 0 x in
-      (
+      let seventeen = line-refuses (ℕ-discrete (count (strays s k)) 0) 17 0 x in (
         λ h. on (p .0 h) (λ a. inl (seven .0 a)) (λ b. inr (b .0 .0, on (lines .0 (b .1)) (λ c. inl (seventeen .0 c)) (λ d. inr (d .0 .0, d .1, d .2)))),
         λ w. p .1 (on w (λ a. inl (seven .1 a)) (λ b. inr ((b .0, tt), lines .1 (on (b .1) (λ c. inl (seventeen .1 c)) (λ d. inr ((d .0, tt), d .1, d .2)))))),
       )

@@ -72,18 +72,20 @@ take-over : (xs ys : List Bool) → length ys ≤ length xs → take (length ys)
 take-over xs ys h = rw (splice-eq 0 xs ys (omega arith)) (take-at ys (drop (0 + length ys) xs) (length ys) refl)
 
 drop-over : (xs ys : List Bool) → length ys ≤ length xs → drop (length ys) (splice 0 xs ys) ≡ drop (length ys) xs
-drop-over xs ys h = rw (splice-eq 0 xs ys (omega arith)) (drop-at ys (drop (0 + length ys) xs) (length ys) refl ∙ ap (λ (n : ℕ). drop n xs) (zero-add (length ys)))
+drop-over xs ys h =
+    rw (splice-eq 0 xs ys (omega arith))
+    (drop-at ys (drop (0 + length ys) xs) (length ys) refl ∙ ap (λ (n : ℕ). drop n xs) (zero-add (length ys)))
 
 -- n rows laid from bit 0 on are those that are written at once, and no other bit changed
-module _ (n : ℕ) (rows : List Bool) (out left : List ℕ) (long : length rows ≡ n) (fits : n ≤ length out * 64) (bits : bitsOfAll 64 left ≡ splice 0 (bitsOfAll 64 out) rows) where
+module _ (n : ℕ) (rows : List Bool) (out left : List ℕ) (long : length rows ≡ n) (fits : n ≤ length out * 64) where
   short : length rows ≤ length (bitsOfAll 64 out)
   short = omega (arith, long, fits, bitsOfAll-length 64 out)
 
-  pub laid-rows : take n (bitsOfAll 64 left) ≡ take n (bitsOfAll 64 (written n rows out))
-  laid-rows = rw (bits, written-rows n rows out long, ← long) (take-over (bitsOfAll 64 out) rows short)
+  pub laid-rows : bitsOfAll 64 left ≡ splice 0 (bitsOfAll 64 out) rows → take n (bitsOfAll 64 left) ≡ take n (bitsOfAll 64 (written n rows out))
+  laid-rows bits = rw (bits, written-rows n rows out long, ← long) (take-over (bitsOfAll 64 out) rows short)
 
-  pub laid-others : drop n (bitsOfAll 64 left) ≡ drop n (bitsOfAll 64 out)
-  laid-others = rw (bits, ← long) (drop-over (bitsOfAll 64 out) rows short)
+  pub laid-others : bitsOfAll 64 left ≡ splice 0 (bitsOfAll 64 out) rows → drop n (bitsOfAll 64 left) ≡ drop n (bitsOfAll 64 out)
+  laid-others bits = rw (bits, ← long) (drop-over (bitsOfAll 64 out) rows short)
 
 -- ---- the composer's feed
 
