@@ -27,7 +27,7 @@ use Rattle.rules.specs.Demand3.{once, onceOut, Pieces, joined, AllAccept
 use Rattle.rules.proofs.OperandLaws.{accepted-length, accepted-count, in-words-rows, in-words-accepted}
 use Rattle.rules.proofs.Compositions.{compose-fine, composed-accepts}
 use Rattle.rules.proofs.Feeds.{feed-fine, feed-takes}
-use Rattle.rules.proofs.StreamLaws.{laid-then, laid-rows, laid-others, Within, Accepts, self-length, self-limit, rank-length, kept-length, moved-within, refused-number}
+use Rattle.rules.proofs.StreamLaws.{laid-then, laid-within, laid-past, Within, Accepts, self-length, self-limit, rank-length, kept-length, moved-within, refused-number}
 
 abbrev selves : List Pair → List Bool
 selves ps = joined (λ p. p .self) ps
@@ -115,8 +115,8 @@ whole w out t ws wr q =
     let lk : length (kept w) ≡ long w = kept-length w m in
     record {
       accepted = ap (λ (a : Answer). a .refusal .number) (d .0);
-      rows = rw (d .1) (laid-rows (long w) (kept w) out (t .out) lk fits (q .bits));
-      others = laid-others (long w) (kept w) out (t .out) lk fits (q .bits);
+      rows = rw (d .1) (laid-within (long w) (kept w) out (t .out) lk fits (q .bits));
+      others = laid-past (long w) (kept w) out (t .out) lk fits (q .bits);
       counts = q .counts ∙ sym n;
       state = q .state ∙ rw (n, ls) (simp zero-add);
     }

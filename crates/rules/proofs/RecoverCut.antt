@@ -26,7 +26,7 @@ use Rattle.rules.specs.RecoverStream.{Masks, masksOf, long, set, ranks, 
 use Rattle.rules.specs.Demand3.{joined, AllAccepted, taken, summed}
 use Rattle.rules.specs.RecoverCut.{once, onceOut, Pieces, Whole, Forward, Converse, ConverseInWords}
 use Rattle.rules.proofs.OperandLaws.{accepted-length, accepted-count, accepted-limit, in-words-rows, in-words-accepted}
-use Rattle.rules.proofs.StreamLaws.{laid-then, laid-rows, laid-others}
+use Rattle.rules.proofs.StreamLaws.{laid-then, laid-within, laid-past}
 use Rattle.rules.proofs.Recoveries.{lengths-same, recover-fine, recovered-accepts}
 use Rattle.rules.proofs.RecoverFeeds.{Bounded, Accepts, self-length, self-count, ranks-length, moved-bounded, refused-number, feed-fine}
 
@@ -130,8 +130,8 @@ whole w out t ws wk q =
     let lr : length (ranks w) ≡ set w = ranks-length w m in
     record {
       accepted = ap (λ (a : Answer). a .refusal .number) (d .0);
-      ranks = rw (d .1) (laid-rows (set w) (ranks w) out (t .out) lr fits (q .bits));
-      others = laid-others (set w) (ranks w) out (t .out) lr fits (q .bits);
+      ranks = rw (d .1) (laid-within (set w) (ranks w) out (t .out) lr fits (q .bits));
+      others = laid-past (set w) (ranks w) out (t .out) lr fits (q .bits);
       counts = q .counts ∙ sym n;
       state = q .state ∙ rw (n, ls) (simp zero-add);
     }

@@ -43,6 +43,10 @@ use Rattle.rules.proofs.Recoveries.{recovery-length, recovery-count, to
 abbrev pub Bounded : RecoveryState → Type 0
 Bounded st = (st .kept ≤ st .ranks .0) × (st .ranks .0 ≤ st .done .0) × (st .done .0 ≤ limit)
 
+-- the rows of a second mask's piece that lie outside self's
+abbrev pub away : Masks → List Bool
+away m = strays (m .self) (m .kept)
+
 -- what a feed that is accepted needs
 pub record Accepts (st : RecoveryState) (m : Masks) (room : ℕ) : Type 0 where
   pub bounded : Bounded st
@@ -79,10 +83,6 @@ module _ (st : RecoveryState) (m : Masks) where
   abbrev both : List Line
   both = bothChecks (m .self) (m .kept)
 
-  -- the piece's rows outside self
-  abbrev pub away : List Bool
-  away = strays (m .self) (m .kept)
-
   -- the lines after the operands'
   abbrev later : ℕ → List (List Line)
   later room =
@@ -98,8 +98,8 @@ module _ (st : RecoveryState) (m : Masks) where
   PieceRefuses room x =
       ((x ≡ refusal 7 0) × (lengthOf (m .kept .form) ≢ long m))
       ⊎ ((x ≡ refusal 11 0) × (lengthOf (m .kept .form) ≡ long m) × (limit < st .done .0 + long m))
-      ⊎ ((x ≡ refusal 17 0) × (lengthOf (m .kept .form) ≡ long m) × (st .done .0 + long m ≤ limit) × (count away ≢ 0))
-      ⊎ ((x ≡ refusal 8 0) × (lengthOf (m .kept .form) ≡ long m) × (st .done .0 + long m ≤ limit) × (count away ≡ 0) × (room < wordsFor (st .ranks .0 + set m)))
+      ⊎ ((x ≡ refusal 17 0) × (lengthOf (m .kept .form) ≡ long m) × (st .done .0 + long m ≤ limit) × (count (away m) ≢ 0))
+      ⊎ ((x ≡ refusal 8 0) × (lengthOf (m .kept .form) ≡ long m) × (st .done .0 + long m ≤ limit) × (count (away m) ≡ 0) × (room < wordsFor (st .ranks .0 + set m)))
 
   abbrev pub Refuses : ℕ → Refusal → Type 0
   Refuses room x =
@@ -230,24 +230,24 @@ module _ (st : RecoveryState) (m : Masks) where
     -- ---- the row told, counted in the piece: with 17 it is in the second mask and not in self, and no earlier row is; else it is 0
 
     -- 17 is told where a row lies outside, and nowhere else
-    seventeen : (x : Refusal) → x .number ≡ 17 → Refuses (length out) x → 0 < count away
+    seventeen : (x : Refusal) → x .number ≡ 17 → Refuses (length out) x → 0 < count (away m)
     seventeen x e (inl t) = absurd (omega (arith, e, number (t .0)))
     seventeen x e (inr (inl (b, inl w))) = absurd (omega (arith, e, operand-numbers 1 (m .self) x w))
     seventeen x e (inr (inl (b, inr (s, w)))) = absurd (omega (arith, e, operand-numbers 2 (m .kept) x w))
     seventeen x e (inr (inr (b, s, k, inl t))) = absurd (omega (arith, e, number (t .0)))
     seventeen x e (inr (inr (b, s, k, inr (inl t)))) = absurd (omega (arith, e, number (t .0)))
-    seventeen x e (inr (inr (b, s, k, inr (inr (inl (f, l, d, h)))))) = some (count away) h
+    seventeen x e (inr (inr (b, s, k, inr (inr (inl (f, l, d, h)))))) = some (count (away m)) h
     seventeen x e (inr (inr (b, s, k, inr (inr (inr t))))) = absurd (omega (arith, e, number (t .0)))
 
     pub fed-outside-first : fed st m out .answer .refusal .number ≡ 17 → FirstOutside (rowsOf (m .self)) (rowsOf (m .kept)) (fed st m out .outside .0)
     fed-outside-first e =
-        let told = told-first (judged st m (length out)) (ranks m) noRoute away e in
+        let told = told-first (judged st m (length out)) (ranks m) noRoute (away m) e in
         let x = fed st m out .answer .refusal in
         let found = seventeen x e (fed-refuses out x (omega (arith, e)) .0 refl) in
         subst (FirstOutside (rowsOf (m .self)) (rowsOf (m .kept))) (sym told) (first-outside (rowsOf (m .self)) (rowsOf (m .kept)) found)
 
     pub fed-outside-else : fed st m out .answer .refusal .number ≢ 17 → fed st m out .outside .0 ≡ 0
-    fed-outside-else = told-else (judged st m (length out)) (ranks m) noRoute away
+    fed-outside-else = told-else (judged st m (length out)) (ranks m) noRoute (away m)
 
 -- what an accepted feed leaves: from the state's ranks on a bit for each of the piece's set rows, the r-th as the r-th of them is kept, and no other
 -- bit written; the second mask's count, route 0 and the density told; and all three numbers added to

@@ -1,5 +1,5 @@
 -- A feed's table, met and not met: what is known of the state and of the pair where every need is met, the verdict part by part, and
--- the state moved; and what serves any stream: refusal 10's bound, and rows laid one after the other on one output. By the laws of tables, of an
+-- the state moved; and what serves any stream: refusal 10's bound, and bits laid one after the other on one output. By the laws of tables, of an
 -- accepted operand, of `compose` and of `laid`. Assumes nothing.
 use Prim.Native.Nat.{ℕ, _+_, _*_, _≤_}
 use native.Mathlib.Nat.{zero-add}
@@ -58,7 +58,7 @@ module _ (kept ranks done : ℕ) where
       from (yes a) (no b) e h = inl (a, inr (b, ap Refused e))
       from (no a) d e h = inr (a, ap Refused e)
 
--- ---- rows laid one after the other on one output
+-- ---- bits laid one after the other on one output
 
 -- a piece laid, and what comes after it where the piece ends, are the two joined
 pub laid-then : (at n : ℕ) (xs ys : List Bool) (out left : List ℕ) → length xs ≡ n
@@ -76,16 +76,16 @@ drop-over xs ys h =
     rw (splice-eq 0 xs ys (omega arith))
     (drop-at ys (drop (0 + length ys) xs) (length ys) refl ∙ ap (λ (n : ℕ). drop n xs) (zero-add (length ys)))
 
--- n rows laid from bit 0 on are those that are written at once, and no other bit changed
-module _ (n : ℕ) (rows : List Bool) (out left : List ℕ) (long : length rows ≡ n) (fits : n ≤ length out * 64) where
-  short : length rows ≤ length (bitsOfAll 64 out)
+-- n bits laid from bit 0 on are those that are written at once, and no other bit changed
+module _ (n : ℕ) (bs : List Bool) (out left : List ℕ) (long : length bs ≡ n) (fits : n ≤ length out * 64) where
+  short : length bs ≤ length (bitsOfAll 64 out)
   short = omega (arith, long, fits, bitsOfAll-length 64 out)
 
-  pub laid-rows : bitsOfAll 64 left ≡ splice 0 (bitsOfAll 64 out) rows → take n (bitsOfAll 64 left) ≡ take n (bitsOfAll 64 (written n rows out))
-  laid-rows bits = rw (bits, written-rows n rows out long, ← long) (take-over (bitsOfAll 64 out) rows short)
+  pub laid-within : bitsOfAll 64 left ≡ splice 0 (bitsOfAll 64 out) bs → take n (bitsOfAll 64 left) ≡ take n (bitsOfAll 64 (written n bs out))
+  laid-within e = rw (e, written-rows n bs out long, ← long) (take-over (bitsOfAll 64 out) bs short)
 
-  pub laid-others : bitsOfAll 64 left ≡ splice 0 (bitsOfAll 64 out) rows → drop n (bitsOfAll 64 left) ≡ drop n (bitsOfAll 64 out)
-  laid-others bits = rw (bits, ← long) (drop-over (bitsOfAll 64 out) rows short)
+  pub laid-past : bitsOfAll 64 left ≡ splice 0 (bitsOfAll 64 out) bs → drop n (bitsOfAll 64 left) ≡ drop n (bitsOfAll 64 out)
+  laid-past e = rw (e, ← long) (drop-over (bitsOfAll 64 out) bs short)
 
 -- ---- the composer's feed
 
