@@ -11,7 +11,7 @@ use Rattle.rows.specs.declared.Refusal.{Refusal}
 use Rattle.rows.specs.declared.Verdict.{Verdict}
 use Rattle.rows.specs.declared.Verdict.the-variants.{Fine, Refused}
 use Rattle.rows.specs.Table.{Line, First, Met, Numbered, first, told, ifFine}
-use Rattle.rows.proofs.TableLaws.{told-exactly, accepts-exactly}
+use Rattle.rows.proofs.TableLaws.{never, fine-exactly, told-exactly, accepts-exactly}
 use Rattle.rules.specs.declared.Answer.{Answer}
 use Rattle.rules.specs.Operand.{Operand, rowsOf, lengthOf, countOf, Accepted}
 use Rattle.rules.specs.Answer.{noDensity, accepted, refused, answered}
@@ -38,6 +38,12 @@ module _ (ls : List Line) (rows : List Bool) (route : ℕ) where
       let t = accepts-exactly ls n in
       let q = ap (λ (x : Refusal). x .number) (answered-told (first ls) rows route) in
       (λ e. t .0 (sym q ∙ e), λ m. q ∙ t .1 m)
+
+-- a table whose lines tell no number 0 refuses with none
+pub refuses-numbered : (ls : List Line) → Numbered ls → (x : Refusal) → first ls ≡ Refused x → x .number ≢ 0
+refuses-numbered ls n x e h =
+    let m = accepts-exactly ls n .0 (ap (λ (v : Verdict). told v .number) e ∙ h) in
+    never (sym e ∙ fine-exactly ls .1 m)
 
 -- a refusal changes nothing, and reports nothing
 pub nothing-done : {X : Type 0} (v : Verdict) (rows : List Bool) (route : ℕ) (to from : X) → answered v rows route .refusal .number ≢ 0 → (ifFine v to from ≡ from) × Bare (answered v rows route)

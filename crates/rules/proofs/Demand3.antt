@@ -3,11 +3,10 @@
 use Prim.Native.Nat.{ℕ, zero, suc, _+_, _*_, _≤_}
 use native.Mathlib.Nat.{zero-add, add-zero, add-assoc}
 use native.Mathlib.Omega.{arith}
-use mathlib.Core.Path.{_≡_, refl, sym, ap, ap₂, subst, _∙_}
+use mathlib.Core.Path.{_≡_, refl, sym, ap, subst, _∙_}
 use mathlib.Core.Bool.{Bool}
 use mathlib.Core.List.{List, [], _∷_, _++_}
-use lib.ListN.{length, take, drop, length-append}
-use lib.Seq.{take-at, drop-at}
+use lib.ListN.{length, length-append}
 use Rattle.rows.specs.declared.Verdict.{Verdict}
 use Rattle.rows.specs.declared.Verdict.the-variants.{Fine, Refused}
 use Rattle.rows.specs.Rows.{count, compose, splice}
@@ -15,10 +14,8 @@ use Rattle.rows.specs.Words.{bitsOfAll}
 use Rattle.rows.specs.Laid.{wordsFor, laid, written}
 use Rattle.rows.specs.Table.{first}
 use Rattle.rows.proofs.RowLaws.{compose-length, compose-append, count-append, count-le-length}
-use Rattle.rows.proofs.SpliceLaws.{splice-nil, splice-append, splice-eq}
-use Rattle.rows.proofs.WordsLaws.{bitsOfAll-length}
-use Rattle.rows.proofs.LaidLaws.{laid-bits, laid-length}
-use Rattle.rows.proofs.WrittenLaws.{written-rows}
+use Rattle.rows.proofs.SpliceLaws.{splice-nil}
+use Rattle.rows.proofs.LaidLaws.{laid-length}
 use Rattle.rules.specs.declared.Answer.{Answer}
 use Rattle.rules.specs.declared.State.{State}
 use Rattle.rules.specs.Operand.{limit, inWords, rowsOf, lengthOf, Accepted}
@@ -30,7 +27,7 @@ use Rattle.rules.specs.Demand3.{once, onceOut, Pieces, joined, AllAccept
 use Rattle.rules.proofs.OperandLaws.{accepted-length, accepted-count, in-words-rows, in-words-accepted}
 use Rattle.rules.proofs.Compositions.{compose-fine, composed-accepts}
 use Rattle.rules.proofs.Feeds.{feed-fine, feed-takes}
-use Rattle.rules.proofs.StreamLaws.{Within, Accepts, self-length, self-limit, rank-length, kept-length, moved-within, refused-number}
+use Rattle.rules.proofs.StreamLaws.{laid-then, laid-within, laid-past, Within, Accepts, self-length, self-limit, rank-length, kept-length, moved-within, refused-number}
 
 abbrev selves : List Pair → List Bool
 selves ps = joined (λ p. p .self) ps
@@ -70,9 +67,7 @@ step st p out ps Fine e ih =
     record {
       matched = omega (arith, length-append (rowsOf (p .rank)) R, set, rank-length p (a .matched), q .matched);
       bits =
-          q .bits
-          ∙ ap₂ (λ (n : ℕ) (l : List Bool). splice (st .done .0 + n) l (compose S R)) (sym (compose-length (rowsOf (p .self)) (rowsOf (p .rank)))) (laid-bits 64 (st .done .0) (kept p) out)
-          ∙ splice-append (st .done .0) (bitsOfAll 64 out) (kept p) (compose S R)
+          laid-then (st .done .0) (length (rowsOf (p .self))) (kept p) (compose S R) out (t .out) (compose-length (rowsOf (p .self)) (rowsOf (p .rank))) (q .bits)
           ∙ ap (splice (st .done .0) (bitsOfAll 64 out)) (sym join);
       counts = rw (join, count-append (kept p) (compose S R)) (ap (λ (n : ℕ). count (kept p) + n) (q .counts));
       state = q .state ∙ rw (join, count-append (kept p) (compose S R), more, set) (simp add-assoc);
@@ -101,12 +96,6 @@ ran (p ∷ ps) st out = step st p out ps (judged st p (length out)) refl (ran ps
 
 -- ---- from the fresh state
 
-take-over : (xs ys : List Bool) → length ys ≤ length xs → take (length ys) (splice 0 xs ys) ≡ ys
-take-over xs ys h = rw (splice-eq 0 xs ys (omega arith)) (take-at ys (drop (0 + length ys) xs) (length ys) refl)
-
-drop-over : (xs ys : List Bool) → length ys ≤ length xs → drop (length ys) (splice 0 xs ys) ≡ drop (length ys) xs
-drop-over xs ys h = rw (splice-eq 0 xs ys (omega arith)) (drop-at ys (drop (0 + length ys) xs) (length ys) refl ∙ ap (λ (n : ℕ). drop n xs) (zero-add (length ys)))
-
 -- the whole, where it is accepted
 answers : (w : Pair) (out : List ℕ) → first (composeChecks (w .self) (w .rank) (length out)) ≡ Fine
     → (once w out ≡ answered Fine (kept w) (routed published (w .self) (w .rank))) × (onceOut w out ≡ written (long w) (kept w) out)
@@ -124,11 +113,10 @@ whole w out t ws wr q =
     let d = answers w out f in
     let n : once w out .summary .count ≡ count (kept w) = ap (λ (a : Answer). a .summary .count) (d .0) in
     let lk : length (kept w) ≡ long w = kept-length w m in
-    let short : length (kept w) ≤ length (bitsOfAll 64 out) = omega (arith, lk, fits, bitsOfAll-length 64 out) in
     record {
       accepted = ap (λ (a : Answer). a .refusal .number) (d .0);
-      rows = rw (q .bits, d .1, written-rows (long w) (kept w) out lk, ← lk) (take-over (bitsOfAll 64 out) (kept w) short);
-      others = rw (q .bits, ← lk) (drop-over (bitsOfAll 64 out) (kept w) short);
+      rows = rw (d .1) (laid-within (long w) (kept w) out (t .out) lk fits (q .bits));
+      others = laid-past (long w) (kept w) out (t .out) lk fits (q .bits);
       counts = q .counts ∙ sym n;
       state = q .state ∙ rw (n, ls) (simp zero-add);
     }

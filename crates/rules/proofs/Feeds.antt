@@ -33,7 +33,7 @@ use Rattle.rules.proofs.AnswerLaws.{Bare, answer-refuses, nothing-done}
 use Rattle.rules.proofs.Writes.{bitAt, row}
 use Rattle.rules.proofs.ComposeLaws.{both-met}
 use Rattle.rules.proofs.Compositions.{OperandRefuses, both-refuses}
-use Rattle.rules.proofs.StreamLaws.{Within, Accepts, refused-number, self-length, kept-length, moved-within}
+use Rattle.rules.proofs.StreamLaws.{bound-met, bound-refuses, Within, Accepts, refused-number, self-length, kept-length, moved-within}
 
 module _ (st : State) (p : Pair) where
   abbrev both : List Line
@@ -60,21 +60,10 @@ module _ (st : State) (p : Pair) where
       ⊎ (Within st × Accepted (p .self) × Accepted (p .rank) × LengthRefuses room x)
 
   within-met : Met (stateChecks st) ↔ Within st
-  within-met = (λ m. (m .0, m .1 .0, m .1 .1 .0), λ w. (w .0, (w .1, (w .2, tt))))
+  within-met = bound-met (st .kept) (st .ranks .0) (st .done .0)
 
   state-refuses : (x : Refusal) → First (stateChecks st) (Refused x) ↔ ((x ≡ refusal 10 0) × (¬ Within st))
-  state-refuses x = (to, λ t. from (decLe (st .kept) (st .ranks .0)) (decLe (st .ranks .0) (st .done .0)) (t .0) (t .1))
-    where
-      to : First (stateChecks st) (Refused x) → (x ≡ refusal 10 0) × (¬ Within st)
-      to (inr (a, e)) = (same-refusal e, λ w. a (w .0))
-      to (inl (a, inr (b, e))) = (same-refusal e, λ w. b (w .1))
-      to (inl (a, inl (b, inr (c, e)))) = (same-refusal e, λ w. c (w .2))
-      to (inl (a, inl (b, inl (c, e)))) = never e
-
-      from : Dec (st .kept ≤ st .ranks .0) → Dec (st .ranks .0 ≤ st .done .0) → x ≡ refusal 10 0 → (¬ Within st) → First (stateChecks st) (Refused x)
-      from (yes a) (yes b) e h = inl (a, inl (b, inr (λ c. h (a, b, c), ap Refused e)))
-      from (yes a) (no b) e h = inl (a, inr (b, ap Refused e))
-      from (no a) d e h = inr (a, ap Refused e)
+  state-refuses = bound-refuses (st .kept) (st .ranks .0) (st .done .0)
 
   length-refuses : (room : ℕ) (x : Refusal) → First (lengths room) (Refused x) ↔ LengthRefuses room x
   length-refuses room x = (to, from)

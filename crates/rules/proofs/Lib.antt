@@ -17,6 +17,8 @@ pub mod Recoveries
 pub mod ThereAndBack
 pub mod Feeds
 pub mod Demand3
+pub mod RecoverFeeds
+pub mod RecoverCut
 pub mod OperandExamples
 pub mod RouteExamples
 pub mod WordExamples

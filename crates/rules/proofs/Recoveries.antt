@@ -4,11 +4,11 @@
 use Prim.Native.Nat.{ℕ, zero, suc, _≤_, _<_}
 use mathlib.Core.Path.{_≡_, refl, sym, ap, subst, _∙_}
 use mathlib.Core.Logic.{_↔_, _≢_, _⊎_, inl, inr}
-use mathlib.Core.Bool.{Bool, true, false, not, _&&_}
+use mathlib.Core.Bool.{Bool}
 use mathlib.Core.List.{List, [], _∷_}
 use native.Mathlib.Decide.{ℕ-discrete, decLe}
 use native.Mathlib.Omega.{arith}
-use lib.ListN.{length, getD}
+use lib.ListN.{length}
 use Rattle.rows.specs.declared.Refusal.{Refusal}
 use Rattle.rows.specs.declared.Verdict.{Verdict}
 use Rattle.rows.specs.declared.Verdict.the-variants.{Fine, Refused}
@@ -18,17 +18,33 @@ use Rattle.rows.specs.Laid.{wordsFor}
 use Rattle.rows.specs.Table.{Line, First, Met, Numbered, first, inOrder, refusal}
 use Rattle.rows.proofs.TableLaws.{fine-exactly, parts-met, none-met, parts-refuses, then-refuses, line-refuses, parts-numbered, none-numbered, chosen, passed-over}
 use Rattle.rows.proofs.RecoverLaws.{recover-length, recover-rank, recover-count, FirstOutside, first-outside}
-use Rattle.rules.specs.declared.Recovered.{Recovered}
 use Rattle.rules.specs.Answer.{answered}
 use Rattle.rules.specs.Operand.{Operand, rowsOf, lengthOf, countOf, Accepted}
 use Rattle.rules.specs.Compose.{bothChecks}
 use Rattle.rules.specs.Recover.{strays, Within, lengthsChecks, insideChecks, roomChecks, recoverChecks, recovery, rowTold, recovered, recoveredOut}
 use Rattle.rules.proofs.OperandLaws.{accepted-length, accepted-count}
 use Rattle.rules.proofs.Operands.{operand-numbers}
-use Rattle.rules.proofs.AnswerLaws.{Bare, answered-told, answer-refuses, answer-accepts, nothing-done}
-use Rattle.rules.proofs.Writes.{bitAt, row, Writes, writes, in-both}
+use Rattle.rules.proofs.AnswerLaws.{Bare, answer-refuses, answer-accepts, nothing-done}
+use Rattle.rules.proofs.Writes.{row, Writes, writes}
 use Rattle.rules.proofs.ComposeLaws.{both-met}
 use Rattle.rules.proofs.Compositions.{OperandRefuses, both-refuses, both-numbered}
+
+-- ---- the row told, by the verdict: the first of those outside self with 17, else 0
+
+pub told-first : (v : Verdict) (rows : List Bool) (route : ℕ) (away : List Bool) → answered v rows route .refusal .number ≡ 17 → rowTold v away ≡ select away 0
+told-first Fine rows route away e = absurd (omega arith)
+told-first (Refused x) rows route away e = chosen (ℕ-discrete (x .number) 17) _ 0 e
+
+pub told-else : (v : Verdict) (rows : List Bool) (route : ℕ) (away : List Bool) → answered v rows route .refusal .number ≢ 17 → rowTold v away ≡ 0
+told-else Fine rows route away h = refl
+told-else (Refused x) rows route away h = passed-over (ℕ-discrete (x .number) 17) _ 0 h
+
+pub number : {x y : Refusal} → x ≡ y → x .number ≡ y .number
+number e = ap (λ (x : Refusal). x .number) e
+
+pub some : (n : ℕ) → n ≢ 0 → 0 < n
+some zero h = absurd (h refl)
+some (suc n) h = omega arith
 
 module _ (s k : Operand) where
   -- ---- the two operands where their needs are met
@@ -67,8 +83,7 @@ module _ (s k : Operand) where
       let p = parts-refuses (lengthsChecks s k) rest x in
       let seven = line-refuses (ℕ-discrete (lengthOf (k .form)) (lengthOf (s .form))) 7 0 x in
       let lines = then-refuses (insideChecks s k) (decLe (wordsFor (countOf s)) room) 8 0 x in
-      let seventeen = line-refuses (ℕ-discrete (count (strays s k)) 0) 17 0 x in
-      (
+      let seventeen = line-refuses (ℕ-discrete (count (strays s k)) 0) 17 0 x in (
         λ h. on (p .0 h) (λ a. inl (seven .0 a)) (λ b. inr (b .0 .0, on (lines .0 (b .1)) (λ c. inl (seventeen .0 c)) (λ d. inr (d .0 .0, d .1, d .2)))),
         λ w. p .1 (on w (λ a. inl (seven .1 a)) (λ b. inr ((b .0, tt), lines .1 (on (b .1) (λ c. inl (seventeen .1 c)) (λ d. inr ((d .0, tt), d .1, d .2)))))),
       )
@@ -166,20 +181,9 @@ module _ (s k : Operand) where
 
     -- ---- the row told: with 17 it is in the second mask and not in self, and no earlier row is; else it is 0
 
-    told-else : (v : Verdict) (rows : List Bool) (route : ℕ) → answered v rows route .refusal .number ≢ 17 → rowTold v (strays s k) ≡ 0
-    told-else Fine rows route h = refl
-    told-else (Refused x) rows route h = passed-over (ℕ-discrete (x .number) 17) _ 0 h
-
     pub outside-else : recovered s k out .answer .refusal .number ≢ 17 → recovered s k out .outside .0 ≡ 0
     unfolding recovered
-    outside-else = told-else (first (recoverChecks s k (length out))) _ _
-
-    told-first : (v : Verdict) (rows : List Bool) (route : ℕ) → answered v rows route .refusal .number ≡ 17 → rowTold v (strays s k) ≡ select (strays s k) 0
-    told-first Fine rows route e = absurd (omega arith)
-    told-first (Refused x) rows route e = chosen (ℕ-discrete (x .number) 17) _ 0 e
-
-    number : {x y : Refusal} → x ≡ y → x .number ≡ y .number
-    number e = ap (λ (x : Refusal). x .number) e
+    outside-else = told-else (first (recoverChecks s k (length out))) _ _ (strays s k)
 
     -- 17 is told where a row lies outside, and nowhere else
     seventeen : Refuses (length out) (refusal 17 0) → 0 < count (strays s k)
@@ -187,15 +191,11 @@ module _ (s k : Operand) where
     seventeen (inl (inr (t, w))) = absurd (omega (arith, operand-numbers 2 k (refusal 17 0) w))
     seventeen (inr (inl t)) = absurd (omega (arith, number (t .0)))
     seventeen (inr (inr (inl (e, t, u, l, d)))) = some (count (strays s k)) d
-      where
-        some : (n : ℕ) → n ≢ 0 → 0 < n
-        some zero h = absurd (h refl)
-        some (suc n) h = omega arith
     seventeen (inr (inr (inr t))) = absurd (omega (arith, number (t .0)))
 
     outside-told : recovered s k out .answer .refusal .number ≡ 17 → recovered s k out .outside .0 ≡ select (strays s k) 0
     unfolding recovered
-    outside-told = told-first (first (recoverChecks s k (length out))) _ _
+    outside-told = told-first (first (recoverChecks s k (length out))) _ _ (strays s k)
 
     pub outside-first : recovered s k out .answer .refusal ≡ refusal 17 0 → FirstOutside (rowsOf s) (rowsOf k) (recovered s k out .outside .0)
     outside-first e =
