@@ -5,7 +5,10 @@ pub mod Examples
 pub mod Once
 pub mod OnceInner
 pub mod OnceRecords
+pub mod OnceRecovery
 pub mod Program
+pub mod Recovery
+pub mod RecoveryStreams
 pub mod SetOperations
 pub mod Streams
 pub mod TwoWays
