@@ -113,13 +113,13 @@ module _ (s : List Bool) (runs : List ℕ) (len at : ℕ) where
       pub filling-room : (set : ℕ) → set ≡ count (take (first - row) (drop row s)) → rank + set + (past - first) ≤ count s
       filling-room set e = omega (arith, e, both, recovering-room s k at same row rank out₀ out (f .recovering) (past - row))
 
-      pub filling-run : (set : ℕ) (then : List ℕ) → set ≡ count (take (first - row) (drop row s))
-          → then ≡ laid (at + rank) (replicate set false ++ replicate (past - first) true) out → Filling past (i + 2) (rank + set + (past - first)) out₀ then
-      filling-run set then e t =
+      pub filling-run : (set below : ℕ) (then : List ℕ) → set ≡ count (take (first - row) (drop row s)) → below ≡ rank + set + (past - first)
+          → then ≡ laid (at + rank) (replicate set false ++ replicate (past - first) true) out → Filling past (i + 2) below out₀ then
+      filling-run set below then e b t =
           let r = filling-next h in
           let place : row + (past - row) ≡ past = omega (arith, r .from, r .some) in
-          let more : Recovering s k at (row + (past - row)) (rank + set + (past - first)) out₀ then =
-          recovering-chunk s k at same row rank out₀ out (f .recovering) (past - row) (rank + set + (past - first)) then (omega (arith, both, e))
+          let more : Recovering s k at (row + (past - row)) below out₀ then =
+          recovering-chunk s k at same row rank out₀ out (f .recovering) (past - row) below then (omega (arith, both, e, b))
           (t ∙ ap (λ (n : ℕ). laid (at + rank) (replicate n false ++ replicate (past - first) true) out) e
           ∙ ap (λ (l : List Bool). laid (at + rank) l out) (sym part)) in
           record { passed = passed-run len runs row i (f .passed) h; recovering = rw place at more }

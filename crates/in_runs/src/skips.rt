@@ -1,7 +1,8 @@
 // The rows before the next run, passed over: how many of them self has set, whatever its form is. A walk over its numbers goes on from run to run, so
 // that each is looked at once, or once more where the rows end in a run of self.
 ghost use mathlib.Core.Path.{_≡_};
-ghost use Prim.Native.Nat.{_+_, _-_, _^_, _≤_, _<_};
+ghost use mathlib.Core.Bool.{true};
+ghost use Prim.Native.Nat.{_+_, _^_, _≤_, _<_};
 ghost use lib.ListN.{length, take, drop};
 ghost use denote.Ref.{now};
 ghost use Rattle.rows.specs.Rows.{count};
@@ -104,7 +105,7 @@ pub fn skip_rows(
 
 // Where the walk has come to behind n rows more that are all set. A list has an entry for each; of runs the one that it is at has them, and it stays.
 pub fn skip_set(form: Form, next: usize, n: u64) -> usize
-    requires { ⌜ next + n < 2 ^ 64 ⌝ }
+    requires { ⌜ (hasRowNumbers form ≡ true → next + n < 2 ^ 64) ⌝ }
     ensures { λ r. ⌜ r ≡ behind (hasRowNumbers form) next n ⌝ }
 {
     if has_row_numbers(form) {
