@@ -8,28 +8,31 @@ use mathlib.Core.Bool.{Bool, true, false}
 use mathlib.Core.List.{List, [], _∷_, _++_}
 use native.Mathlib.Omega.{arith}
 use lib.ListN.{length, take, drop, getD, replicate, length-take, length-drop, length-replicate, take-append-drop}
-use lib.Seq.{take-add, drop-drop}
-use Rattle.rows.specs.Rows.{count, rankAt, recover, outside}
+use Rattle.rows.specs.Rows.{count, recover, outside}
 use Rattle.rows.specs.Words.{Below}
 use Rattle.rows.specs.Runs.{held, inRuns, Apart}
 use Rattle.rows.specs.Laid.{laid}
-use Rattle.rows.proofs.RowLaws.{count-append, count-le-length}
+use Rattle.rows.proofs.RowLaws.{count-append}
 use Rattle.rows.proofs.ListLaws.{tab-length}
 use Rattle.rows.proofs.RunTurnLaws.{NextRun}
 use Rattle.rows.proofs.RecoverLaws.{recover-append, recover-none, recover-all, inside-append}
 use Rattle.rows.proofs.ProgressLaws.{progress-as, progress-last}
 use Rattle.extracts.proofs.ExtractLaws.{Recovering, recovering-none, recovering-chunk, recovering-room}
-use Rattle.in_runs.proofs.PassLaws.{Passed, passed-none, passed-next, passed-end, passed-gap, passed-held, passed-run}
+use Rattle.in_runs.proofs.PassLaws.{take-both, Passed, passed-none, passed-next, passed-end, passed-gap, passed-held, passed-run}
+
+-- the rows kept that are not in s, before a row and from it on
+inside-cut : (m : ℕ) (s k : List Bool) → length k ≡ length s
+    → count (outside s k) ≡ count (outside (take m s) (take m k)) + count (outside (drop m s) (drop m k))
+inside-cut m s k e =
+    ap₂ (λ (x y : List Bool). count (outside x y)) (sym (take-append-drop m s)) (sym (take-append-drop m k))
+    ∙ inside-append (take m s) (drop m s) (take m k) (drop m k) (omega (arith, length-take m s, length-take m k))
 
 -- where every row kept lies in s, so do those of a part
 inside-part : (s k : List Bool) (row n : ℕ) → length k ≡ length s → count (outside s k) ≡ 0
     → count (outside (take n (drop row s)) (take n (drop row k))) ≡ 0
 inside-part s k row n e i =
     let behind : length (drop row k) ≡ length (drop row s) = omega (arith, length-drop row k, length-drop row s) in
-    let from : (m : ℕ) (a b : List Bool) → length b ≡ length a → count (outside a b) ≡ count (outside (take m a) (take m b)) + count (outside (drop m a) (drop m b)) =
-    λ m a b q. ap₂ (λ (x y : List Bool). count (outside x y)) (sym (take-append-drop m a)) (sym (take-append-drop m b))
-    ∙ inside-append (take m a) (drop m a) (take m b) (drop m b) (omega (arith, length-take m a, length-take m b)) in
-    omega (arith, i, from row s k e, from n (drop row s) (drop row k) behind)
+    omega (arith, i, inside-cut row s k e, inside-cut n (drop row s) (drop row k) behind)
 
 -- and where all are kept, s is full
 all-inside : (s : List Bool) (n : ℕ) → length s ≡ n → count (outside s (replicate n true)) ≡ 0 → count s ≡ n
@@ -88,12 +91,7 @@ module _ (s : List Bool) (runs : List ℕ) (len at : ℕ) where
 
       -- both parts, of either mask
       cut : (l : List Bool) → take (past - row) (drop row l) ≡ take (first - row) (drop row l) ++ take (past - first) (drop first l)
-      cut l =
-          let r = filling-next h in
-          let parts : past - row ≡ (first - row) + (past - first) = omega (arith, r .from, r .some) in
-          let place : row + (first - row) ≡ first = omega (arith, r .from) in
-          ap (λ (n : ℕ). take n (drop row l)) parts ∙ take-add (first - row) (past - first) (drop row l)
-          ∙ ap (λ (m : List Bool). take (first - row) (drop row l) ++ take (past - first) m) (drop-drop (first - row) row l ∙ ap (λ (x : ℕ). drop x l) place)
+      cut l = take-both row first past l (filling-next h .from) (omega (arith, filling-next h .some))
 
       part : recover (take (past - row) (drop row s)) (take (past - row) (drop row k)) ≡ replicate (count gap) false ++ replicate (past - first) true
       part =
@@ -131,6 +129,7 @@ module _ (s : List Bool) (runs : List ℕ) (len at : ℕ) where
         let many : total - rank ≡ count (drop row s) = omega (arith, e, left) in
         let rest = recover (drop row s) (drop row k) in
         let none : rest ≡ replicate (total - rank) false =
-        ap (recover (drop row s)) (passed-end len runs row i (f .passed) h) ∙ recover-none (drop row s) (len - row) ∙ ap (λ (n : ℕ). replicate n false) (sym many) in
+        ap (recover (drop row s)) (passed-end len runs row i (f .passed) h) ∙ recover-none (drop row s) (len - row)
+        ∙ ap (λ (n : ℕ). replicate n false) (sym many) in
         progress-last (recover s k) (replicate (total - rank) false) at rank out₀ out then t
         (progress-as (recover s k) rest (replicate (total - rank) false) at rank out₀ out none (f .recovering .progress))

@@ -12,6 +12,15 @@ use Rattle.rows.specs.Runs.{inRuns, Apart}
 use Rattle.rows.proofs.RunLaws.{runRows, in-runs}
 use Rattle.rows.proofs.RunTurnLaws.{NextRun, next-run, rows-next, rows-none}
 
+-- the rows up to a run's last are those before it and its own
+pub take-both : (row first past : ℕ) (l : List Bool) → row ≤ first → first ≤ past
+    → take (past - row) (drop row l) ≡ take (first - row) (drop row l) ++ take (past - first) (drop first l)
+take-both row first past l h k =
+    let parts : past - row ≡ (first - row) + (past - first) = omega arith in
+    let place : row + (first - row) ≡ first = omega arith in
+    ap (λ (n : ℕ). take n (drop row l)) parts ∙ take-add (first - row) (past - first) (drop row l)
+    ∙ ap (λ (m : List Bool). take (first - row) (drop row l) ++ take (past - first) m) (drop-drop (first - row) row l ∙ ap (λ (x : ℕ). drop x l) place)
+
 module _ (len : ℕ) (runs : List ℕ) where
   abbrev rows : List Bool
   rows = inRuns len runs
@@ -74,11 +83,7 @@ module _ (len : ℕ) (runs : List ℕ) where
       pub passed-both : take (past - row) (drop row (inRuns len runs)) ≡ replicate (first - row) false ++ replicate (past - first) true
       passed-both =
           let r = passed-next h in
-          let parts : past - row ≡ (first - row) + (past - first) = omega (arith, r .from, r .some) in
-          let place : row + (first - row) ≡ first = omega (arith, r .from) in
-          ap (λ (n : ℕ). take n (drop row rows)) parts ∙ take-add (first - row) (past - first) (drop row rows)
-          ∙ ap₂ (λ (l m : List Bool). l ++ m) passed-gap
-          (ap (take (past - first)) (drop-drop (first - row) row rows ∙ ap (λ (k : ℕ). drop k rows) place) ∙ passed-held)
+          take-both row first past rows (r .from) (omega (arith, r .some)) ∙ ap₂ (λ (l m : List Bool). l ++ m) passed-gap passed-held
 
       pub passed-run : Passed past (i + 2)
       passed-run =

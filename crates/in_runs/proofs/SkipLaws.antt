@@ -2,7 +2,7 @@
 -- list is parted by a row at the row's rank, since its entries are the set rows. Assumes nothing.
 use Prim.Native.Nat.{ℕ, _+_, _-_, _≤_}
 use native.Mathlib.Nat.{zero-add}
-use mathlib.Core.Path.{_≡_, refl, sym, ap, ap₂, subst, _∙_}
+use mathlib.Core.Path.{_≡_, refl, sym, ap, subst, _∙_}
 use mathlib.Core.Bool.{Bool, true, false}
 use mathlib.Core.List.{List, _++_}
 use native.Mathlib.Omega.{arith}
@@ -92,7 +92,8 @@ module _ (o : Operand) (row n : ℕ) (h : row + n ≤ lengthOf (o .form)) where
   runs-skipped set next e c r =
       let f : ℕ → Bool = λ i. held i (o .numbers) in
       let part : take n (drop row (rowsOf o)) ≡ window row n (o .numbers) =
-      ap (λ (l : List Bool). take n (drop row l)) (runs-rows o e) ∙ tab-part 0 (lengthOf (o .form)) row n f h ∙ ap (λ (b : ℕ). window b n (o .numbers)) (zero-add row) in
+      ap (λ (l : List Bool). take n (drop row l)) (runs-rows o e) ∙ tab-part 0 (lengthOf (o .form)) row n f h
+      ∙ ap (λ (b : ℕ). window b n (o .numbers)) (zero-add row) in
       (c ∙ ap count (sym part), runs-told o row n h _ next e refl r .1)
 
   -- and of the other forms

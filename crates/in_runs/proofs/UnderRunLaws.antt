@@ -101,7 +101,8 @@ module _ (runs : List ℕ) (k : List Bool) (len at : ℕ) where
         let b : ℕ = t .row in
         let p = t .recovering .progress in
         let none : recover (drop b s) (drop b k) ≡ [] =
-        ap (λ (l : List Bool). recover l (drop b k)) (passed-end len runs b i (t .passed) h) ∙ recover-empty (replicate (len - b) false) (drop b k) (rows-sum b len []) in
+        ap (λ (l : List Bool). recover l (drop b k)) (passed-end len runs b i (t .passed) h)
+        ∙ recover-empty (replicate (len - b) false) (drop b k) (rows-sum b len []) in
         p .lies ∙ ap (λ (l : List Bool). laid at l out₀) (sym (p .parts ∙ ap (λ (l : List Bool). p .front ++ l) none ∙ append-nil (p .front)))
 
 -- the rows under a run, as they are read

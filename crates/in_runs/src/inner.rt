@@ -29,14 +29,7 @@ fn copy_rows(kept: &[u64], from: u64, row: Row, n: u64, at: u64, rank: Rank, out
 }
 
 // Self in runs, the second mask in words: the rows under each run are copied, one run behind the other.
-pub fn recover_under_runs(
-    runs: &[u32],
-    kept: &[u64],
-    from: u64,
-    len: u64,
-    at: u64,
-    out: &mut [u64],
-)
+pub fn recover_under_runs(runs: &[u32], kept: &[u64], from: u64, len: u64, at: u64, out: &mut [u64])
     requires { ⌜ Apart 0 len (now runs) × InView from len (now kept) × Room at (runLengths (now runs)) (now out) ⌝ }
     ensures { λ _. ⌜ now (out .exit) ≡ laid at (recover (inRuns len (now (runs .entry))) (view from len (now (kept .entry)))) (now (out .entry)) ⌝ }
 {

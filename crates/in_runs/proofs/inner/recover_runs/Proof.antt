@@ -1,6 +1,6 @@
 -- `in_runs::inner::recover_runs` meets its contract.
 -- The invariant: the ranks of the rows before `row` are laid, `rank` of them, and the walk over self's numbers has come to that row. Assumes nothing.
-use Prim.Native.Nat.{ℕ, _+_, _-_, _^_, _≤_, _<_}
+use Prim.Native.Nat.{ℕ, _+_, _-_, _^_, _≤_}
 use mathlib.Core.Path.{_≡_, sym, subst, _∙_}
 use mathlib.Core.Bool.{Bool}
 use mathlib.Core.List.{List}

@@ -1,13 +1,12 @@
 -- `in_runs::inner::recover_under_runs` meets its contract.
 -- The invariant: the rows under the runs before number i are laid as ranks, `rank` of them. Assumes nothing.
-use Prim.Native.Nat.{ℕ, _+_, _-_, _*_, _^_, _≤_}
+use Prim.Native.Nat.{ℕ, _+_, _-_, _^_, _≤_}
 use mathlib.Core.Path.{_≡_, ap, _∙_}
 use mathlib.Core.Bool.{Bool}
 use mathlib.Core.List.{List}
 use native.Mathlib.Omega.{arith}
 use lib.ListN.{length, getD}
 use denote.Ref.{now}
-use borrow.Author.Needs.{needs}
 use Rattle.rows.specs.Words.{view}
 use Rattle.rows.specs.Runs.{runLengths}
 use Rattle.rows.specs.Laid.{laid}

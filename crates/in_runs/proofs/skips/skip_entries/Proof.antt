@@ -1,6 +1,6 @@
 -- `in_runs::skips::skip_entries` meets its contract.
 -- The invariant: the entries before number j are below the row, and those from it on climb. Assumes nothing.
-use Prim.Native.Nat.{ℕ, suc, _+_, _-_, _≤_, _<_}
+use Prim.Native.Nat.{ℕ, suc, _-_, _≤_}
 use native.Mathlib.Numerals.{add-one}
 use native.Mathlib.Omega.{arith}
 use mathlib.Core.Path.{_≡_, sym, subst}

@@ -1,13 +1,13 @@
 -- `in_runs::skips::skip_rows` meets its contract: a list's entries, runs, or what is counted of the other forms.
 -- By what each form's walk tells of its rows. Assumes nothing.
-use Prim.Native.Nat.{_+_, _^_, _≤_, _<_}
+use Prim.Native.Nat.{_+_, _≤_}
 use native.Mathlib.Omega.{arith}
 use mathlib.Core.Path.{_≡_, sym, _∙_}
 use mathlib.Core.Bool.{true, false}
 use lib.ListN.{take, drop}
 use denote.Ref.{now}
 use borrow.Author.Needs.{needs}
-use Rattle.rules.specs.Operand.{Operand, lent, lengthOf}
+use Rattle.rules.specs.Operand.{Operand, lent}
 use Rattle.rules.proofs.OperandLaws.{accepted-limit}
 use Rattle.operand.specs.Flat.{hasRowNumbers, hasRuns, Flat}
 use Rattle.operand.proofs.FlatLaws.{accepted-flat}
