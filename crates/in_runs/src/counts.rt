@@ -1,5 +1,4 @@
-// How many of the rows between two runs self has set, where it lends no numbers: counted in its words, each of which is looked at for one gap, or for
-// the two that meet in it.
+// How many of the rows between two runs self has set, where it lends no numbers: counted in the words that they lie in, and in no other.
 ghost use mathlib.Core.Path.{_≡_};
 ghost use mathlib.Core.List.{[]};
 ghost use Prim.Native.Nat.{_+_, _*_, _≤_};
