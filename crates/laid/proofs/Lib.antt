@@ -1,3 +1,4 @@
 pub mod LayLaws
 pub mod SameLaws
 pub mod StoreLaws
+pub mod CopyLaws

@@ -6,12 +6,14 @@ ghost use mathlib.Core.List.{[], _∷_};
 ghost use Prim.Native.Nat.{ℕ, _+_, _-_, _*_, _^_, _≤_, _<_};
 ghost use lib.ListN.{length, take, replicate};
 ghost use denote.Ref.{now};
-ghost use Rattle.rows.specs.Rows.{splice};
+ghost use Rattle.rows.specs.Rows.{count, splice};
 ghost use Rattle.rows.specs.Word.{bitsOf};
-ghost use Rattle.rows.specs.Words.{Below};
+ghost use Rattle.rows.specs.Words.{Below, view};
 ghost use Rattle.rows.specs.Laid.{wordsFor, laid, lastCleared};
 ghost use Rattle.rows.specs.Asks.{Room, Chunk};
+use lent::inner::chunk_len;
 use lent::inner::ones;
+use lent::inner::read;
 
 // The low n bits of bits over out, from bit at on: in one word, or in two.
 pub fn put(out: &mut [u64], at: u64, n: u64, bits: u64)
@@ -175,4 +177,25 @@ pub fn copy_words(words: &[u64], first: usize, n: usize, out: &mut [u64])
         out[first + i] = words[i];
         i += 1;
     }
+}
+
+// The n bits of words from bit from on, over out from bit at on; and how many of them are set. The place is one sum, so that the read has nothing
+// else to add.
+pub fn copy_bits(words: &[u64], from: u64, n: u64, at: u64, out: &mut [u64]) -> u64
+    requires { ⌜ (from + n ≤ length (now words) * 64) × (from + n < 2 ^ 64) × Room at n (now out) ⌝ }
+    ensures { λ r. ⌜ (r ≡ count (view from n (now (words .entry)))) × (now (out .exit) ≡ laid at (view from n (now (words .entry))) (now (out .entry))) ⌝ }
+{
+    let mut sum: u64 = 0;
+    let mut done: u64 = 0;
+    while done < n {
+        let some = chunk_len(n, done);
+        let place = from + done;
+        let bits = read(words, place, 0);
+        let next = at + done;
+        put(out, next, some, bits);
+        let set = u64::count_ones(bits & ones(some));
+        sum += set as u64;
+        done += some;
+    }
+    sum
 }

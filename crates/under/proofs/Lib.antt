@@ -1,4 +1,3 @@
-pub mod CopyLaws
 pub mod UnderLaws
 pub mod EntryLaws
 pub mod WindowLaws

@@ -1,4 +1,4 @@
-// Rank bits as rows: under a run of self each row takes the next rank bit, so that the bits are copied chunk by chunk.
+// Rank bits as rows: under a run of self each row takes the next rank bit, so that the bits are copied.
 ghost use mathlib.Core.Path.{_≡_};
 ghost use Prim.Native.Nat.{_+_, _*_, _≤_};
 ghost use lib.ListN.{length};
@@ -7,10 +7,7 @@ ghost use Rattle.rows.specs.Rows.{count};
 ghost use Rattle.rows.specs.Words.{view};
 ghost use Rattle.rows.specs.Laid.{laid};
 ghost use Rattle.rows.specs.Asks.{Room};
-use books::inner::put_rows;
-use books::inner::rank_bits;
-use lent::inner::chunk_len;
-use lent::inner::ones;
+use laid::inner::copy_bits;
 use rows::Rank;
 use rows::Row;
 
@@ -28,17 +25,5 @@ pub fn copy_ranks(
     ensures { λ r. ⌜ (r ≡ count (view (from + rank .0) n (now (ranks .entry))))
         × (now (out .exit) ≡ laid (at + row .0) (view (from + rank .0) n (now (ranks .entry))) (now (out .entry))) ⌝ }
 {
-    let mut sum: u64 = 0;
-    let mut done: u64 = 0;
-    while done < n {
-        let some = chunk_len(n, done);
-        let place = rank.0 + done;
-        let bits = rank_bits(ranks, from, Rank(place));
-        let next = row.0 + done;
-        put_rows(out, at, Row(next), some, bits);
-        let set = u64::count_ones(bits & ones(some));
-        sum += set as u64;
-        done += some;
-    }
-    sum
+    copy_bits(ranks, from + rank.0, n, at + row.0, out)
 }

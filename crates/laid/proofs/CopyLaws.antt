@@ -1,4 +1,4 @@
--- What a loop keeps that copies rank bits: those before `done` are laid and counted. With a law for none, a law for some more, and a law for all.
+-- What a loop keeps that copies bits: those before `done` are laid and counted. With a law for none, a law for some more, and a law for all.
 -- By the laws of rows laid part by part, and of a word's low bits.
 -- Assumes nothing.
 use Prim.Native.Nat.{ℕ, _+_, _-_, _*_, _^_, _≤_}
