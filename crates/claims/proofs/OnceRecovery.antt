@@ -30,6 +30,12 @@ use Rattle.extracts.proofs.inner.recover_words.Kinds as recover-words-kinds
 use Rattle.extracts.proofs.inner.recover_words.Reads as recover-words
 use Rattle.extracts.proofs.inner.recover_chunks.Kinds as recover-chunks-kinds
 use Rattle.extracts.proofs.inner.recover_chunks.Reads as recover-chunks
+use Rattle.in_runs.proofs.inner.recover_under_runs.Kinds as under-runs-kinds
+use Rattle.in_runs.proofs.inner.recover_under_runs.Reads as under-runs
+use Rattle.in_runs.proofs.inner.recover_runs.Kinds as recover-runs-kinds
+use Rattle.in_runs.proofs.inner.recover_runs.Reads as recover-runs
+use Rattle.laid.proofs.inner.copy_bits.Kinds as copy-bits-kinds
+use Rattle.laid.proofs.inner.copy_bits.Reads as copy-bits
 use Rattle.outside.proofs.inner.first_outside.Kinds as first-outside-kinds
 use Rattle.outside.proofs.inner.first_outside.Reads as first-outside
 use Rattle.operand.proofs.inner.forms.has_words.Kinds as has-words-kinds
@@ -82,6 +88,15 @@ extracts-recover-words-one κs a p x y v w hv hw = (refl, ap (λ (l : List ℕ).
 
 pub extracts-recover-chunks-one : OneAnswer 5 recover-chunks-kinds.ps recover-chunks-kinds.r recover-chunks.Pre recover-chunks.Post
 extracts-recover-chunks-one κs a p x y v w hv hw = (refl, ap (λ (l : List ℕ). (tt, (tt, (tt, (tt, (tt, (tt, (tt, (l, tt))))))))) (hv ∙ sym hw))
+
+pub in-runs-recover-under-runs-one : OneAnswer 3 under-runs-kinds.ps under-runs-kinds.r under-runs.Pre under-runs.Post
+in-runs-recover-under-runs-one κs a p x y v w hv hw = (refl, ap (λ (l : List ℕ). (tt, (tt, (tt, (tt, (tt, (l, tt))))))) (hv ∙ sym hw))
+
+pub in-runs-recover-runs-one : OneAnswer 4 recover-runs-kinds.ps recover-runs-kinds.r recover-runs.Pre recover-runs.Post
+in-runs-recover-runs-one κs a p x y v w hv hw = (refl, ap (λ (l : List ℕ). (tt, (tt, (tt, (tt, (tt, (tt, (l, tt)))))))) (hv ∙ sym hw))
+
+pub laid-copy-bits-one : OneAnswer 2 copy-bits-kinds.ps copy-bits-kinds.r copy-bits.Pre copy-bits.Post
+laid-copy-bits-one κs a p x y v w hv hw = (hv .0 ∙ sym (hw .0), ap (λ (l : List ℕ). (tt, (tt, (tt, (tt, (l, tt)))))) (hv .1 ∙ sym (hw .1)))
 
 abbrev rowOf : ℕ → Row
 rowOf n = record { 0 = n }

@@ -53,7 +53,7 @@ pub fn step(
     let rows = Row(length_of(own));
     let ranks = Rank(s.count);
     let next = moved(state, rows, ranks, k.count);
-    lay_recovery(own, swords, srows, other, kwords, krows, at, out);
+    lay_recovery(s, swords, srows, other, kwords, krows, at, out);
     let answer = accepted(k.count, NO_ROUTE, s.count);
     RecoveryFed {
         answer,

@@ -39,10 +39,9 @@ pub fn recover_within(
     ensures { λ r. ⌜ (r ≡ recoveredBy Fine (lent (s .form) (now (swords .entry)) (now (srows .entry))) (lent (k .form) (now (kwords .entry)) (now (krows .entry))))
         × (now (out .exit) ≡ written (countOf (lent (s .form) (now (swords .entry)) (now (srows .entry)))) (recovery (lent (s .form) (now (swords .entry)) (now (srows .entry))) (lent (k .form) (now (kwords .entry)) (now (krows .entry)))) (now (out .entry))) ⌝ }
 {
-    let own = s.form;
     let other = k.form;
     let set = s.count;
     clear_last(out, set);
-    lay_recovery(own, swords, srows, other, kwords, krows, 0, out);
+    lay_recovery(s, swords, srows, other, kwords, krows, 0, out);
     tell(accepted(k.count, NO_ROUTE, set), Row(0))
 }

@@ -83,7 +83,7 @@ lay-recovery-requires c κs =
     let b = s (measured c) in
     let t = takes b in
     let few = accepted-few (masks b .self) (t .within .self) in
-    (t .within, (omega (arith, t .space), omega (arith, few, t .bounded)))
+    (t .within, b .pre .1, (omega (arith, t .space), omega (arith, few, t .bounded)))
 
 accepted-requires : tie.Need-accepted-requires
 accepted-requires c κs =

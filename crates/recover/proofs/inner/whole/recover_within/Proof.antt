@@ -84,7 +84,7 @@ lay-recovery-requires : tie.Need-lay-recovery-requires
 lay-recovery-requires c κs =
     let g = given (c .before .before .before) in
     let p = s g .pre in
-    (p .0, (omega (arith, p .3), omega (arith, accepted-few (self g) (p .0 .self))))
+    (p .0, p .1, (omega (arith, p .3), omega (arith, accepted-few (self g) (p .0 .self))))
 
 accepted-requires : tie.Need-accepted-requires
 accepted-requires c κs =
