@@ -110,8 +110,8 @@ module _ (s k : Operand) where
         no-row : (w : Verdict) → w ≡ first (roomChecks bits room) → rowTold w (strays s k) ≡ 0
         no-row Fine q = refl
         no-row (Refused x) q = passed-over (ℕ-discrete (x .number) 17) _ 0 (λ n.
-          let w = line-refuses (decLe (wordsFor bits) room) 8 0 x .0 (first-exactly (roomChecks bits room) (Refused x) .0 (sym q)) in
-          omega (arith, ap (λ (y : Refusal). y .number) (w .0), n))
+            let w = line-refuses (decLe (wordsFor bits) room) 8 0 x .0 (first-exactly (roomChecks bits room) (Refused x) .0 (sym q)) in
+            omega (arith, ap (λ (y : Refusal). y .number) (w .0), n))
 
   -- ---- what is told with the counts beside it, by the verdict of the whole table
 
