@@ -11,12 +11,14 @@
  *    0  the refusal's number, 0 where there is none
  *    1  the operand that it names, 1 or 2, or 0 where it names none; 14 names its operand
  *    2  the count of the result's set rows
- *    3  the route of a composition or of a feed, also of the composition that probe_program tells; else 0
+ *    3  the route of a composition or of a feed of the composer, also of the composition that probe_program tells; else 0
  *    4  the word of a deposit or a rank read, the position of a select
  *    5  done    \
- *    6  ranks    the state after a feed; where the feed is refused, the state as it was given
+ *    6  ranks    the state after a feed, of the composer or of recovery; where the feed is refused, the state as given
  *    7  kept    /
- *    8  to 14   0
+ *    8  and 9   0
+ *   10  the first row outside self that 17 is about, counted in the piece for a feed; 0 in all other answers
+ *   11  to 14   0
  *   15  a number: the runs that probe_to_runs wrote, the bytes that probe_program wrote
  *
  * and den's cell is the density. A cell of which a function does not speak is 0, and so are count, route, word, position
@@ -73,6 +75,14 @@ void probe_set(uint64_t which, PROBE_OPERAND(a), PROBE_OPERAND(b), uint64_t *out
  * self, and b a piece of the rank mask. */
 void probe_feed(uint64_t done, uint64_t ranks, uint64_t kept, PROBE_OPERAND(a), PROBE_OPERAND(b), uint64_t *out,
                 size_t nout, PROBE_ANSWER);
+
+/* Recovery: a is self, and b the mask of the rows that were kept. */
+void probe_recover(PROBE_OPERAND(a), PROBE_OPERAND(b), uint64_t *out, size_t nout, PROBE_ANSWER);
+
+/* One feed of a recovery stream, from the state done, ranks, kept: a and b are matching pieces. Bits are written from bit
+ * ranks of out on. */
+void probe_recover_feed(uint64_t done, uint64_t ranks, uint64_t kept, PROBE_OPERAND(a), PROBE_OPERAND(b), uint64_t *out,
+                        size_t nout, PROBE_ANSWER);
 
 /* The program's four lines into out, and the answer that they tell in the cells: 0, 7 or 13, with its count, route and
  * density. Where out is too short for the lines: 8 in cell 0, 0 in every other cell, and out stays as it was. */

@@ -1,10 +1,10 @@
 -- What include/probe.h says of every call, as statements about the definitions that the contracts cite: when nothing is done, what is
--- written and what stays, what a bad form tells, and which state a refused feed tells. By cases, and by computation.
+-- written and what stays, what a bad form tells, which state a refused feed tells, and which row recovery's 17. By cases, and by computation.
 -- Assumes nothing.
 use Prim.Native.Nat.{ℕ, _≤_, _<_}
 use native.Mathlib.Omega.{arith}
 use mathlib.Core.Path.{_≡_, refl, ap}
-use mathlib.Core.Logic.{_⊎_, inl, inr}
+use mathlib.Core.Logic.{_⊎_, inl, inr, _≢_}
 use mathlib.Core.Bool.{Bool, true, false, _&&_}
 use mathlib.Core.Option.{Option, none, some}
 use mathlib.Core.List.{List, [], _∷_}
@@ -13,14 +13,21 @@ use lib.ListN.{length, take, drop, replicate}
 use borrow.Author.Tests.{le-leb, lt-leb, ne-eqb}
 use Rattle.rows.specs.declared.Verdict.{Verdict}
 use Rattle.rows.specs.declared.Verdict.the-variants.{Fine, Refused}
+use Rattle.rows.specs.Table.{first}
+use Rattle.rows.specs.Lists.{select}
 use Rattle.rules.specs.declared.State.{State}
+use Rattle.rules.specs.declared.RecoveryState.{RecoveryState}
 use Rattle.rules.specs.Operand.{Operand}
-use Rattle.rules.specs.Answer.{noDensity}
+use Rattle.rules.specs.Answer.{noDensity, noRoute}
 use Rattle.rules.specs.Stream.{Pair, pairOf, judged, fedBy, outBy}
+use Rattle.rules.specs.Recover.{strays, recoverChecks, recovery, recovered}
+use Rattle.rules.specs.RecoverStream.{Masks, masksOf, judged as recoveryJudged, fedBy as recoveryFedBy, outBy as recoveryOutBy}
+use Rattle.rules.proofs.Recoveries.{told-first, told-else}
 use Rattle.cells.specs.declared.Given.{Given}
 use Rattle.cells.specs.declared.Given.the-variants.{Bad}
 use Rattle.cells.specs.declared.Told.{Told}
-use Rattle.cells.specs.Probe.{AnswerCells, cells, enough, ready, tells, Memory, Done, does, fedTold, given, formOf, ifGood, ifBoth, toWordsDone, toListDone, toRunsDone, composeDone, setsDone, feedDone}
+use Rattle.cells.specs.Probe.{AnswerCells, cells, enough, ready, tells, Memory, Done, does, fedTold, recoveryFedTold, given, formOf, ifGood, ifBoth}
+use Rattle.cells.specs.Probe.{toWordsDone, toListDone, toRunsDone, composeDone, setsDone, feedDone, recoverDone, recoverFeedDone}
 
 -- ---- where `ans` has fewer than 16 cells or `den` fewer than 1, the call does nothing at all
 
@@ -106,17 +113,50 @@ module _ (a b : Option Operand) (out : List ℕ) (e : (a ≡ none) ⊎ (b ≡ no
   pub feed-bad : (st : State) → Bads out (feedDone st a b out)
   feed-bad st = either-bad a b _ out e
 
--- ---- the state after a feed, as given where it is refused
+  pub recover-bad : Bads out (recoverDone a b out)
+  recover-bad = either-bad a b _ out e
 
-pub record Keeps (st : State) (t : Told) : Type 0 where
-  pub done : t .done ≡ st .done .0
-  pub ranks : t .ranks ≡ st .ranks .0
-  pub kept : t .kept ≡ st .kept
+  pub recover-feed-bad : (st : RecoveryState) → Bads out (recoverFeedDone st a b out)
+  recover-feed-bad st = either-bad a b _ out e
 
-by-verdict : (v : Verdict) (st : State) (p : Pair) (out : List ℕ) → (fedTold (fedBy v st p) .refusal ≡ 0 → ⊥) → Keeps st (fedTold (fedBy v st p)) × (outBy v st p out ≡ out)
+-- ---- the state after a feed, of the composer or of recovery, as given where it is refused
+
+pub record Keeps (d r k : ℕ) (t : Told) : Type 0 where
+  pub done : t .done ≡ d
+  pub ranks : t .ranks ≡ r
+  pub kept : t .kept ≡ k
+
+by-verdict : (v : Verdict) (st : State) (p : Pair) (out : List ℕ) → let t = fedTold (fedBy v st p) in
+    (t .refusal ≡ 0 → ⊥) → Keeps (st .done .0) (st .ranks .0) (st .kept) t × (outBy v st p out ≡ out)
 by-verdict Fine st p out h = absurd (h refl)
 by-verdict (Refused r) st p out h = (record { done = refl; ranks = refl; kept = refl }, refl)
 
 pub refused-feed : (st : State) (x y : Operand) (out : List ℕ) → let d = feedDone st (some x) (some y) out in
-    (d .told .refusal ≡ 0 → ⊥) → Keeps st (d .told) × (d .out ≡ out)
+    (d .told .refusal ≡ 0 → ⊥) → Keeps (st .done .0) (st .ranks .0) (st .kept) (d .told) × (d .out ≡ out)
 refused-feed st x y out = by-verdict (judged st (pairOf x y) (length out)) st (pairOf x y) out
+
+by-recovery-verdict : (v : Verdict) (st : RecoveryState) (m : Masks) (out : List ℕ) → let t = recoveryFedTold (recoveryFedBy v st m) in
+    (t .refusal ≡ 0 → ⊥) → Keeps (st .done .0) (st .ranks .0) (st .kept) t × (recoveryOutBy v st m out ≡ out)
+by-recovery-verdict Fine st m out h = absurd (h refl)
+by-recovery-verdict (Refused r) st m out h = (record { done = refl; ranks = refl; kept = refl }, refl)
+
+pub refused-recovery-feed : (st : RecoveryState) (x y : Operand) (out : List ℕ) → let d = recoverFeedDone st (some x) (some y) out in
+    (d .told .refusal ≡ 0 → ⊥) → Keeps (st .done .0) (st .ranks .0) (st .kept) (d .told) × (d .out ≡ out)
+refused-recovery-feed st x y out = by-recovery-verdict (recoveryJudged st (masksOf x y) (length out)) st (masksOf x y) out
+
+-- ---- cell 10: with 17 the first row outside self, counted in the piece for a feed; 0 in all other answers of recovery
+
+pub record Outside (x y : Operand) (t : Told) : Type 0 where
+  pub row : t .refusal ≡ 17 → t .outside ≡ select (strays x y) 0
+  pub else : t .refusal ≢ 17 → t .outside ≡ 0
+
+pub recover-outside : (x y : Operand) (out : List ℕ) → Outside x y (recoverDone (some x) (some y) out .told)
+unfolding recovered
+recover-outside x y out =
+    let v = first (recoverChecks x y (length out)) in
+    record { row = told-first v (recovery x y) noRoute (strays x y); else = told-else v (recovery x y) noRoute (strays x y) }
+
+pub recover-feed-outside : (st : RecoveryState) (x y : Operand) (out : List ℕ) → Outside x y (recoverFeedDone st (some x) (some y) out .told)
+recover-feed-outside st x y out =
+    let v = recoveryJudged st (masksOf x y) (length out) in
+    record { row = told-first v (recovery x y) noRoute (strays x y); else = told-else v (recovery x y) noRoute (strays x y) }

@@ -15,6 +15,9 @@ use Rattle.rules.specs.declared.Answer.{Answer}
 use Rattle.rules.specs.declared.Form.the-variants.{All, None, Words, List as Listed, Runs}
 use Rattle.rules.specs.declared.State.{State}
 use Rattle.rules.specs.declared.Fed.{Fed}
+use Rattle.rules.specs.declared.Recovered.{Recovered}
+use Rattle.rules.specs.declared.RecoveryState.{RecoveryState}
+use Rattle.rules.specs.declared.RecoveryFed.{RecoveryFed}
 use Rattle.rules.specs.declared.Written.{Written as InRuns}
 use Rattle.rules.specs.Operand.{Operand, lent}
 use Rattle.rules.specs.Answer.{noDensity}
@@ -23,6 +26,8 @@ use Rattle.rules.specs.SetOps.{andNot, combined, combinedOut, negated, negatedO
 use Rattle.rules.specs.Route.{published}
 use Rattle.rules.specs.Compose.{composed, composedOut}
 use Rattle.rules.specs.Stream.{pairOf, fed, fedOut}
+use Rattle.rules.specs.Recover.{recovered, recoveredOut}
+use Rattle.rules.specs.RecoverStream.{masksOf, fed as recoveryFed, fedOut as recoveryFedOut}
 use Rattle.lines.specs.declared.Written.{Written}
 use Rattle.lines.specs.Text.{writtenFor, textOut}
 use Rattle.cells.specs.declared.Given.{Given}
@@ -38,7 +43,8 @@ pub record AnswerCells : Type 0 where
 abbrev pub answerCells : List ℕ → List Float → AnswerCells
 answerCells ans den = record { ans = ans; den = den }
 
--- 0 refusal, 1 operand, 2 count, 3 route (of a composition, a feed or the program), 4 word or position, 5 done, 6 ranks, 7 kept, 8 to 14 are 0, 15 a number
+-- 0 refusal, 1 operand, 2 count, 3 route (of a composition, a feed or the program), 4 word or position, 5 done, 6 ranks, 7 kept, 8 and 9 are 0,
+-- 10 the first row outside self that 17 is about, 11 to 14 are 0, 15 a number
 abbrev pub cells : Told → List ℕ
 cells t =
     t .refusal
@@ -51,7 +57,7 @@ cells t =
     ∷ t .kept
     ∷ 0
     ∷ 0
-    ∷ 0
+    ∷ t .outside
     ∷ 0
     ∷ 0
     ∷ 0
@@ -98,11 +104,24 @@ does d m = cond (ready (m .answer)) (record { out = d .out; answer = over (d .to
 
 -- a word or a position
 abbrev pub wordTold : Refusal → ℕ → Told
-wordTold r word = record { refusal = r .number; operand = r .operand; count = 0; route = 0; word = word; done = 0; ranks = 0; kept = 0; number = 0; density = noDensity }
+wordTold r word =
+    record {
+      refusal = r .number;
+      operand = r .operand;
+      count = 0;
+      route = 0;
+      word = word;
+      done = 0;
+      ranks = 0;
+      kept = 0;
+      outside = 0;
+      number = 0;
+      density = noDensity;
+    }
 
--- an answer, a state's three numbers, and how many bytes or runs were written
-abbrev pub stateTold : Answer → ℕ → ℕ → ℕ → ℕ → Told
-stateTold a done ranks kept number =
+-- an answer, a state's three numbers, a row outside self, and how many bytes or runs were written
+abbrev pub stateTold : Answer → ℕ → ℕ → ℕ → ℕ → ℕ → Told
+stateTold a done ranks kept outside number =
     record {
       refusal = a .refusal .number;
       operand = a .refusal .operand;
@@ -112,23 +131,31 @@ stateTold a done ranks kept number =
       done = done;
       ranks = ranks;
       kept = kept;
+      outside = outside;
       number = number;
       density = a .summary .density;
     }
 
 abbrev pub answerTold : Answer → Told
-answerTold a = stateTold a 0 0 0 0
+answerTold a = stateTold a 0 0 0 0 0
 
 abbrev pub fedTold : Fed → Told
-fedTold f = stateTold (f .answer) (f .state .done .0) (f .state .ranks .0) (f .state .kept) 0
+fedTold f = stateTold (f .answer) (f .state .done .0) (f .state .ranks .0) (f .state .kept) 0 0
+
+-- the first row outside self too, which is 0 without 17
+abbrev pub recoveredTold : Recovered → Told
+recoveredTold r = stateTold (r .answer) 0 0 0 (r .outside .0) 0
+
+abbrev pub recoveryFedTold : RecoveryFed → Told
+recoveryFedTold f = stateTold (f .answer) (f .state .done .0) (f .state .ranks .0) (f .state .kept) (f .outside .0) 0
 
 -- the answer that the lines tell, and how many bytes they are
 abbrev pub writtenTold : Written → Told
-writtenTold w = stateTold (w .answer) 0 0 0 (w .len)
+writtenTold w = stateTold (w .answer) 0 0 0 0 (w .len)
 
 -- the answer of the writer of runs, and how many they are
 abbrev pub runsTold : InRuns → Told
-runsTold w = stateTold (w .answer) 0 0 0 (w .runs)
+runsTold w = stateTold (w .answer) 0 0 0 0 (w .runs)
 
 -- ---- an operand's form: 0 all, 1 none, 2 words, 3 list, 4 runs; any other number is bad
 
@@ -197,6 +224,14 @@ setsDone which a b out = ifBoth a b (λ x y. setDone which x y out) out
 -- the state after it, as given where it is refused
 abbrev pub feedDone : State → Option Operand → Option Operand → List ℕ → Done
 feedDone st a b out = ifBoth a b (λ x y. ended (fedTold (fed st (pairOf x y) out)) (fedOut st (pairOf x y) out)) out
+
+abbrev pub recoverDone : Option Operand → Option Operand → List ℕ → Done
+recoverDone a b out = ifBoth a b (λ x y. ended (recoveredTold (recovered x y out)) (recoveredOut x y out)) out
+
+-- the state after it, as given where it is refused
+abbrev pub recoverFeedDone : RecoveryState → Option Operand → Option Operand → List ℕ → Done
+recoverFeedDone st a b out =
+    ifBoth a b (λ x y. ended (recoveryFedTold (recoveryFed st (masksOf x y) out)) (recoveryFedOut st (masksOf x y) out)) out
 
 -- the program: its lines into the output; where that is too short for them 8, and nothing is written
 abbrev pub programDone : List ℕ → List ℕ → Done

@@ -11,6 +11,7 @@ pub struct Told {
     pub done: u64,
     pub ranks: u64,
     pub kept: u64,
+    pub outside: u64,
     pub number: u64,
     pub density: f64,
 }

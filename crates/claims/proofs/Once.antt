@@ -52,6 +52,10 @@ use Rattle.probe.proofs.probe_set.Kinds as probe-set-kinds
 use Rattle.probe.proofs.probe_set.Reads as probe-set
 use Rattle.probe.proofs.probe_feed.Kinds as probe-feed-kinds
 use Rattle.probe.proofs.probe_feed.Reads as probe-feed
+use Rattle.probe.proofs.probe_recover.Kinds as probe-recover-kinds
+use Rattle.probe.proofs.probe_recover.Reads as probe-recover
+use Rattle.probe.proofs.probe_recover_feed.Kinds as probe-recover-feed-kinds
+use Rattle.probe.proofs.probe_recover_feed.Reads as probe-recover-feed
 use Rattle.probe.proofs.probe_program.Kinds as probe-program-kinds
 use Rattle.probe.proofs.probe_program.Reads as probe-program
 
@@ -124,6 +128,14 @@ probe-probe-set-one κs a p x y v w hv hw = (refl, ap (λ (m : Memory). (tt, (tt
 
 pub probe-probe-feed-one : OneAnswer 7 probe-feed-kinds.ps probe-feed-kinds.r probe-feed.Pre probe-feed.Post
 probe-probe-feed-one κs a p x y v w hv hw = (refl, ap (λ (m : Memory). (tt, (tt, (tt, (tt, (tt, (tt, (tt, (tt, (tt, (tt, (tt, (tt, (tt, (tt, (tt, (m .out, (m .answer .ans, (m .answer .den, tt))))))))))))))))))) (hv ∙ sym hw))
+
+pub probe-probe-recover-one : OneAnswer 7 probe-recover-kinds.ps probe-recover-kinds.r probe-recover.Pre probe-recover.Post
+probe-probe-recover-one κs a p x y v w hv hw =
+    (refl, ap (λ (m : Memory). (tt, (tt, (tt, (tt, (tt, (tt, (tt, (tt, (tt, (tt, (tt, (tt, (m .out, (m .answer .ans, (m .answer .den, tt)))))))))))))))) (hv ∙ sym hw))
+
+pub probe-probe-recover-feed-one : OneAnswer 7 probe-recover-feed-kinds.ps probe-recover-feed-kinds.r probe-recover-feed.Pre probe-recover-feed.Post
+probe-probe-recover-feed-one κs a p x y v w hv hw =
+    (refl, ap (λ (m : Memory). (tt, (tt, (tt, (tt, (tt, (tt, (tt, (tt, (tt, (tt, (tt, (tt, (tt, (tt, (tt, (m .out, (m .answer .ans, (m .answer .den, tt))))))))))))))))))) (hv ∙ sym hw))
 
 pub probe-probe-program-one : OneAnswer 4 probe-program-kinds.ps probe-program-kinds.r probe-program.Pre probe-program.Post
 probe-probe-program-one κs a p x y v w hv hw = (refl, ap (λ (m : Memory). (tt, (m .out, (m .answer .ans, (m .answer .den, tt))))) (hv ∙ sym hw))

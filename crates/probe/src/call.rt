@@ -4,10 +4,13 @@ ghost use denote.Ref.{now};
 ghost use Rattle.rows.specs.WordAnswer.{deposited};
 ghost use Rattle.rules.specs.Operand.{lent};
 ghost use Rattle.rules.specs.Stream.{stateOf};
-ghost use Rattle.cells.specs.Probe.{given, ended, depositTold, selectTold, readTold, toWordsDone, toListDone, toRunsDone, composeDone, setDone, setsDone, feedDone, programDone, answerTold};
+ghost use Rattle.rules.specs.RecoverStream.{stateOf as recoveryStateOf};
+ghost use Rattle.cells.specs.Probe.{given, ended, depositTold, selectTold, readTold, toWordsDone, toListDone, toRunsDone, composeDone, setDone, setsDone, feedDone, recoverDone, recoverFeedDone, programDone, answerTold};
 use super::tell::of_answer;
 use super::tell::of_bad_form;
 use super::tell::of_fed;
+use super::tell::of_recovered;
+use super::tell::of_recovery_fed;
 use super::tell::of_runs;
 use super::tell::of_word;
 use super::tell::of_written;
@@ -19,6 +22,7 @@ use rows::Row;
 use rows::Way;
 use rules::Answer;
 use rules::Form;
+use rules::RecoveryState;
 use rules::State;
 
 // By way 0 the choice with the network, by any other the loop form.
@@ -171,6 +175,55 @@ pub fn feed(
         kept,
     };
     of_fed(composer::feed(state, s, awords, arows, r, bwords, brows, out))
+}
+
+pub fn recover(
+    a: Given,
+    awords: &[u64],
+    arows: &[u32],
+    b: Given,
+    bwords: &[u64],
+    brows: &[u32],
+    out: &mut [u64],
+) -> Told
+    ensures { λ t. ⌜ ended t (now (out .exit)) ≡ recoverDone (given a (now (awords .entry)) (now (arows .entry))) (given b (now (bwords .entry)) (now (brows .entry))) (now (out .entry)) ⌝ }
+{
+    let Given::Good(s) = a else {
+        return of_bad_form();
+    };
+    let Given::Good(k) = b else {
+        return of_bad_form();
+    };
+    of_recovered(recover::recover(s, awords, arows, k, bwords, brows, out))
+}
+
+// From recovery's state of these three numbers.
+pub fn recover_feed(
+    done: u64,
+    ranks: u64,
+    kept: u64,
+    a: Given,
+    awords: &[u64],
+    arows: &[u32],
+    b: Given,
+    bwords: &[u64],
+    brows: &[u32],
+    out: &mut [u64],
+) -> Told
+    ensures { λ t. ⌜ ended t (now (out .exit)) ≡ recoverFeedDone (recoveryStateOf done ranks kept) (given a (now (awords .entry)) (now (arows .entry))) (given b (now (bwords .entry)) (now (brows .entry))) (now (out .entry)) ⌝ }
+{
+    let Given::Good(s) = a else {
+        return of_bad_form();
+    };
+    let Given::Good(k) = b else {
+        return of_bad_form();
+    };
+    let state = RecoveryState {
+        done: Row(done),
+        ranks: Rank(ranks),
+        kept,
+    };
+    of_recovery_fed(recoverer::feed(state, s, awords, arows, k, bwords, brows, out))
 }
 
 pub fn program(input: &[u8], out: &mut [u8]) -> Told

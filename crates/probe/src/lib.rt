@@ -3,7 +3,8 @@
 ghost use mathlib.Core.Path.{_≡_};
 ghost use denote.Ref.{now};
 ghost use Rattle.rules.specs.Stream.{stateOf};
-ghost use Rattle.cells.specs.Probe.{answerCells, tells, memory, does, given, formOf, depositTold, selectTold, readTold, toWordsDone, toListDone, toRunsDone, composeDone, setsDone, feedDone, programDone};
+ghost use Rattle.rules.specs.RecoverStream.{stateOf as recoveryStateOf};
+ghost use Rattle.cells.specs.Probe.{answerCells, tells, memory, does, given, formOf, depositTold, selectTold, readTold, toWordsDone, toListDone, toRunsDone, composeDone, setsDone, feedDone, recoverDone, recoverFeedDone, programDone};
 use form::form_of;
 use tell::ready;
 use tell::tell;
@@ -234,6 +235,79 @@ pub extern "C" fn probe_feed(
     let b = form_of(bform, blength, bstart, bclaimed);
     tell(
         call::feed(done, ranks, kept, a, awords, arows, b, bwords, brows, out),
+        ans,
+        den,
+    );
+}
+
+// Recovery: a is self, and b the mask of the rows that were kept.
+#[no_mangle]
+pub extern "C" fn probe_recover(
+    aform: u64,
+    alength: u64,
+    astart: u64,
+    aclaimed: u64,
+    awords: &[u64],
+    arows: &[u32],
+    bform: u64,
+    blength: u64,
+    bstart: u64,
+    bclaimed: u64,
+    bwords: &[u64],
+    brows: &[u32],
+    out: &mut [u64],
+    ans: &mut [u64],
+    den: &mut [f64],
+)
+    ensures { λ _. ⌜ memory (now (out .exit)) (now (ans .exit)) (now (den .exit))
+        ≡ does (recoverDone (given (formOf aform alength astart aclaimed) (now (awords .entry)) (now (arows .entry))) (given (formOf bform blength bstart bclaimed) (now (bwords .entry)) (now (brows .entry))) (now (out .entry)))
+        (memory (now (out .entry)) (now (ans .entry)) (now (den .entry))) ⌝ }
+{
+    if !ready(ans.len(), den.len()) {
+        return;
+    }
+    let a = form_of(aform, alength, astart, aclaimed);
+    let b = form_of(bform, blength, bstart, bclaimed);
+    tell(
+        call::recover(a, awords, arows, b, bwords, brows, out),
+        ans,
+        den,
+    );
+}
+
+// One feed of a recovery stream: the state's three numbers go in, and come back in the answer.
+#[no_mangle]
+pub extern "C" fn probe_recover_feed(
+    done: u64,
+    ranks: u64,
+    kept: u64,
+    aform: u64,
+    alength: u64,
+    astart: u64,
+    aclaimed: u64,
+    awords: &[u64],
+    arows: &[u32],
+    bform: u64,
+    blength: u64,
+    bstart: u64,
+    bclaimed: u64,
+    bwords: &[u64],
+    brows: &[u32],
+    out: &mut [u64],
+    ans: &mut [u64],
+    den: &mut [f64],
+)
+    ensures { λ _. ⌜ memory (now (out .exit)) (now (ans .exit)) (now (den .exit))
+        ≡ does (recoverFeedDone (recoveryStateOf done ranks kept) (given (formOf aform alength astart aclaimed) (now (awords .entry)) (now (arows .entry))) (given (formOf bform blength bstart bclaimed) (now (bwords .entry)) (now (brows .entry))) (now (out .entry)))
+        (memory (now (out .entry)) (now (ans .entry)) (now (den .entry))) ⌝ }
+{
+    if !ready(ans.len(), den.len()) {
+        return;
+    }
+    let a = form_of(aform, alength, astart, aclaimed);
+    let b = form_of(bform, blength, bstart, bclaimed);
+    tell(
+        call::recover_feed(done, ranks, kept, a, awords, arows, b, bwords, brows, out),
         ans,
         den,
     );

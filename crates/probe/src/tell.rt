@@ -3,7 +3,7 @@ ghost use mathlib.Core.Path.{_≡_};
 ghost use Prim.Native.Nat.{_≤_, _<_};
 ghost use lib.ListN.{length};
 ghost use denote.Ref.{now};
-ghost use Rattle.cells.specs.Probe.{answerCells, enough, over, wordTold, badTold, stateTold, answerTold, fedTold, writtenTold, runsTold};
+ghost use Rattle.cells.specs.Probe.{answerCells, enough, over, wordTold, badTold, stateTold, answerTold, fedTold, recoveredTold, recoveryFedTold, writtenTold, runsTold};
 use cells::Told;
 use laid::inner::copy_words;
 use lines::Written;
@@ -11,6 +11,8 @@ use rows::Refusal;
 use rows::inner::verdicts::refusal;
 use rules::Answer;
 use rules::Fed;
+use rules::Recovered;
+use rules::RecoveryFed;
 
 // A refusal, or its place empty, and a word or a position.
 pub fn of_word(refusal: Refusal, word: u64) -> Told
@@ -25,14 +27,15 @@ pub fn of_word(refusal: Refusal, word: u64) -> Told
         done: 0,
         ranks: 0,
         kept: 0,
+        outside: 0,
         number: 0,
         density: 0.0,
     }
 }
 
-// An answer, a state's three numbers, and how many bytes or runs were written.
-fn of_state(answer: Answer, done: u64, ranks: u64, kept: u64, number: u64) -> Told
-    ensures { λ t. ⌜ t ≡ stateTold answer done ranks kept number ⌝ }
+// An answer, a state's three numbers, a row outside self, and how many bytes or runs were written.
+fn of_state(answer: Answer, done: u64, ranks: u64, kept: u64, outside: u64, number: u64) -> Told
+    ensures { λ t. ⌜ t ≡ stateTold answer done ranks kept outside number ⌝ }
 {
     Told {
         refusal: answer.refusal.number as u64,
@@ -43,6 +46,7 @@ fn of_state(answer: Answer, done: u64, ranks: u64, kept: u64, number: u64) -> To
         done,
         ranks,
         kept,
+        outside,
         number,
         density: answer.summary.density,
     }
@@ -51,7 +55,7 @@ fn of_state(answer: Answer, done: u64, ranks: u64, kept: u64, number: u64) -> To
 pub fn of_answer(answer: Answer) -> Told
     ensures { λ t. ⌜ t ≡ answerTold answer ⌝ }
 {
-    of_state(answer, 0, 0, 0, 0)
+    of_state(answer, 0, 0, 0, 0, 0)
 }
 
 pub fn of_fed(fed: Fed) -> Told
@@ -64,6 +68,29 @@ pub fn of_fed(fed: Fed) -> Told
         fed.state.ranks.0,
         fed.state.kept,
         0,
+        0,
+    )
+}
+
+// With the first row outside self, which is 0 without 17.
+pub fn of_recovered(recovered: Recovered) -> Told
+    ensures { λ t. ⌜ t ≡ recoveredTold recovered ⌝ }
+{
+    let answer = recovered.answer;
+    of_state(answer, 0, 0, 0, recovered.outside.0, 0)
+}
+
+pub fn of_recovery_fed(fed: RecoveryFed) -> Told
+    ensures { λ t. ⌜ t ≡ recoveryFedTold fed ⌝ }
+{
+    let answer = fed.answer;
+    of_state(
+        answer,
+        fed.state.done.0,
+        fed.state.ranks.0,
+        fed.state.kept,
+        fed.outside.0,
+        0,
     )
 }
 
@@ -72,7 +99,7 @@ pub fn of_written(written: Written) -> Told
     ensures { λ t. ⌜ t ≡ writtenTold written ⌝ }
 {
     let answer = written.answer;
-    of_state(answer, 0, 0, 0, written.len as u64)
+    of_state(answer, 0, 0, 0, 0, written.len as u64)
 }
 
 // The answer of the writer of runs, and how many they are.
@@ -80,7 +107,7 @@ pub fn of_runs(written: rules::Written) -> Told
     ensures { λ t. ⌜ t ≡ runsTold written ⌝ }
 {
     let answer = written.answer;
-    of_state(answer, 0, 0, 0, written.runs)
+    of_state(answer, 0, 0, 0, 0, written.runs)
 }
 
 // A form that is none: 99, and nothing else is told.
@@ -115,7 +142,7 @@ pub fn tell(told: Told, ans: &mut [u64], den: &mut [f64])
         told.kept,
         0,
         0,
-        0,
+        told.outside,
         0,
         0,
         0,
