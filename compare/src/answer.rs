@@ -15,6 +15,7 @@ pub const WORD: usize = 4;
 pub const DONE: usize = 5;
 pub const RANKS: usize = 6;
 pub const KEPT: usize = 7;
+pub const OUTSIDE: usize = 10;
 pub const WRITTEN: usize = 15;
 
 const NAMES: [&str; 8] = ["refusal", "operand", "count", "route", "word or position", "done", "ranks", "kept"];
@@ -50,6 +51,12 @@ impl Answer {
     /// The bytes that the program wrote, or the runs that a conversion to runs wrote.
     pub fn with_written(mut self, written: u64) -> Self {
         self.cells[WRITTEN] = written;
+        self
+    }
+
+    /// The row outside self that 17 tells.
+    pub fn with_row_outside(mut self, row: u64) -> Self {
+        self.cells[OUTSIDE] = row;
         self
     }
 

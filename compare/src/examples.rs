@@ -1,4 +1,4 @@
-//! Document 01's examples, and inputs at the edges of its rules and of document 02's runs, each with its answer written out
+//! Document 01's examples, and inputs at the edges of its rules and of document 02's runs and recovery, each with its answer written out
 //! here. `rules` is held to them too, so that it is not the judge of itself.
 use crate::answer::Answer;
 use crate::checks::{Outcome, same_answer};
@@ -19,10 +19,11 @@ pub fn run(tally: &mut Tally) -> Outcome {
     conversions_to_runs(&mut examples)?;
     compositions(&mut examples)?;
     compositions_with_runs(&mut examples)?;
+    recoveries(&mut examples)?;
     set_operations(&mut examples)?;
     feeds(&mut examples)?;
     programs(&mut examples)?;
-    tally.add("document 01's examples, its edges and those of runs, answers written out", examples.held);
+    tally.add("document 01's examples, its edges, those of runs and of recovery, answers written out", examples.held);
     Ok(())
 }
 
@@ -56,6 +57,10 @@ impl Examples {
 
     fn compose(&mut self, name: &str, a: &Operand, b: &Operand, out: &[u64], expected: Answer, first: u64) -> Outcome {
         self.call(name, &ours::compose(a, b, out)?, &rules::compose(a, b, out), expected, first)
+    }
+
+    fn recover(&mut self, name: &str, a: &Operand, b: &Operand, out: &[u64], expected: Answer, first: u64) -> Outcome {
+        self.call(name, &ours::recover(a, b, out)?, &rules::recover(a, b, out), expected, first)
     }
 
     fn to_words(&mut self, name: &str, a: &Operand, out: &[u64], expected: Answer, first: u64) -> Outcome {
@@ -340,6 +345,42 @@ fn compositions_with_runs(examples: &mut Examples) -> Outcome {
     examples.compose("14 of the rank mask, 7 too", &all(1), &runs(9, &[1, 1]), &out, refused(14, 2), JUNK)?;
     examples.compose("7", &own_runs, &runs(4, &[0, 4]), &out, refused(7, 0), JUNK)?;
     examples.compose("no word of output", &own_runs, &rank_runs, &[], refused(8, 0), 0)
+}
+
+/// The program's masks of document 01, back from its rows; and the edges of document 02's P6.
+fn recoveries(examples: &mut Examples) -> Outcome {
+    let out = [JUNK, JUNK];
+    let (told, refused) = (|count, length| Answer::summary(count, length, 0), Answer::refused);
+    let outside = |row| refused(17, 0).with_row_outside(row);
+    let (own, kept) = (words(0, 8, 5, &[0xd6]), words(3, 8, 2, &[0x42 << 3]));
+    let (own_list, own_runs) = (list(8, &[1, 2, 4, 6, 7]), runs(8, &[1, 3, 4, 5, 6, 8]));
+    let (kept_list, kept_runs) = (list(8, &[1, 6]), runs(8, &[1, 2, 6, 7]));
+    for own in [&own, &own_list, &own_runs] {
+        for kept in [&kept, &kept_list, &kept_runs] {
+            examples.recover("01101011 and 01000010", own, kept, &out, told(2, 5), 9)?;
+        }
+        examples.recover("no row kept", own, &none(8), &out, told(0, 5), 0)?;
+        examples.recover("every row kept", own, own, &out, told(5, 5), 31)?;
+        examples.recover("all kept, row 0 is not self's", own, &all(8), &out, outside(0), JUNK)?;
+    }
+    examples.recover("self full", &all(8), &kept, &out, told(2, 8), 0x42)?;
+    examples.recover("both full", &all(65), &all(65), &out, told(65, 65), u64::MAX)?;
+    examples.recover("self empty", &none(8), &runs(8, &[]), &out, told(0, 0), JUNK)?;
+    examples.recover("of no rows", &all(0), &none(0), &[], told(0, 0), 0)?;
+    examples.recover(
+        "the last row is not self's",
+        &runs(65, &[0, 64]),
+        &list(65, &[3, 64]),
+        &out,
+        outside(64),
+        JUNK,
+    )?;
+    examples.recover("the first of two", &own_runs, &list(8, &[1, 3, 5]), &out, outside(3), JUNK)?;
+    examples.recover("5 before 14", &list(9, &[1, 1]), &runs(9, &[1, 1]), &out, refused(5, 1), JUNK)?;
+    examples.recover("14 of the second mask before 7", &all(8), &runs(9, &[1, 1]), &out, refused(14, 2), JUNK)?;
+    examples.recover("7 before 17", &none(8), &all(9), &out, refused(7, 0), JUNK)?;
+    examples.recover("17 before 8", &words(0, 8, 5, &[0xd6]), &all(8), &[], outside(0), 0)?;
+    examples.recover("no word of output", &own, &kept, &[], refused(8, 0), 0)
 }
 
 fn set_operations(examples: &mut Examples) -> Outcome {

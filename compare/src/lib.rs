@@ -16,6 +16,7 @@ pub mod ours;
 pub mod probe;
 pub mod programs;
 pub mod random;
+pub mod recoveries;
 pub mod refusals;
 pub mod rules;
 pub mod sample;

@@ -7,7 +7,7 @@ use std::{env, process};
 use compare::checks::Outcome;
 use compare::probe::OURS;
 use compare::tally::Tally;
-use compare::{compositions, examples, feeds, programs, refusals, sets, small, without_room, words};
+use compare::{compositions, examples, feeds, programs, recoveries, refusals, sets, small, without_room, words};
 
 /// How many cases each part has.
 struct Plan {
@@ -15,6 +15,7 @@ struct Plan {
     small: u64, // the longest mask of those that are all tried
     compositions: u64,
     blocks: u64,
+    recoveries: u64,
     sets: u64,
     conversions: u64,
     refusals: u64,
@@ -28,6 +29,7 @@ const BRIEF: Plan = Plan {
     small: 5,
     compositions: 6_000,
     blocks: 0,
+    recoveries: 2_000,
     sets: 2_000,
     conversions: 2_000,
     refusals: 20_000,
@@ -40,6 +42,7 @@ const SHORT: Plan = Plan {
     small: 8,
     compositions: 40_000,
     blocks: 9,
+    recoveries: 20_000,
     sets: 30_000,
     conversions: 30_000,
     refusals: 80_000,
@@ -52,6 +55,7 @@ const LONG: Plan = Plan {
     small: 10,
     compositions: 250_000,
     blocks: 60,
+    recoveries: 150_000,
     sets: 220_000,
     conversions: 150_000,
     refusals: 1_000_000,
@@ -105,12 +109,14 @@ fn first_half(plan: &Plan, seed: u64, tally: &mut Tally) -> Outcome {
     words::rank_reads(plan.words, seed, tally)?;
     small::compositions(plan.small, seed, tally)?;
     small::set_operations(plan.small / 2, seed, tally)?;
+    small::recoveries(2 * plan.small / 3, seed, tally)?;
     small::conversions(plan.small, seed, tally)?;
     small::lists_of_runs(plan.small, tally)?;
     small::programs(plan.small, seed, tally)?;
     compositions::run(plan.compositions, seed, tally)?;
     sets::set_operations(plan.sets, seed, tally)?;
-    sets::conversions(plan.conversions, seed, tally)
+    sets::conversions(plan.conversions, seed, tally)?;
+    recoveries::words(plan.words / 10, seed, tally)
 }
 
 fn second_half(plan: &Plan, seed: u64, tally: &mut Tally) -> Outcome {
@@ -119,7 +125,9 @@ fn second_half(plan: &Plan, seed: u64, tally: &mut Tally) -> Outcome {
     feeds::run(plan.streams, seed, tally)?;
     programs::run(plan.programs, seed, tally)?;
     compositions::blocks(plan.blocks, seed, tally)?;
-    feeds::blocks(plan.blocks / 3, seed, tally)
+    feeds::blocks(plan.blocks / 3, seed, tally)?;
+    recoveries::run(plan.recoveries, seed, tally)?;
+    recoveries::blocks(plan.blocks / 3, seed, tally)
 }
 
 fn arguments() -> (Plan, Share, u64) {

@@ -4,7 +4,7 @@
 use std::slice;
 use std::sync::LazyLock;
 
-use crate::answer::{Answer, COUNT, ROUTE, WRITTEN};
+use crate::answer::{Answer, COUNT, OUTSIDE, ROUTE, WRITTEN};
 use crate::given::Given;
 use crate::operand::{LIST, Operand, RUNS, WORDS, lay};
 use crate::rules::{self, Expected};
@@ -223,6 +223,44 @@ pub unsafe fn probe_compose(
         }
         if fault("operand 2 first") && rules::to_words(&b, &[]).answer.cells[0] % 8 != 0 {
             expected.answer = Answer::refused(rules::to_words(&b, &[]).answer.cells[0], 2);
+        }
+        written(expected, out, nout, ans, den);
+    }
+}
+
+pub unsafe fn probe_recover(
+    a_form: u64, a_length: u64, a_start: u64, a_claimed: u64,
+    a_words: *const u64, a_nwords: usize, a_rows: *const u32, a_nrows: usize,
+    b_form: u64, b_length: u64, b_start: u64, b_claimed: u64,
+    b_words: *const u64, b_nwords: usize, b_rows: *const u32, b_nrows: usize,
+    out: *mut u64, nout: usize, ans: *mut u64, nans: usize, den: *mut f64, nden: usize,
+) {
+    if nans < 16 || nden < 1 {
+        return;
+    }
+    unsafe {
+        let a = operand(a_form, a_length, a_start, a_claimed, a_words, a_nwords, a_rows, a_nrows);
+        let b = operand(b_form, b_length, b_start, b_claimed, b_words, b_nwords, b_rows, b_nrows);
+        let before = slice::from_raw_parts(out, nout);
+        let mut expected = rules::recover(&a, &b, before);
+        let accepted = expected.answer.cells[0] == 0;
+        if fault("a recovery leaves the rows where they are") && accepted && a_length.div_ceil(64) as usize <= nout {
+            lay(&mut expected.out, 0, &rules::rows(&b));
+        }
+        if fault("a recovery clears later words") && accepted {
+            expected.out[rules::set_count(&a).div_ceil(64) as usize..].fill(0);
+        }
+        if fault("a recovery's density is of self's length") && accepted {
+            expected.answer.density = Answer::summary(expected.answer.cells[COUNT], a_length, 0).density;
+        }
+        if fault("a recovery tells a route") && accepted {
+            expected.answer.cells[ROUTE] = 9;
+        }
+        if fault("17 does not tell its row") {
+            expected.answer.cells[OUTSIDE] = 0;
+        }
+        if fault("8 before 17") && expected.answer.cells[0] == 17 && rules::set_count(&a).div_ceil(64) > nout as u64 {
+            expected.answer = Answer::refused(8, 0);
         }
         written(expected, out, nout, ans, den);
     }

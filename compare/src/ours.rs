@@ -84,8 +84,15 @@ pub fn to_runs(a: &Operand, out: &[u32]) -> Result<Told<u32>, String> {
     ended(&[&lent], &out, &answer)
 }
 
-/// A composition's memory, lent once, so that the call alone can be timed.
-pub struct LentComposition<'a> {
+#[derive(Clone, Copy)]
+pub enum Operation {
+    Composition,
+    Recovery,
+}
+
+/// The memory of a composition or of a recovery, lent once, so that the call alone can be timed.
+pub struct LentPair<'a> {
+    operation: Operation,
     operands: [&'a Operand; 2],
     lent_a: LentOperand,
     lent_b: LentOperand,
@@ -93,9 +100,10 @@ pub struct LentComposition<'a> {
     answer: AnswerMemory,
 }
 
-impl<'a> LentComposition<'a> {
-    pub fn new(a: &'a Operand, b: &'a Operand, out: &[u64]) -> Self {
-        LentComposition {
+impl<'a> LentPair<'a> {
+    pub fn new(operation: Operation, a: &'a Operand, b: &'a Operand, out: &[u64]) -> Self {
+        LentPair {
+            operation,
             operands: [a, b],
             lent_a: LentOperand::new(a),
             lent_b: LentOperand::new(b),
@@ -105,11 +113,15 @@ impl<'a> LentComposition<'a> {
     }
 
     pub fn call(&mut self) {
-        let LentComposition { operands: [a, b], lent_a, lent_b, out, answer } = self;
+        let LentPair { operation, operands: [a, b], lent_a, lent_b, out, answer } = self;
         let (ans, den) = (answer.cells(), answer.density());
+        let call = match operation {
+            Operation::Composition => probe::probe_compose,
+            Operation::Recovery => probe::probe_recover,
+        };
         // SAFETY: as above.
         unsafe {
-            probe::probe_compose(
+            call(
                 a.form, a.length, a.start, a.claimed,
                 lent_a.words.pointer(), lent_a.words.len(), lent_a.rows.pointer(), lent_a.rows.len(),
                 b.form, b.length, b.start, b.claimed,
@@ -125,7 +137,15 @@ impl<'a> LentComposition<'a> {
 }
 
 pub fn compose(a: &Operand, b: &Operand, out: &[u64]) -> Result<Told<u64>, String> {
-    let mut lent = LentComposition::new(a, b, out);
+    of_pair(Operation::Composition, a, b, out)
+}
+
+pub fn recover(a: &Operand, b: &Operand, out: &[u64]) -> Result<Told<u64>, String> {
+    of_pair(Operation::Recovery, a, b, out)
+}
+
+fn of_pair(operation: Operation, a: &Operand, b: &Operand, out: &[u64]) -> Result<Told<u64>, String> {
+    let mut lent = LentPair::new(operation, a, b, out);
     lent.call();
     lent.ended()
 }

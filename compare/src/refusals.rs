@@ -6,14 +6,22 @@ use crate::compositions::random_pair;
 use crate::operand::{ALL, CARRIERS, NONE, Operand, RUNS, WORDS, fitting_form, lend, random_rows};
 use crate::ours::Told;
 use crate::random::Random;
+use crate::recoveries::random_recovery;
 use crate::rules::{Expected, LIMIT, UNKNOWN_FORM};
 use crate::sets::as_numbers;
 use crate::tally::{Progress, Tally};
 use crate::{ours, rules};
 
-const CALLS: [&str; 6] =
-    ["composition", "set operation", "conversion to words", "conversion to a list", "conversion to runs", "feed"];
-const UNKNOWN: usize = 15; // stands for 99
+const CALLS: [&str; 7] = [
+    "composition",
+    "set operation",
+    "conversion to words",
+    "conversion to a list",
+    "conversion to runs",
+    "feed",
+    "recovery",
+];
+const UNKNOWN: usize = 18; // stands for 99
 
 /// How often each refusal was told, by call and by the operand named.
 #[derive(Default)]
@@ -52,7 +60,8 @@ pub fn run(cases: u64, seed: u64, tally: &mut Tally) -> Outcome {
             2 => spoilt_to_words(&mut random)?,
             3 => spoilt_to_list(&mut random)?,
             4 => spoilt_to_runs(&mut random)?,
-            _ => spoilt_feed(&mut random)?,
+            5 => spoilt_feed(&mut random)?,
+            _ => spoilt_recovery(&mut random)?,
         };
         seen.note(call, &refused);
         progress.step();
@@ -106,7 +115,9 @@ fn every_refusal_occurred(seen: &Seen) -> Outcome {
         by_operand(conversion, &[0, 8, UNKNOWN], &[0])?;
     }
     by_operand(5, &[1, 2, 3, 4, 5, 6, 14], &[1, 2])?;
-    by_operand(5, &[0, 7, 8, 10, 11, UNKNOWN], &[0])
+    by_operand(5, &[0, 7, 8, 10, 11, UNKNOWN], &[0])?;
+    by_operand(6, &[1, 2, 3, 4, 5, 6, 14], &[1, 2])?;
+    by_operand(6, &[0, 7, 8, 17, UNKNOWN], &[0])
 }
 
 // ---- the calls
@@ -193,6 +204,23 @@ fn spoilt_feed(random: &mut Random) -> Outcome<Refused> {
         check(&told, &rules::feed(state, &a, &b, &out))
     };
     let answer = compared().map_err(|why| with_input(why, &format!("feed at state {state:?}"), &[&a, &b], &out))?;
+    Ok(Refused { answer, held: held(&[&a, &b], false) })
+}
+
+/// Once in four times the second mask is any of its length, and most likely has a row outside self.
+fn spoilt_recovery(random: &mut Random) -> Outcome<Refused> {
+    let length = random.below(200);
+    let (mut a, mut b) = random_recovery(length, random);
+    if random.one_in(4) {
+        b = any_operand(length, 2, random);
+    }
+    spoil_pair(&mut a, &mut b, random);
+    let out = output(a.length, random);
+    let compared = || {
+        let told = ours::recover(&a, &b, &out)?;
+        check(&told, &rules::recover(&a, &b, &out))
+    };
+    let answer = compared().map_err(|why| with_input(why, "recover", &[&a, &b], &out))?;
     Ok(Refused { answer, held: held(&[&a, &b], false) })
 }
 

@@ -1,4 +1,4 @@
-//! Document 01, and document 02's runs, written out plainly, row by row: the refusal table with its order, the route table,
+//! Document 01, and document 02's runs and recovery, written out plainly, row by row: the refusal table with its order, the route table,
 //! and what is written. It shares nothing with the Rust crate or the proved code.
 use crate::answer::Answer;
 use crate::operand::{ALL, LIST, NONE, Operand, RUNS, WORDS, count, in_words, lay, runs_of, set_rows};
@@ -33,6 +33,20 @@ pub fn published_pdep(source: u64, mask: u64) -> u64 {
     while m < 64 {
         if mask >> m & 1 == 1 {
             dest |= (temp >> k & 1) << m;
+            k += 1;
+        }
+        m += 1;
+    }
+    dest
+}
+
+/// The PEXT entry of the same manuals, line by line.
+pub fn published_pext(source: u64, mask: u64) -> u64 {
+    let (temp, mut dest) = (source, 0);
+    let (mut m, mut k) = (0, 0);
+    while m < 64 {
+        if mask >> m & 1 == 1 {
+            dest |= (temp >> m & 1) << k;
             k += 1;
         }
         m += 1;
@@ -304,6 +318,33 @@ pub fn laid_back(own: &[bool], ranks: &[bool]) -> Vec<bool> {
         rank += usize::from(row);
     }
     result
+}
+
+/// From rows back to ranks. All of the second mask's rows must lie in self: 17 tells the first that does not.
+pub fn recover(a: &Operand, b: &Operand, out: &[u64]) -> Expected<u64> {
+    if unknown_form(a) || unknown_form(b) {
+        return refused(UNKNOWN_FORM, 0, out);
+    }
+    let (number, operand) = operands_refusal(a, b, false);
+    if number != 0 {
+        return refused(number, operand, out);
+    }
+    if b.length != a.length {
+        return refused(7, 0, out);
+    }
+    let (own, kept) = (rows(a), rows(b));
+    match (0..own.len()).find(|&row| kept[row] && !own[row]) {
+        Some(row) => {
+            let answer = Answer::refused(17, 0).with_row_outside(row as u64);
+            Expected { answer, out: out.to_vec() }
+        }
+        None => write_words(&ranks_kept(&own, &kept), 0, out),
+    }
+}
+
+/// Rank r is set exactly if self's r-th row is kept.
+pub fn ranks_kept(own: &[bool], kept: &[bool]) -> Vec<bool> {
+    (0..own.len()).filter(|&row| own[row]).map(|row| kept[row]).collect()
 }
 
 /// Words output: start 0, clear bits at or past the length in the last word, later words as they were.

@@ -1,4 +1,4 @@
-//! Every small composition, set operation, conversion, list of numbers lent as runs and input of the program, smallest
+//! Every small composition, set operation, recovery, conversion, list of numbers lent as runs and input of the program, smallest
 //! first: a difference shows at its smallest input.
 use crate::answer::REFUSAL;
 use crate::checks::{Outcome, by_the_rules, with_input};
@@ -6,6 +6,7 @@ use crate::compositions::{Seen, compose_both};
 use crate::operand::{ALL, CARRIERS, NONE, Operand, RUNS, WORDS, count, lend};
 use crate::programs::{self, bytes_needed, program_both, said};
 use crate::random::Random;
+use crate::recoveries::{self, recover_both};
 use crate::sets::{convert_both, set_both};
 use crate::tally::{Progress, Tally};
 use crate::{ours, rules};
@@ -45,6 +46,28 @@ pub fn set_operations(longest: u64, seed: u64, tally: &mut Tally) -> Outcome {
         }
     }
     tally.add(&format!("set operations: every pair of masks of up to {longest} rows, every mix of forms"), cases);
+    Ok(())
+}
+
+/// Second masks of every length up to self's, within it or not.
+pub fn recoveries(longest: u64, seed: u64, tally: &mut Tally) -> Outcome {
+    let mut random = Random::new(seed, "small recoveries");
+    let (mut seen, mut cases) = (recoveries::Seen::default(), 0);
+    for own in masks_up_to(longest) {
+        for kept in masks_up_to(own.len() as u64) {
+            for (a, b) in lent_pairs(&own, &kept, &CARRIERS, &mut random) {
+                recover_both(&a, &b, &mut seen, &mut random)?;
+                cases += 1;
+            }
+        }
+    }
+    tally.add(
+        &format!(
+            "recoveries: every self of up to {longest} rows, every second mask as long or shorter, every mix of forms"
+        ),
+        cases,
+    );
+    tally.add("  of these, accepted", seen.accepted());
     Ok(())
 }
 

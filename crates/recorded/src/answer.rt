@@ -1,5 +1,6 @@
 // What is recorded of an answer, and what came of a case that was held to it.
 use super::reader::Cursor;
+use super::reader::Number;
 use super::reader::digits::read_number;
 use rules::Answer;
 
@@ -16,6 +17,7 @@ pub enum Finding {
     WordDiffers,
     OutputDiffers,
     RunsDiffers,
+    RowDiffers,
 }
 
 // What came of a case, and where the next one starts.
@@ -68,6 +70,17 @@ pub fn read_expected(text: &[u8], cursor: Cursor) -> Expected {
     }
 }
 
+// The row outside self, which stands after the numbers of a recovery's answer. Where none is told it is 0.
+pub fn read_row(text: &[u8], cursor: Cursor, told: bool) -> Number {
+    if told {
+        return read_number(text, cursor);
+    }
+    Number {
+        value: 0,
+        next: cursor,
+    }
+}
+
 // Equal, and of one sign where both are zeros, which a quotient tells apart.
 fn same_float(x: f64, y: f64) -> bool {
     if x != y {
@@ -95,6 +108,17 @@ pub fn finding_of(answer: Answer, expected: Expected) -> Finding {
         return Finding::DensityDiffers;
     }
     Finding::Agrees
+}
+
+// What the numbers before leave open is decided by one more.
+pub fn and_then(finding: Finding, same: bool, otherwise: Finding) -> Finding {
+    if differs(finding) {
+        return finding;
+    }
+    if same {
+        return finding;
+    }
+    otherwise
 }
 
 // What the answer's numbers leave open is decided by the output slice.

@@ -1,7 +1,7 @@
 // A case of the conversions: scripts/conversions.py says how it is told.
 use super::answer::Finding;
 use super::answer::Outcome;
-use super::answer::differs;
+use super::answer::and_then;
 use super::answer::finding_of;
 use super::answer::outcome_of;
 use super::answer::read_expected;
@@ -41,17 +41,6 @@ fn answer_list(
     outcome_of(finding_of(answer, expected), after.same, after.next)
 }
 
-// What the answer's numbers leave open is decided by the number of runs.
-fn runs_finding(finding: Finding, same: bool) -> Finding {
-    if differs(finding) {
-        return finding;
-    }
-    if same {
-        return finding;
-    }
-    Finding::RunsDiffers
-}
-
 // What was written, held to what is told of it: the number of runs stands after the answer's numbers.
 fn compare_runs(
     text: &[u8],
@@ -64,7 +53,8 @@ fn compare_runs(
     let expected = read_expected(text, cursor);
     let due = read_number(text, expected.next);
     let after = super::reader::lists::compare(text, due.next, elements, out);
-    let finding = runs_finding(finding_of(answer, expected), written.runs == due.value);
+    let same = written.runs == due.value;
+    let finding = and_then(finding_of(answer, expected), same, Finding::RunsDiffers);
     outcome_of(finding, after.same, after.next)
 }
 

@@ -3,6 +3,7 @@
 use answer::Finding;
 use answer::Outcome;
 use answer::differs;
+use feeds::Stream;
 use libc::STDOUT_FILENO;
 use reader::Cursor;
 
@@ -18,6 +19,7 @@ enum Subject {
     Conversions,
     Pairs,
     Feeds,
+    RecoveryFeeds,
     Words,
 }
 
@@ -32,7 +34,8 @@ fn run_case(subject: Subject, text: &[u8], cursor: Cursor) -> Outcome {
     match subject {
         Subject::Conversions => conversions::run_case(text, cursor),
         Subject::Pairs => pairs::run_case(text, cursor),
-        Subject::Feeds => feeds::run_case(text, cursor),
+        Subject::Feeds => feeds::run_case(Stream::Composition, text, cursor),
+        Subject::RecoveryFeeds => feeds::run_case(Stream::Recovery, text, cursor),
         Subject::Words => words::run_case(text, cursor),
     }
 }
@@ -83,6 +86,7 @@ fn number_of(finding: Finding) -> u64 {
         Finding::WordDiffers => 8,
         Finding::OutputDiffers => 9,
         Finding::RunsDiffers => 10,
+        Finding::RowDiffers => 11,
     }
 }
 
@@ -119,6 +123,8 @@ fn main() {
     run_file(Subject::Conversions, b"conversions");
     run_file(Subject::Pairs, b"pairs");
     run_file(Subject::Feeds, b"feeds");
+    run_file(Subject::Pairs, b"recoveries");
+    run_file(Subject::RecoveryFeeds, b"recovery_feeds");
     run_file(Subject::Pairs, b"rust_pairs");
     run_file(Subject::Conversions, b"rust_conversions");
     run_file(Subject::Words, b"rust_words");

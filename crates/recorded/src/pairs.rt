@@ -1,25 +1,40 @@
-// A case of the set operations or of composition: scripts/pairs.py says how it is told.
+// A case of the set operations, of composition or of recovery: scripts/pairs.py and scripts/recoveries.py say how it is told.
+use super::answer::Finding;
 use super::answer::Outcome;
+use super::answer::and_then;
 use super::answer::finding_of;
 use super::answer::outcome_of;
 use super::answer::read_expected;
+use super::answer::read_row;
 use super::reader::Cursor;
 use super::reader::Number;
 use super::reader::digits::read_number;
 use super::reader::if_held;
 use super::reader::operands::read_operand;
+use rows::Row;
 use rules::Answer;
 use rules::Form;
+use rules::Recovered;
 
-// The operations are and, or, and-not, not and composition, from 1 on. Any other is malformed.
+const RECOVERY: u64 = 6;
+
+// The operations are and, or, and-not, not, composition and recovery, from 1 on. Any other is malformed.
 fn read_operation(text: &[u8], cursor: Cursor) -> Number {
     let operation = read_number(text, cursor);
     let value = operation.value;
     let next = match value {
-        1..=5 => operation.next,
+        1..=RECOVERY => operation.next,
         _ => if_held(operation.next, false),
     };
     Number { value, next }
+}
+
+// What only a recovery tells is 0.
+fn no_row(answer: Answer) -> Recovered {
+    Recovered {
+        answer,
+        outside: Row(0),
+    }
 }
 
 fn operate(
@@ -31,13 +46,14 @@ fn operate(
     bwords: &[u64],
     brows: &[u32],
     out: &mut [u64],
-) -> Answer {
+) -> Recovered {
     match operation {
-        1 => bitops::and(a, awords, arows, b, bwords, brows, out),
-        2 => bitops::or(a, awords, arows, b, bwords, brows, out),
-        3 => bitops::and_not(a, awords, arows, b, bwords, brows, out),
-        4 => bitops::not(a, awords, arows, out),
-        _ => intersect_by_rank::intersect_by_rank(a, awords, arows, b, bwords, brows, out),
+        1 => no_row(bitops::and(a, awords, arows, b, bwords, brows, out)),
+        2 => no_row(bitops::or(a, awords, arows, b, bwords, brows, out)),
+        3 => no_row(bitops::and_not(a, awords, arows, b, bwords, brows, out)),
+        4 => no_row(bitops::not(a, awords, arows, out)),
+        5 => no_row(intersect_by_rank::intersect_by_rank(a, awords, arows, b, bwords, brows, out)),
+        _ => recover::recover(a, awords, arows, b, bwords, brows, out),
     }
 }
 
@@ -54,10 +70,14 @@ fn answer(
     brows: &[u32],
     out: &mut [u64],
 ) -> Outcome {
-    let answer = operate(operation, a, awords, arows, b, bwords, brows, out);
+    let given = operate(operation, a, awords, arows, b, bwords, brows, out);
+    let answer = given.answer;
     let expected = read_expected(text, cursor);
-    let after = super::reader::words::compare(text, expected.next, out);
-    outcome_of(finding_of(answer, expected), after.same, after.next)
+    let row = read_row(text, expected.next, operation == RECOVERY);
+    let after = super::reader::words::compare(text, row.next, out);
+    let same = given.outside.0 == row.value;
+    let finding = and_then(finding_of(answer, expected), same, Finding::RowDiffers);
+    outcome_of(finding, after.same, after.next)
 }
 
 fn run_operation(

@@ -1,6 +1,8 @@
 //! Compositions by rank: a series for each route over the densities of self, and some of them with unaligned masks.
 use compare::answer::{REFUSAL, ROUTE};
 use compare::operand::{ALL, LIST, Operand, WORDS};
+use compare::ours::LentPair;
+use compare::ours::Operation::Composition;
 use compare::random::Random;
 use compare::rules::{self, LIMIT};
 use compare::{ours, theirs};
@@ -100,7 +102,7 @@ pub fn the_same(a: &Operand, b: &Operand) -> u64 {
 
 /// Seconds for one composition, ours with all checks of both operands.
 pub fn time(turns: usize, a: &Operand, b: &Operand) -> Times {
-    let mut lent = ours::LentComposition::new(a, b, &vec![0; a.length.div_ceil(64) as usize]);
+    let mut lent = LentPair::new(Composition, a, b, &vec![0; a.length.div_ceil(64) as usize]);
     let mut bmi2 = || theirs_once(a, b, true);
     best_of(
         turns,

@@ -1,7 +1,7 @@
 //! How long ours takes beside the Rust crate: tables on the terminal and in SPEED.md, and a plot, speed.svg. Ours is
 //! called through probe with all its checks; the crate stands on this workspace's buffers. Words: FOLDER PLACE EARLIER,
 //! the folder to write to, what the program runs on, and a file that keeps the best times from run to run. With --runs in
-//! place of the folder, the section of runs alone, to standard output.
+//! place of the folder, the sections of runs and of recovery alone, to standard output.
 mod clock;
 mod compositions;
 mod conversions;
@@ -9,6 +9,7 @@ mod earlier;
 mod masks;
 mod operations;
 mod plot;
+mod recoveries;
 mod runs;
 mod runs_table;
 mod table;
@@ -31,23 +32,28 @@ fn main() {
     };
     let earlier = Path::new(&earlier);
     if folder == "--runs" {
-        print!("{}", section_of_runs(&place, earlier));
+        print!("{}", sections(&place, earlier));
         return;
     }
     println!("on {place}; the best of several turns of each");
     let mut parts = timed();
     best(parts.iter_mut().flat_map(|part| &mut part.lines).map(|line| &mut line.times).collect(), earlier);
-    let runs = section_of_runs(&place, earlier);
-    write(&folder, "SPEED.md", &told(&place, &parts, &runs));
+    let sections = sections(&place, earlier);
+    write(&folder, "SPEED.md", &told(&place, &parts, &sections));
     write(&folder, "speed.svg", &plot::drawing(&place, &parts));
 }
 
-/// Its times are kept in a file of their own.
-fn section_of_runs(place: &str, earlier: &Path) -> String {
-    let mut table = Table::default();
-    runs::fill(&mut table);
-    best(table.sides(), &earlier.with_extension("runs"));
-    format!("## Runs\n\n{}\n{}", RUNS.replace("PLACE", place), table.markdown())
+/// Of runs and of recovery. The times of each are kept in a file of their own.
+fn sections(place: &str, earlier: &Path) -> String {
+    let mut runs = Table::new("rank mask");
+    runs::fill(&mut runs);
+    best(runs.sides(), &earlier.with_extension("runs"));
+    let mut recovery = Table::new("second mask");
+    recoveries::fill(&mut recovery);
+    best(recovery.sides(), &earlier.with_extension("recovery"));
+    let [runs, recovery] = [("Runs", RUNS, runs), ("Recovery", RECOVERY, recovery)]
+        .map(|(title, about, table)| format!("## {title}\n\n{}\n{}", about.replace("PLACE", place), table.markdown()));
+    format!("{runs}\n{recovery}")
 }
 
 fn best<T: Kept>(lines: Vec<&mut T>, earlier: &Path) {
@@ -124,9 +130,18 @@ library's memset of the same 131,072 bytes, and ours of none. A line over its bo
 masks, made before the clock starts. To runs has no bound: beside it is the same call to a list.
 ";
 
-fn told(place: &str, parts: &[Part], runs: &str) -> String {
+const RECOVERY: &str = "\
+From rows back to ranks, in blocks of 1,048,576 rows, timed on PLACE, with the section above. The crate has no such call.
+
+Words beside words: self at each density, and the second mask is what a composition leaves of it with a rank mask in words, of which about half
+the ranks are set; beside the recovery is that composition, by route 9 or 10. The bound is 1.3. With runs: self is so many long runs, which hold half of the
+rows, and some of its ranks are kept, at density 0.1 or 0.5 or in as many runs; or the second mask is such runs, and self has scattered rows beside
+them. A recovery takes at most as long as with the same masks in words.
+";
+
+fn told(place: &str, parts: &[Part], sections: &str) -> String {
     let tables: Vec<String> = parts.iter().map(Part::markdown).collect();
-    format!("{}\n{}\n{runs}", HEAD.replace("PLACE", place), tables.join("\n"))
+    format!("{}\n{}\n{sections}", HEAD.replace("PLACE", place), tables.join("\n"))
 }
 
 const HEAD: &str = "\

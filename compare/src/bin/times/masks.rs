@@ -31,6 +31,17 @@ impl Rows {
         Rows { length, words }
     }
 
+    /// As words from bit 0 on, clear past the length.
+    pub fn of_words(length: u64, words: Vec<u64>) -> Self {
+        Rows { length, words }
+    }
+
+    /// The rows of either; both have the same length.
+    pub fn or(&self, other: &Rows) -> Self {
+        let words = self.words.iter().zip(&other.words).map(|(one, other)| one | other).collect();
+        Rows { length: self.length, words }
+    }
+
     /// Row 0, 64, 128 and so on.
     pub fn every_64th(length: u64) -> Self {
         Rows { length, words: vec![1; length.div_ceil(64) as usize] }

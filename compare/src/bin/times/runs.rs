@@ -5,7 +5,8 @@ use std::cell::RefCell;
 use compare::answer::REFUSAL;
 use compare::lent::Lent;
 use compare::operand::{LIST, NONE, Operand, RUNS, WORDS};
-use compare::ours::{self, LentComposition};
+use compare::ours::Operation::Composition;
+use compare::ours::{self, LentPair};
 use compare::random::Random;
 use compare::rules::{self, LIMIT};
 use switched_std::cpu;
@@ -16,13 +17,13 @@ use crate::conversions::{LentConversion, clear};
 use crate::masks::Rows;
 use crate::runs_table::{Sides, Table};
 
-const COUNTS: [u64; 3] = [1, 52, 1_000];
-const DENSITIES: [f64; 2] = [0.1, 0.5]; // of the operand in words
-const LONG: f64 = 0.5; // the density of a mask of runs
+pub const COUNTS: [u64; 3] = [1, 52, 1_000];
+pub const DENSITIES: [f64; 2] = [0.1, 0.5]; // of the operand in words
+pub const LONG: f64 = 0.5; // the density of a mask of runs
 const SHORT: f64 = 0.01; // as a rank mask: by route 6
 const COMPOSITIONS: usize = 25; // turns
 const CONVERSIONS: usize = 400;
-const WORDS_OUT: usize = (LIMIT / 64) as usize;
+pub const WORDS_OUT: usize = (LIMIT / 64) as usize;
 
 pub fn fill(table: &mut Table) {
     compositions(table);
@@ -34,7 +35,7 @@ pub fn fill(table: &mut Table) {
 }
 
 /// With the density.
-fn described(rows: &Rows, form: u64) -> String {
+pub fn described(rows: &Rows, form: u64) -> String {
     let density = rows.count() as f64 / rows.length as f64;
     match form {
         RUNS => format!("{}, {density:.2}", counted_runs(rows)),
@@ -133,8 +134,8 @@ fn time(pair: &[Operand; 2], other: &[Operand; 2], [own, ranks]: &[Operand; 2]) 
     Sides { ours: least[0], beside: least[1], portable: Some(least[2]), bmi2: has_bmi2.then(|| least[3]) }
 }
 
-fn lent([a, b]: &[Operand; 2]) -> LentComposition<'_> {
-    LentComposition::new(a, b, &vec![0; WORDS_OUT])
+fn lent([a, b]: &[Operand; 2]) -> LentPair<'_> {
+    LentPair::new(Composition, a, b, &vec![0; WORDS_OUT])
 }
 
 // ---- conversions

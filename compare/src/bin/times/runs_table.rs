@@ -1,8 +1,8 @@
-//! The table of runs: a call of ours beside another, and the bound that the pair is held to.
+//! The tables of runs and of recovery: a call of ours beside another, and the bound that the pair is held to.
 use crate::clock::Kept;
 use crate::table::{number, ratio};
 
-/// Seconds of a call with runs, of what stands beside it, and of the crate where it has such a call.
+/// Seconds of a call, of what stands beside it, and of the crate where it has such a call.
 #[derive(Clone, Copy)]
 pub struct Sides {
     pub ours: f64,
@@ -28,23 +28,28 @@ impl Kept for Sides {
 }
 
 struct Line {
-    /// The call, self or the one operand, the rank mask.
+    /// The call, self or the one operand, the second one.
     cells: Vec<String>,
     beside: &'static str,
     bound: Option<f64>,
     sides: Sides,
 }
 
-#[derive(Default)]
+/// With the name of its lines' second operand.
 pub struct Table {
+    second: &'static str,
     lines: Vec<Line>,
 }
 
 const HEAD: [&str; 11] =
-    ["call", "self", "rank mask", "beside", "ours", "beside it", "ratio", "at most", "mark", "portable", "BMI2"];
+    ["call", "self", "SECOND", "beside", "ours", "beside it", "ratio", "at most", "mark", "portable", "BMI2"];
 const TEXTS: usize = 4; // columns of words, to the left
 
 impl Table {
+    pub fn new(second: &'static str) -> Self {
+        Table { second, lines: Vec::new() }
+    }
+
     /// The line is told on standard error too, as it comes: standard output may be for the table alone.
     pub fn add(&mut self, cells: Vec<String>, beside: &'static str, bound: Option<f64>, sides: Sides) {
         let line = Line { cells, beside, bound, sides };
@@ -62,7 +67,7 @@ impl Table {
         let over = self.lines.iter().filter(|line| line.is_over()).count();
         let counted = format!("{over} of the {bounded} lines with a bound are over it.");
         let under = (0..HEAD.len()).map(|i| if i < TEXTS { "---" } else { "--:" }.to_string()).collect();
-        let head = HEAD.map(str::to_string).to_vec();
+        let head = HEAD.map(|name| name.replace("SECOND", self.second)).to_vec();
         let rows = self.lines.iter().map(Line::row);
         let table: Vec<String> =
             [head, under].into_iter().chain(rows).map(|cells| format!("| {} |", cells.join(" | "))).collect();

@@ -7,10 +7,10 @@ use Rattle.recorded.proofs.feeds.run_feeds.Statement.{statement}
 use Rattle.recorded.proofs.feeds.run_feeds.Tie as tie
 
 abbrev Inv-loop : tie.InvT-loop
-Inv-loop text total out₀ state₀ next₀ left₀ out state next left = length out ≡ length out₀
+Inv-loop text stream total out₀ state₀ next₀ left₀ out state next left = length out ≡ length out₀
 
 abbrev μ-loop : tie.MeasureT-loop
-μ-loop text total out₀ state₀ next₀ left₀ out state next left = left
+μ-loop text stream total out₀ state₀ next₀ left₀ out state next left = left
 
 fresh-requires : tie.Need-fresh-requires Inv-loop μ-loop
 fresh-requires c κs = search needs
