@@ -118,9 +118,9 @@ module _ (κs : Lfts 5) (a : Dens κs kinds.ps) (x : resT kinds.r κs .Denot) (v
       rw (composes .0, composes .1, same, mask, allowed .0, allowed .1) (recovered-composes (self κs a) (other κs a) (out κs a) t published (composed-out κt b) room)
 
   -- recovering from what was composed gives the rank mask back
-  pub back-and-there : Composes (composed-self κt b) (rank-mask κt b) (length (composed-out κt b)) → wordsFor (countOf (self κs a)) ≤ length (out κs a)
+  pub back-and-there : Composes (composed-self κt b) (rank-mask κt b) (length (composed-out κt b)) → wordsFor (countOf (composed-self κt b)) ≤ length (out κs a)
       → self κs a ≡ composed-self κt b → other κs a ≡ asWords (lengthOf (composed-self κt b .form)) composed (composed-left κt b w)
       → Gives (rank-mask κt b) (countOf (composed-self κt b)) (recovered .answer) (left κs a v)
   back-and-there t room same mask =
       rw (allowed .0, allowed .1, same, mask, composes .0, composes .1)
-      (composed-recovers (composed-self κt b) (rank-mask κt b) published (composed-out κt b) t (out κs a) (rw same at room))
+      (composed-recovers (composed-self κt b) (rank-mask κt b) published (composed-out κt b) t (out κs a) room)
