@@ -4,6 +4,7 @@ use crate::answer::Answer;
 use crate::checks::{Outcome, same_answer};
 use crate::lent::Lent;
 use crate::operand::{ALL, LIST, NONE, Operand, RUNS, WORDS};
+use crate::ours::Operation::Composition;
 use crate::ours::Told;
 use crate::probe::{boltamber_deposit, boltamber_select};
 use crate::rules::{Expected, LIMIT};
@@ -106,7 +107,7 @@ impl Examples {
         expected: Answer,
         first: u64,
     ) -> Outcome {
-        self.call(name, &ours::feed(state, a, b, out)?, &rules::feed(state, a, b, out), expected, first)
+        self.call(name, &ours::feed(Composition, state, a, b, out)?, &rules::feed(state, a, b, out), expected, first)
     }
 
     /// With an output as long as the text, and with one that is a byte shorter.

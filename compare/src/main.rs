@@ -5,6 +5,7 @@ use std::time::{Instant, SystemTime, UNIX_EPOCH};
 use std::{env, process};
 
 use compare::checks::Outcome;
+use compare::ours::Operation::{Composition, Recovery};
 use compare::probe::OURS;
 use compare::tally::Tally;
 use compare::{compositions, examples, feeds, programs, recoveries, refusals, sets, small, without_room, words};
@@ -122,10 +123,12 @@ fn first_half(plan: &Plan, seed: u64, tally: &mut Tally) -> Outcome {
 fn second_half(plan: &Plan, seed: u64, tally: &mut Tally) -> Outcome {
     refusals::run(plan.refusals, seed, tally)?;
     without_room::run(plan.refusals / 10, seed, tally)?;
-    feeds::run(plan.streams, seed, tally)?;
+    feeds::run(Composition, plan.streams, seed, tally)?;
+    feeds::run(Recovery, plan.streams / 2, seed, tally)?;
     programs::run(plan.programs, seed, tally)?;
     compositions::blocks(plan.blocks, seed, tally)?;
-    feeds::blocks(plan.blocks / 3, seed, tally)?;
+    feeds::blocks(Composition, plan.blocks / 3, seed, tally)?;
+    feeds::blocks(Recovery, plan.blocks / 3, seed, tally)?;
     recoveries::run(plan.recoveries, seed, tally)?;
     recoveries::blocks(plan.blocks / 3, seed, tally)
 }

@@ -323,6 +323,40 @@ pub unsafe fn probe_feed(
     }
 }
 
+pub unsafe fn probe_recover_feed(
+    done: u64, ranks: u64, kept: u64,
+    a_form: u64, a_length: u64, a_start: u64, a_claimed: u64,
+    a_words: *const u64, a_nwords: usize, a_rows: *const u32, a_nrows: usize,
+    b_form: u64, b_length: u64, b_start: u64, b_claimed: u64,
+    b_words: *const u64, b_nwords: usize, b_rows: *const u32, b_nrows: usize,
+    out: *mut u64, nout: usize, ans: *mut u64, nans: usize, den: *mut f64, nden: usize,
+) {
+    if nans < 16 || nden < 1 {
+        return;
+    }
+    unsafe {
+        let a = operand(a_form, a_length, a_start, a_claimed, a_words, a_nwords, a_rows, a_nrows);
+        let b = operand(b_form, b_length, b_start, b_claimed, b_words, b_nwords, b_rows, b_nrows);
+        let before = slice::from_raw_parts(out, nout);
+        let mut expected = rules::recovery_feed([done, ranks, kept], &a, &b, before);
+        let accepted = expected.answer.cells[0] == 0;
+        if fault("a feed of recovery clears the rest of its word") && accepted && expected.answer.cells[6] % 64 != 0 {
+            let end = expected.answer.cells[6];
+            expected.out[(end / 64) as usize] &= !(u64::MAX << (end % 64));
+        }
+        if fault("a feed of recovery moves done by its ranks") && accepted {
+            expected.answer.cells[5] = done + rules::set_count(&a);
+        }
+        if fault("17 counts from the stream's start") && expected.answer.cells[0] == 17 {
+            expected.answer.cells[OUTSIDE] += done;
+        }
+        if fault("17 hands a fresh state back") && expected.answer.cells[0] == 17 {
+            expected.answer = expected.answer.with_state([0; 3]);
+        }
+        written(expected, out, nout, ans, den);
+    }
+}
+
 pub unsafe fn probe_program(
     input: *const u8, ninput: usize, out: *mut u8, nout: usize,
     ans: *mut u64, nans: usize, den: *mut f64, nden: usize,

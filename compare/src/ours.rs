@@ -84,7 +84,8 @@ pub fn to_runs(a: &Operand, out: &[u32]) -> Result<Told<u32>, String> {
     ended(&[&lent], &out, &answer)
 }
 
-#[derive(Clone, Copy)]
+/// Of two masks, whole or in pieces.
+#[derive(Clone, Copy, PartialEq)]
 pub enum Operation {
     Composition,
     Recovery,
@@ -168,14 +169,24 @@ pub fn set(which: u64, a: &Operand, b: &Operand, out: &[u64]) -> Result<Told<u64
     ended(&[&lent_a, &lent_b], &out, &answer)
 }
 
-pub fn feed(state: [u64; 3], a: &Operand, b: &Operand, out: &[u64]) -> Result<Told<u64>, String> {
+pub fn feed(
+    operation: Operation,
+    state: [u64; 3],
+    a: &Operand,
+    b: &Operand,
+    out: &[u64],
+) -> Result<Told<u64>, String> {
     let (mut lent_a, mut lent_b, mut out) = (LentOperand::new(a), LentOperand::new(b), Lent::new(out));
     let mut answer = AnswerMemory::new();
     let (ans, den) = (answer.cells(), answer.density());
     let [done, ranks, kept] = state;
+    let call = match operation {
+        Operation::Composition => probe::probe_feed,
+        Operation::Recovery => probe::probe_recover_feed,
+    };
     // SAFETY: as above.
     unsafe {
-        probe::probe_feed(
+        call(
             done, ranks, kept,
             a.form, a.length, a.start, a.claimed,
             lent_a.words.pointer(), lent_a.words.len(), lent_a.rows.pointer(), lent_a.rows.len(),

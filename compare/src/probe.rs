@@ -66,6 +66,12 @@ mod proved {
             b_form: u64, b_length: u64, b_start: u64, b_claimed: u64,
             b_words: *const u64, b_nwords: usize, b_rows: *const u32, b_nrows: usize,
             out: *mut u64, nout: usize, ans: *mut u64, nans: usize, den: *mut f64, nden: usize);
+        pub fn probe_recover_feed(done: u64, ranks: u64, kept: u64,
+            a_form: u64, a_length: u64, a_start: u64, a_claimed: u64,
+            a_words: *const u64, a_nwords: usize, a_rows: *const u32, a_nrows: usize,
+            b_form: u64, b_length: u64, b_start: u64, b_claimed: u64,
+            b_words: *const u64, b_nwords: usize, b_rows: *const u32, b_nrows: usize,
+            out: *mut u64, nout: usize, ans: *mut u64, nans: usize, den: *mut f64, nden: usize);
         pub fn probe_program(input: *const u8, ninput: usize, out: *mut u8, nout: usize,
             ans: *mut u64, nans: usize, den: *mut f64, nden: usize);
     }

@@ -4,6 +4,7 @@ use crate::answer::{Answer, OPERAND, REFUSAL};
 use crate::checks::{Outcome, by_the_rules, with_input};
 use crate::compositions::random_pair;
 use crate::operand::{ALL, CARRIERS, NONE, Operand, RUNS, WORDS, fitting_form, lend, random_rows};
+use crate::ours::Operation::{Composition, Recovery};
 use crate::ours::Told;
 use crate::random::Random;
 use crate::recoveries::random_recovery;
@@ -12,7 +13,7 @@ use crate::sets::as_numbers;
 use crate::tally::{Progress, Tally};
 use crate::{ours, rules};
 
-const CALLS: [&str; 7] = [
+const CALLS: [&str; 8] = [
     "composition",
     "set operation",
     "conversion to words",
@@ -20,6 +21,7 @@ const CALLS: [&str; 7] = [
     "conversion to runs",
     "feed",
     "recovery",
+    "feed of recovery",
 ];
 const UNKNOWN: usize = 18; // stands for 99
 
@@ -61,7 +63,8 @@ pub fn run(cases: u64, seed: u64, tally: &mut Tally) -> Outcome {
             3 => spoilt_to_list(&mut random)?,
             4 => spoilt_to_runs(&mut random)?,
             5 => spoilt_feed(&mut random)?,
-            _ => spoilt_recovery(&mut random)?,
+            6 => spoilt_recovery(&mut random)?,
+            _ => spoilt_recovery_feed(&mut random)?,
         };
         seen.note(call, &refused);
         progress.step();
@@ -117,7 +120,9 @@ fn every_refusal_occurred(seen: &Seen) -> Outcome {
     by_operand(5, &[1, 2, 3, 4, 5, 6, 14], &[1, 2])?;
     by_operand(5, &[0, 7, 8, 10, 11, UNKNOWN], &[0])?;
     by_operand(6, &[1, 2, 3, 4, 5, 6, 14], &[1, 2])?;
-    by_operand(6, &[0, 7, 8, 17, UNKNOWN], &[0])
+    by_operand(6, &[0, 7, 8, 17, UNKNOWN], &[0])?;
+    by_operand(7, &[1, 2, 3, 4, 5, 6, 14], &[1, 2])?;
+    by_operand(7, &[0, 7, 8, 10, 11, 17, UNKNOWN], &[0])
 }
 
 // ---- the calls
@@ -200,21 +205,15 @@ fn spoilt_feed(random: &mut Random) -> Outcome<Refused> {
     let near_limit = end > 100_000 && !random.one_in(50);
     let out = if near_limit { output(random.below(500), random) } else { output(end, random) };
     let compared = || {
-        let told = ours::feed(state, &a, &b, &out)?;
+        let told = ours::feed(Composition, state, &a, &b, &out)?;
         check(&told, &rules::feed(state, &a, &b, &out))
     };
     let answer = compared().map_err(|why| with_input(why, &format!("feed at state {state:?}"), &[&a, &b], &out))?;
     Ok(Refused { answer, held: held(&[&a, &b], false) })
 }
 
-/// Once in four times the second mask is any of its length, and most likely has a row outside self.
 fn spoilt_recovery(random: &mut Random) -> Outcome<Refused> {
-    let length = random.below(200);
-    let (mut a, mut b) = random_recovery(length, random);
-    if random.one_in(4) {
-        b = any_operand(length, 2, random);
-    }
-    spoil_pair(&mut a, &mut b, random);
+    let (a, b) = spoilt_masks(random);
     let out = output(a.length, random);
     let compared = || {
         let told = ours::recover(&a, &b, &out)?;
@@ -222,6 +221,32 @@ fn spoilt_recovery(random: &mut Random) -> Outcome<Refused> {
     };
     let answer = compared().map_err(|why| with_input(why, "recover", &[&a, &b], &out))?;
     Ok(Refused { answer, held: held(&[&a, &b], false) })
+}
+
+/// The output is as long as the ranks ask, or as done would.
+fn spoilt_recovery_feed(random: &mut Random) -> Outcome<Refused> {
+    let (a, b) = spoilt_masks(random);
+    let state = random_state(random);
+    let end = random.pick(&state[..2]).saturating_add(a.length);
+    let out = output(end.min(2_000), random);
+    let compared = || {
+        let told = ours::feed(Recovery, state, &a, &b, &out)?;
+        check(&told, &rules::recovery_feed(state, &a, &b, &out))
+    };
+    let call = format!("feed of recovery at state {state:?}");
+    let answer = compared().map_err(|why| with_input(why, &call, &[&a, &b], &out))?;
+    Ok(Refused { answer, held: held(&[&a, &b], false) })
+}
+
+/// Self and a second mask; once in four times that is any of the length, and most likely has a row outside self.
+fn spoilt_masks(random: &mut Random) -> (Operand, Operand) {
+    let length = random.below(200);
+    let (mut a, mut b) = random_recovery(length, random);
+    if random.one_in(4) {
+        b = any_operand(length, 2, random);
+    }
+    spoil_pair(&mut a, &mut b, random);
+    (a, b)
 }
 
 fn check<T: PartialEq + std::fmt::Debug>(told: &Told<T>, expected: &Expected<T>) -> Outcome<Answer> {

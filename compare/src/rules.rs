@@ -333,13 +333,15 @@ pub fn recover(a: &Operand, b: &Operand, out: &[u64]) -> Expected<u64> {
         return refused(7, 0, out);
     }
     let (own, kept) = (rows(a), rows(b));
-    match (0..own.len()).find(|&row| kept[row] && !own[row]) {
-        Some(row) => {
-            let answer = Answer::refused(17, 0).with_row_outside(row as u64);
-            Expected { answer, out: out.to_vec() }
-        }
+    match row_outside(&own, &kept) {
+        Some(row) => Expected { answer: Answer::refused(17, 0).with_row_outside(row), out: out.to_vec() },
         None => write_words(&ranks_kept(&own, &kept), 0, out),
     }
+}
+
+/// The first row of the second mask that is not self's.
+fn row_outside(own: &[bool], kept: &[bool]) -> Option<u64> {
+    (0..own.len()).find(|&row| kept[row] && !own[row]).map(|row| row as u64)
 }
 
 /// Rank r is set exactly if self's r-th row is kept.
@@ -395,39 +397,70 @@ pub fn route(a: &Operand, own: &[bool], b: &Operand, ranks: &[bool]) -> u64 {
     }
 }
 
-/// A feed: bits done to done + length - 1 of the output, and no other.
+/// A feed of the composer: bits done to done + length - 1 of the output, and no other.
 pub fn feed(state: [u64; 3], a: &Operand, b: &Operand, out: &[u64]) -> Expected<u64> {
-    if unknown_form(a) || unknown_form(b) {
-        return refused(UNKNOWN_FORM, 0, out);
+    let second_length = |own: &[bool]| count(own);
+    if let Some(refused) = feed_refused(state, a, b, second_length, out) {
+        return refused;
     }
-    let [done, ranks_before, kept] = state;
-    let refused_as_given =
+    let (own, ranks) = (rows(a), rows(b));
+    let route = route(a, &own, b, &ranks);
+    feed_written(state, &own, &laid_back(&own, &ranks), state[0], route, out)
+}
+
+/// A feed of recovery: a bit for each of the piece's set rows, from bit ranks of the output on. 17's row is the piece's own.
+pub fn recovery_feed(state: [u64; 3], a: &Operand, b: &Operand, out: &[u64]) -> Expected<u64> {
+    let second_length = |own: &[bool]| own.len() as u64;
+    if let Some(refused) = feed_refused(state, a, b, second_length, out) {
+        return refused;
+    }
+    let (own, kept) = (rows(a), rows(b));
+    match row_outside(&own, &kept) {
+        Some(row) => {
+            let answer = Answer::refused(17, 0).with_row_outside(row).with_state(state);
+            Expected { answer, out: out.to_vec() }
+        }
+        None => feed_written(state, &own, &ranks_kept(&own, &kept), state[1], 0, out),
+    }
+}
+
+/// Up to 11; the second piece is to be as long as `second_length` says of self's rows.
+fn feed_refused(
+    state: [u64; 3],
+    a: &Operand,
+    b: &Operand,
+    second_length: impl Fn(&[bool]) -> u64,
+    out: &[u64],
+) -> Option<Expected<u64>> {
+    if unknown_form(a) || unknown_form(b) {
+        return Some(refused(UNKNOWN_FORM, 0, out));
+    }
+    let [done, ranks, kept] = state;
+    let as_given =
         |number, operand| Expected { answer: Answer::refused(number, operand).with_state(state), out: out.to_vec() };
-    if !(kept <= ranks_before && ranks_before <= done && done <= LIMIT) {
-        return refused_as_given(10, 0);
+    if !(kept <= ranks && ranks <= done && done <= LIMIT) {
+        return Some(as_given(10, 0));
     }
     let (number, operand) = operands_refusal(a, b, false);
     if number != 0 {
-        return refused_as_given(number, operand);
+        return Some(as_given(number, operand));
     }
-    let own = rows(a);
-    let own_count = count(&own);
-    if b.length != own_count {
-        return refused_as_given(7, 0);
+    if b.length != second_length(&rows(a)) {
+        return Some(as_given(7, 0));
     }
-    if done + a.length > LIMIT {
-        return refused_as_given(11, 0);
+    (done + a.length > LIMIT).then(|| as_given(11, 0))
+}
+
+/// The result from bit `at` on, or 8; and the state moved past the piece.
+fn feed_written(state: [u64; 3], own: &[bool], result: &[bool], at: u64, route: u64, out: &[u64]) -> Expected<u64> {
+    let (written, mut after) = (result.len() as u64, out.to_vec());
+    if (out.len() as u64) < (at + written).div_ceil(64) {
+        return Expected { answer: Answer::refused(8, 0).with_state(state), out: after };
     }
-    if (out.len() as u64) < (done + a.length).div_ceil(64) {
-        return refused_as_given(8, 0);
-    }
-    let ranks = rows(b);
-    let result = laid_back(&own, &ranks);
-    let mut after = out.to_vec();
-    lay(&mut after, done as usize, &result);
-    let answer = Answer::summary(count(&result), a.length, route(a, &own, b, &ranks));
-    let state = [done + a.length, ranks_before + own_count, kept + count(&result)];
-    Expected { answer: answer.with_state(state), out: after }
+    lay(&mut after, at as usize, result);
+    let [done, ranks, kept] = state;
+    let state = [done + own.len() as u64, ranks + count(own), kept + count(result)];
+    Expected { answer: Answer::summary(count(result), written, route).with_state(state), out: after }
 }
 
 // ---- the program

@@ -7,7 +7,7 @@ use crate::probe;
 use crate::random::Random;
 use crate::tally::{Progress, Tally};
 
-const CALLS: u64 = 11;
+const CALLS: u64 = 12;
 const LINES: &[u8] = b"self=01101011\nrank=10010\n";
 
 /// Cells and densities lent, of which at least one is too few.
@@ -109,6 +109,11 @@ impl Memory {
                 9 => probe::probe_program(
                     self.lines.pointer(), self.lines.len(), self.text.pointer(), self.text.len(),
                     ans, nans, den, nden),
+                10 => probe::probe_recover_feed(
+                    0, 0, 0,
+                    a.form, a.length, a.start, a.claimed, a_words, a_nwords, a_rows, a_nrows,
+                    b.form, b.length, b.start, b.claimed, b_words, b_nwords, b_rows, b_nrows,
+                    out, nout, ans, nans, den, nden),
                 _ => probe::probe_feed(
                     0, 0, 0,
                     a.form, a.length, a.start, a.claimed, a_words, a_nwords, a_rows, a_nrows,

@@ -121,7 +121,7 @@ const YEAR: &str = "\
 
 const RUNS: &str = "\
 Masks that are a few long runs, lent as runs: blocks of 1,048,576 rows, timed on PLACE. `compare/run --times-of-runs` times this section
-alone. The runs are of about the same length, at random places, and half of the rows are in them, but for short ones as a rank mask, in which a
+and the next alone. The runs are of about the same length, at random places, and half of the rows are in them, but for short ones as a rank mask, in which a
 hundredth of the ranks are, and runs of one row, which are every 64th row.
 
 The bounds: a composition takes at most as long as with the same masks in words; a conversion to words at most twice the time of clearing the
@@ -131,7 +131,7 @@ masks, made before the clock starts. To runs has no bound: beside it is the same
 ";
 
 const RECOVERY: &str = "\
-From rows back to ranks, in blocks of 1,048,576 rows, timed on PLACE, with the section above. The crate has no such call.
+From rows back to ranks, in blocks of 1,048,576 rows, timed with the section above, on PLACE. The crate has no such call.
 
 Words beside words: self at each density, and the second mask is what a composition leaves of it with a rank mask in words, of which about half
 the ranks are set; beside the recovery is that composition, by route 9 or 10. The bound is 1.3. With runs: self is so many long runs, which hold half of the

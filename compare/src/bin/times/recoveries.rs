@@ -34,7 +34,7 @@ fn of_words(table: &mut Table) {
         rightly(&a, &k);
         let (recovery, composition) = (lent(Recovery, &a, &k), lent(Composition, &a, &b));
         let call = format!("recovery from route {route}");
-        let cells = vec![call, described(&own, WORDS), described(&kept, WORDS)];
+        let cells = vec![call, format!("words, {density}"), format!("words, {}", density * RANKS)];
         table.add(cells, "that composition", Some(BESIDE_COMPOSITION), time(recovery, composition));
     }
 }
