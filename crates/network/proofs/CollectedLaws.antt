@@ -96,7 +96,7 @@ peel-odd w s m x =
     let hit : bitAnd s (lowestSet (suc w) m) ≡ s % 2 = ap (bitAnd s) (lowestSet-odd w m x) ∙ and-mask s 1 in
     omega (arith, collected-odd w s m x)
 
-collected-peel : (w s m : ℕ) → collected w s m ≡ collected w s (withoutLowest w m) * 2 + min (bitAnd s (lowestSet w m)) 1
+pub collected-peel : (w s m : ℕ) → collected w s m ≡ collected w s (withoutLowest w m) * 2 + min (bitAnd s (lowestSet w m)) 1
 unfolding collected lowestSet withoutLowest
 collected-peel zero s m = sym (ap (λ (n : ℕ). 0 + min n 1) (and-zero-r s))
 collected-peel (suc w) s m = ⊎-elim (λ x. peel-even w s m x (collected-peel w (s / 2) (m / 2))) (peel-odd w s m) (digit m)

@@ -1,5 +1,5 @@
-// What our own crates call of the word layer: the two ways to deposit, which ask that the count is the mask's, deposit by either of them
-// with that checked, extract, which asks it too, and select.
+// What our own crates call of the word layer: the two ways to deposit and the two ways to extract, which ask that the count is the mask's,
+// deposit by either of its ways with that checked, and select.
 ghost use mathlib.Core.Path.{_≡_};
 ghost use lib.Count.{ones};
 ghost use Rattle.rows.specs.Word.{bitsOf};
@@ -10,6 +10,7 @@ use super::forms::deposit_two_holes;
 use super::forms::deposit_two_lowest;
 use super::forms::extract_two_holes;
 use super::forms::extract_two_lowest;
+use super::num::any;
 use super::num::if_odd;
 use super::num::lowest;
 use network::inner::deposit_bytewise;
@@ -76,6 +77,25 @@ pub fn extract_portable(source: u64, mask: u64, count: u32) -> u64
         62.. => extract_two_holes(source, mask),
         _ => extract_bytewise(source, mask),
     }
+}
+
+// The loop form of extract, for a sparse self: bit by bit, until the mask has no bit left.
+pub fn extract_portable_loop(source: u64, mask: u64, count: u32) -> u64
+    requires { ⌜ count ≡ ones mask ⌝ }
+    ensures { λ r. ⌜ r ≡ pext 64 source mask ⌝ }
+{
+    if count <= 2 {
+        return extract_two_lowest(source, mask);
+    }
+    let mut m = mask;
+    let mut k: u32 = 0;
+    let mut result: u64 = 0;
+    while m != 0 {
+        result |= any(source & lowest(m)) << k;
+        k += 1;
+        m &= m - 1;
+    }
+    result
 }
 
 // The position of the set bit that has the rank, and 64 where there is none. Bytes are skipped by their counts; in the byte
