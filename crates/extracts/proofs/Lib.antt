@@ -1,3 +1,5 @@
 pub mod RunBitLaws
 pub mod WalkLaws
+pub mod OverLaws
+pub mod OpenLaws
 pub mod ExtractLaws

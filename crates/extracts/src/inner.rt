@@ -1,67 +1,52 @@
 // The kernels: each lays the recovery from bit at on, a bit for each of self's set rows.
 ghost use mathlib.Core.Path.{_≡_};
-ghost use Prim.Native.Nat.{_+_, _≤_};
-ghost use lib.Count.{ones};
 ghost use denote.Ref.{now};
 ghost use Rattle.rows.specs.Rows.{count, recover};
-ghost use Rattle.rows.specs.Word.{bitsOf};
 ghost use Rattle.rows.specs.Words.{view};
-ghost use Rattle.rows.specs.Pdep.{pext};
 ghost use Rattle.rows.specs.Laid.{laid};
 ghost use Rattle.rows.specs.Asks.{Room, InView};
 ghost use Rattle.rules.specs.Operand.{lent, rowsOf, lengthOf, countOf, Accepted};
 use super::chunks::rows_in_chunk;
-use books::inner::put_ranks;
+use super::stores::lay_extract;
 use books::inner::self_chunk;
 use lent::inner::chunk_len;
 use operand::inner::forms::length_of;
 use rows::Rank;
 use rows::Row;
+use rows::Way;
 use rules::Form;
-use word::inner::extract_portable;
 
-// The ranks of one chunk laid from a rank on: a bit for each of its set rows. The rank after them.
-fn lay_extract(mask: u64, source: u64, at: u64, rank: Rank, out: &mut [u64]) -> Rank
-    requires { ⌜ (ones mask ≤ 64) × Room (at + rank .0) (ones mask) (now out) ⌝ }
-    ensures { λ r. ⌜ (r .0 ≡ rank .0 + ones mask) × (now (out .exit) ≡ laid (at + rank .0) (bitsOf (ones mask) (pext 64 source mask)) (now (out .entry))) ⌝ }
-{
-    let set = u64::count_ones(mask);
-    if set == 0 {
-        return rank;
-    }
-    let n = set as u64;
-    put_ranks(out, at, rank, n, extract_portable(source, mask, set));
-    let past = rank.0 + n;
-    Rank(past)
-}
-
-// Both masks in words.
+// Both masks in words; self has so many rows set.
 pub fn recover_words(
+    way: Way,
     words: &[u64],
     start: u64,
     len: u64,
+    set: u64,
     kept: &[u64],
     from: u64,
     at: u64,
     out: &mut [u64],
 )
-    requires { ⌜ InView start len (now words) × InView from len (now kept) × Room at (count (view start len (now words))) (now out) ⌝ }
+    requires { ⌜ InView start len (now words) × InView from len (now kept) × (set ≡ count (view start len (now words))) × Room at (count (view start len (now words))) (now out) ⌝ }
     ensures { λ _. ⌜ now (out .exit) ≡ laid at (recover (view start len (now (words .entry))) (view from len (now (kept .entry)))) (now (out .entry)) ⌝ }
 {
+    let end = at + set;
     let mut row = Row(0);
     let mut rank = Rank(0);
     while row.0 < len {
         let mask = self_chunk(words, start, len, row);
         let source = self_chunk(kept, from, len, row);
-        rank = lay_extract(mask, source, at, rank, out);
+        rank = lay_extract(way, mask, source, at, rank, end, out);
         let below = row.0 + 64;
         row = Row(below);
     }
 }
 
-// Two masks of one length in any forms.
+// Two masks of one length in any forms; self has so many rows set.
 pub fn recover_chunks(
     s: Form,
+    set: u64,
     swords: &[u64],
     srows: &[u32],
     k: Form,
@@ -71,10 +56,11 @@ pub fn recover_chunks(
     out: &mut [u64],
 )
     requires { ⌜ Accepted (lent s (now swords) (now srows)) × Accepted (lent k (now kwords) (now krows)) × (lengthOf k ≡ lengthOf s)
-        × Room at (countOf (lent s (now swords) (now srows))) (now out) ⌝ }
+        × (set ≡ countOf (lent s (now swords) (now srows))) × Room at (countOf (lent s (now swords) (now srows))) (now out) ⌝ }
     ensures { λ _. ⌜ now (out .exit) ≡ laid at (recover (rowsOf (lent s (now (swords .entry)) (now (srows .entry)))) (rowsOf (lent k (now (kwords .entry)) (now (krows .entry))))) (now (out .entry)) ⌝ }
 {
     let len = length_of(s);
+    let end = at + set;
     let mut row = Row(0);
     let mut rank = Rank(0);
     let mut own: usize = 0;
@@ -83,7 +69,15 @@ pub fn recover_chunks(
         let n = chunk_len(len, row.0);
         let mask = rows_in_chunk(s, swords, srows, own, row, n);
         let source = rows_in_chunk(k, kwords, krows, other, row, n);
-        rank = lay_extract(mask.bits, source.bits, at, rank, out);
+        rank = lay_extract(
+            Way::Network,
+            mask.bits,
+            source.bits,
+            at,
+            rank,
+            end,
+            out,
+        );
         own = mask.next;
         other = source.next;
         let below = row.0 + n;

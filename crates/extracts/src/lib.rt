@@ -2,4 +2,5 @@
 // calls it has checked the operands. Document 02, P6.
 mod chunks;
 pub mod inner;
+mod stores;
 mod walks;

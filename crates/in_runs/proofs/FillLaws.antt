@@ -17,7 +17,7 @@ use Rattle.rows.proofs.ListLaws.{tab-length}
 use Rattle.rows.proofs.RunTurnLaws.{NextRun}
 use Rattle.rows.proofs.RecoverLaws.{recover-append, recover-none, recover-all, inside-append}
 use Rattle.rows.proofs.ProgressLaws.{progress-as, progress-last}
-use Rattle.extracts.proofs.ExtractLaws.{Recovering, recovering-none, recovering-chunk, recovering-room}
+use Rattle.in_runs.proofs.RecoveringLaws.{Recovering, recovering-none, recovering-chunk, recovering-room}
 use Rattle.in_runs.proofs.PassLaws.{take-both, Passed, passed-none, passed-next, passed-end, passed-gap, passed-held, passed-run}
 
 -- the rows kept that are not in s, before a row and from it on

@@ -1,3 +1,4 @@
+pub mod RecoveringLaws
 pub mod PassLaws
 pub mod UnderRunLaws
 pub mod CountLaws

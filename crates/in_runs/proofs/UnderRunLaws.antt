@@ -18,7 +18,7 @@ use Rattle.rows.proofs.RunLaws.{runs-count, rows-sum}
 use Rattle.rows.proofs.RunTurnLaws.{NextRun}
 use Rattle.rows.proofs.RecoverLaws.{recover-length, recover-empty}
 use Rattle.rows.proofs.BehindLaws.{view-from}
-use Rattle.extracts.proofs.ExtractLaws.{Recovering, recovering-none, recovering-chunk, recovering-room}
+use Rattle.in_runs.proofs.RecoveringLaws.{Recovering, recovering-none, recovering-chunk, recovering-room}
 use Rattle.in_runs.proofs.PassLaws.{Passed, passed-none, passed-next, passed-end, passed-both, passed-run}
 
 -- unset rows have no rank, and set ones all

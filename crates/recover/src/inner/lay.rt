@@ -18,11 +18,20 @@ use operand::inner::forms::has_runs;
 use operand::inner::forms::has_words;
 use operand::inner::forms::length_of;
 use operand::inner::forms::start_of;
+use rows::Way;
 use rules::Form;
+
+// The loop form for a self as sparse as the one for which the route table names deposit's. Both give the same.
+fn way(set: u64, len: u64) -> Way {
+    if set < len / 16 {
+        return Way::Loop;
+    }
+    Way::Network
+}
 
 // The second mask in words.
 fn lay_kept_words(
-    s: Form,
+    s: Counted,
     swords: &[u64],
     srows: &[u32],
     k: Form,
@@ -31,20 +40,24 @@ fn lay_kept_words(
     at: u64,
     out: &mut [u64],
 )
-    requires { ⌜ Within (lent s (now swords) (now srows)) (lent k (now kwords) (now krows)) × (hasWords k ≡ true) × Room at (countOf (lent s (now swords) (now srows))) (now out) ⌝ }
-    ensures { λ _. ⌜ now (out .exit) ≡ laid at (recovery (lent s (now (swords .entry)) (now (srows .entry))) (lent k (now (kwords .entry)) (now (krows .entry)))) (now (out .entry)) ⌝ }
+    requires { ⌜ Within (lent (s .form) (now swords) (now srows)) (lent k (now kwords) (now krows)) × (hasWords k ≡ true) × Counts s (now swords) (now srows)
+        × Room at (countOf (lent (s .form) (now swords) (now srows))) (now out) ⌝ }
+    ensures { λ _. ⌜ now (out .exit) ≡ laid at (recovery (lent (s .form) (now (swords .entry)) (now (srows .entry))) (lent k (now (kwords .entry)) (now (krows .entry)))) (now (out .entry)) ⌝ }
 {
-    let len = length_of(s);
+    let own = s.form;
+    let set = s.count;
+    let len = length_of(own);
     let from = start_of(k);
-    if has_words(s) {
-        recover_words(swords, start_of(s), len, kwords, from, at, out);
+    if has_words(own) {
+        let start = start_of(own);
+        recover_words(way(set, len), swords, start, len, set, kwords, from, at, out);
         return;
     }
-    if has_runs(s) {
+    if has_runs(own) {
         recover_under_runs(srows, kwords, from, len, at, out);
         return;
     }
-    recover_chunks(s, swords, srows, k, kwords, krows, at, out);
+    recover_chunks(own, set, swords, srows, k, kwords, krows, at, out);
 }
 
 // A bit for each of self's set rows, from bit at on.
@@ -63,12 +76,12 @@ pub fn lay_recovery(
 {
     let own = s.form;
     if has_words(k) {
-        lay_kept_words(own, swords, srows, k, kwords, krows, at, out);
+        lay_kept_words(s, swords, srows, k, kwords, krows, at, out);
         return;
     }
     if has_runs(k) {
         recover_runs(own, s.count, swords, srows, krows, at, out);
         return;
     }
-    recover_chunks(own, swords, srows, k, kwords, krows, at, out);
+    recover_chunks(own, s.count, swords, srows, k, kwords, krows, at, out);
 }

@@ -10,9 +10,6 @@ use lib.ListN.{length, take, drop, length-take}
 use denote.Ref.{now}
 use borrow.Author.Needs.{needs}
 use Rattle.rows.specs.Rows.{count}
-use Rattle.rows.specs.Word.{bitsOf, wordOf}
-use Rattle.rows.specs.Pdep.{pext}
-use Rattle.rows.specs.Laid.{laid}
 use Rattle.rows.proofs.RowLaws.{count-take-le}
 use Rattle.rows.proofs.WordLaws.{ones-word}
 use Rattle.rows.proofs.LaidLaws.{below-all}
@@ -20,17 +17,17 @@ use Rattle.rules.specs.Operand.{Operand, lent, rowsOf, lengthOf}
 use Rattle.rules.proofs.OperandLaws.{accepted-length, accepted-count, accepted-limit}
 use Rattle.extracts.specs.Walk.{Came}
 use Rattle.extracts.proofs.WalkLaws.{came-first}
-use Rattle.extracts.proofs.ExtractLaws.{Recovering, recovering-none, recovering-chunk, recovering-room, recovering-end, chunk-part}
+use Rattle.extracts.proofs.ExtractLaws.{Extracting, extracting-none, extracting-chunk, extracting-room, extracting-end}
 use Rattle.extracts.proofs.inner.recover_chunks.Statement.{statement}
 use Rattle.extracts.proofs.inner.recover_chunks.Tie as tie
 
 abbrev Inv-loop : tie.InvT-loop
-Inv-loop s swords srows k kwords krows at out₀ len row₀ rank₀ own₀ other₀ out row rank own other =
+Inv-loop s set swords srows k kwords krows at out₀ len end row₀ rank₀ own₀ other₀ out row rank own other =
     (row .0 ≤ len) × Came (lent s swords srows) own (row .0) × Came (lent k kwords krows) other (row .0)
-    × Recovering (rowsOf (lent s swords srows)) (rowsOf (lent k kwords krows)) at (row .0) (rank .0) out₀ out
+    × Extracting (rowsOf (lent s swords srows)) (rowsOf (lent k kwords krows)) at (row .0) (rank .0) out₀ out
 
 abbrev μ-loop : tie.MeasureT-loop
-μ-loop s swords srows k kwords krows at out₀ len row₀ rank₀ own₀ other₀ out row rank own other = len - row .0
+μ-loop s set swords srows k kwords krows at out₀ len end row₀ rank₀ own₀ other₀ out row rank own other = len - row .0
 
 -- ---- the places, each from the one after it
 
@@ -113,19 +110,24 @@ module _ (c : tie.After-rows-in-chunk2 Inv-loop μ-loop) where
   room =
       let l = at-head t .loop in
       let b = begun t in
-      omega (arith, few, recovering-room (s b) (k b) (b .args .at) (same b) (row t) (l .rank .0) (now (b .args .out)) (l .out) (l .inv .3) (n t))
+      omega (arith, few, extracting-room (s b) (k b) (b .args .at) (same b) (row t) (l .rank .0) (now (b .args .out)) (l .out) (l .inv .3) (n t))
 
 -- ---- the answers
 
 length-of-requires : tie.Need-length-of-requires Inv-loop μ-loop
 length-of-requires c κs = search needs
 
+add-end : tie.Need-add-end Inv-loop μ-loop
+add-end c =
+    let p = entry c .pre in
+    omega (arith, p .3, p .4 .1)
+
 loop-holds : tie.Need-loop-holds Inv-loop μ-loop
 loop-holds c =
     let b = entry c in
     let out = now (b .args .out) in
     let known = below-all (2 ^ 64) out (λ i. c .before .slice-known .given i .fits) in
-    (omega arith, came-first (self b) (b .pre .0), came-first (other b) (b .pre .1), recovering-none (s b) (k b) (b .args .at) out known)
+    (omega arith, came-first (self b) (b .pre .0), came-first (other b) (b .pre .1), extracting-none (s b) (k b) (b .args .at) out known (omega (arith, accepted-count (self b) (b .pre .0), b .pre .4 .0)))
 
 chunk-len-requires : tie.Need-chunk-len-requires Inv-loop μ-loop
 chunk-len-requires c κs = omega arith
@@ -144,10 +146,12 @@ lay-extract-requires c κs =
     let m = c .before in
     let h = t m in
     let b = begun h in
-    let r = b .pre .3 in
-    let counted = accepted-count (self b) (b .pre .0) in (
+    let p = b .pre in
+    let counted = accepted-count (self b) (p .0) in (
       omega (arith, few m, count-take-le (n h) (drop (row h) (s b)), sized h),
-      (omega (arith, room m, r .0, counted, at-head h .loop .inv .3 .progress .long), omega (arith, room m, r .1, counted)),
+      omega (arith, room m, counted, p .3),
+      omega (arith, p .3, p .4 .0, at-head h .loop .inv .3 .progress .long),
+      omega (arith, p .3, p .4 .1),
     )
 
 add-below : tie.Need-add-below Inv-loop μ-loop
@@ -168,14 +172,15 @@ loop-again c =
     let b = begun h in
     let l = at-head h .loop in
     let own = masked m .rows-in-chunk in
-    let his = m .rows-in-chunk2 in (
+    let his = m .rows-in-chunk2 in
+    let end : b .args .at + b .args .set ≡ b .args .at + count (s b) =
+    ap (λ (x : ℕ). b .args .at + x) (b .pre .3 ∙ sym (accepted-count (self b) (b .pre .0))) in (
       omega (arith, sized h, long h),
       own .ensures .1,
       his .ensures .1,
-      recovering-chunk (s b) (k b) (b .args .at) (same b) (row h) (l .rank .0) (now (b .args .out)) (l .out) (l .inv .3) (n h) _ _
-          (p .lay-extract .ensures .0 ∙ ap (λ (x : ℕ). l .rank .0 + x) (few m))
-          (p .lay-extract .ensures .1 ∙ chunk-part (s b) (k b) (same b) (row h) (n h) (sized h .1) (b .args .at + l .rank .0) (l .out)
-          (own .result .bits) (his .result .bits) (own .ensures .0) (his .ensures .0)),
+      extracting-chunk (s b) (k b) (b .args .at) (same b) (row h) (l .rank .0) (now (b .args .out)) (l .out) (l .inv .3) (n h) (sized h .1)
+          (b .args .at + b .args .set) (own .result .bits) (his .result .bits) _ end (own .ensures .0) (his .ensures .0)
+          (p .lay-extract .ensures .1) _ (p .lay-extract .ensures .0),
     )
 
 same-length : tie.Need-same-length Inv-loop μ-loop
@@ -185,7 +190,7 @@ returns : tie.Need-returns Inv-loop μ-loop
 returns c =
     let l = last c .loop in
     let b = entry (last c .before) in
-    recovering-end (s b) (k b) (b .args .at) (same b) (l .row .0) (l .rank .0) (now (b .args .out)) (l .out) (l .inv .3)
+    extracting-end (s b) (k b) (b .args .at) (same b) (l .row .0) (l .rank .0) (now (b .args .out)) (l .out) (l .inv .3)
     (omega (arith, s-long b, last c .before .length-of .ensures))
 
 pub recover-chunks-spec : {M : Type 1} → statement M
@@ -195,6 +200,7 @@ recover-chunks-spec =
     Inv-loop
     μ-loop
     length-of-requires
+    add-end
     loop-holds
     chunk-len-requires
     rows-in-chunk-requires

@@ -10,24 +10,21 @@ use lib.ListN.{length, take, drop, length-take}
 use denote.Ref.{now}
 use borrow.Author.Needs.{needs}
 use Rattle.rows.specs.Rows.{count}
-use Rattle.rows.specs.Word.{bitsOf, wordOf}
 use Rattle.rows.specs.Words.{view}
-use Rattle.rows.specs.Pdep.{pext}
-use Rattle.rows.specs.Laid.{laid}
 use Rattle.rows.proofs.RowLaws.{count-take-le}
 use Rattle.rows.proofs.WordLaws.{ones-word}
 use Rattle.rows.proofs.WordsLaws.{view-length}
 use Rattle.rows.proofs.LaidLaws.{below-all}
-use Rattle.extracts.proofs.ExtractLaws.{Recovering, recovering-none, recovering-chunk, recovering-room, recovering-end, chunk-part}
+use Rattle.extracts.proofs.ExtractLaws.{Extracting, extracting-none, extracting-chunk, extracting-room, extracting-end}
 use Rattle.extracts.proofs.inner.recover_words.Statement.{statement}
 use Rattle.extracts.proofs.inner.recover_words.Tie as tie
 
 abbrev Inv-loop : tie.InvT-loop
-Inv-loop words start len kept from at out₀ row₀ rank₀ out row rank =
-    (row .0 ≤ len + 63) × Recovering (view start len words) (view from len kept) at (row .0) (rank .0) out₀ out
+Inv-loop way words start len set kept from at out₀ end row₀ rank₀ out row rank =
+    (row .0 ≤ len + 63) × Extracting (view start len words) (view from len kept) at (row .0) (rank .0) out₀ out
 
 abbrev μ-loop : tie.MeasureT-loop
-μ-loop words start len kept from at out₀ row₀ rank₀ out row rank = len + 64 - row .0
+μ-loop way words start len set kept from at out₀ end row₀ rank₀ out row rank = len + 64 - row .0
 
 -- ---- the places, each from the one after it
 
@@ -87,16 +84,21 @@ module _ (c : tie.After-self-chunk2 Inv-loop μ-loop) where
   room =
       let l = head t .loop in
       let b = begun t in
-      omega (arith, few, recovering-room (s b) (k b) (b .args .at) (same b) (row t) (l .rank .0) (now (b .args .out)) (l .out) (l .inv .1) 64)
+      omega (arith, few, extracting-room (s b) (k b) (b .args .at) (same b) (row t) (l .rank .0) (now (b .args .out)) (l .out) (l .inv .1) 64)
 
 -- ---- the answers
+
+add-end : tie.Need-add-end Inv-loop μ-loop
+add-end c =
+    let p = entry c .pre in
+    omega (arith, p .2, p .3 .1)
 
 loop-holds : tie.Need-loop-holds Inv-loop μ-loop
 loop-holds c =
     let b = entry c in
     let out = now (b .args .out) in
     let known = below-all (2 ^ 64) out (λ i. c .slice-known .given i .fits) in
-    (omega arith, recovering-none (s b) (k b) (b .args .at) out known)
+    (omega arith, extracting-none (s b) (k b) (b .args .at) out known (b .pre .3 .0))
 
 self-chunk-requires : tie.Need-self-chunk-requires Inv-loop μ-loop
 self-chunk-requires c κs = (begun c .pre .0 .2, omega arith)
@@ -108,9 +110,11 @@ lay-extract-requires : tie.Need-lay-extract-requires Inv-loop μ-loop
 lay-extract-requires c κs =
     let m = c .before in
     let b = begun (t m) in
-    let r = b .pre .2 in (
+    let r = b .pre .3 in (
       omega (arith, few m, count-take-le 64 (drop (row (t m)) (s b))),
-      (omega (arith, room m, r .0, head (t m) .loop .inv .1 .progress .long), omega (arith, room m, r .1)),
+      omega (arith, room m, b .pre .2),
+      omega (arith, b .pre .2, r .0, head (t m) .loop .inv .1 .progress .long),
+      omega (arith, b .pre .2, r .1),
     )
 
 add-below : tie.Need-add-below Inv-loop μ-loop
@@ -127,12 +131,12 @@ loop-again c =
     let m = taken p in
     let h = t m in
     let b = begun h in
-    let l = head h .loop in (
+    let l = head h .loop in
+    let end : b .args .at + b .args .set ≡ b .args .at + count (s b) = ap (λ (n : ℕ). b .args .at + n) (b .pre .2) in (
       omega arith,
-      recovering-chunk (s b) (k b) (b .args .at) (same b) (row h) (l .rank .0) (now (b .args .out)) (l .out) (l .inv .1) 64 _ _
-          (p .lay-extract .ensures .0 ∙ ap (λ (n : ℕ). l .rank .0 + n) (few m))
-          (p .lay-extract .ensures .1 ∙ chunk-part (s b) (k b) (same b) (row h) 64 (omega arith) (b .args .at + l .rank .0) (l .out)
-          (masked m .self-chunk .result) (m .self-chunk2 .result) (masked m .self-chunk .ensures) (m .self-chunk2 .ensures)),
+      extracting-chunk (s b) (k b) (b .args .at) (same b) (row h) (l .rank .0) (now (b .args .out)) (l .out) (l .inv .1) 64 (omega arith)
+          (b .args .at + b .args .set) (masked m .self-chunk .result) (m .self-chunk2 .result) _ end (masked m .self-chunk .ensures) (m .self-chunk2 .ensures)
+          (p .lay-extract .ensures .1) _ (p .lay-extract .ensures .0),
     )
 
 same-length : tie.Need-same-length Inv-loop μ-loop
@@ -142,7 +146,7 @@ returns : tie.Need-returns Inv-loop μ-loop
 returns c =
     let l = last c .loop in
     let b = entry (last c .before) in
-    recovering-end (s b) (k b) (b .args .at) (same b) (l .row .0) (l .rank .0) (now (b .args .out)) (l .out) (l .inv .1) (omega (arith, s-long b))
+    extracting-end (s b) (k b) (b .args .at) (same b) (l .row .0) (l .rank .0) (now (b .args .out)) (l .out) (l .inv .1) (omega (arith, s-long b))
 
 pub recover-words-spec : {M : Type 1} → statement M
 recover-words-spec =
@@ -150,6 +154,7 @@ recover-words-spec =
     (tie.spec
     Inv-loop
     μ-loop
+    add-end
     loop-holds
     self-chunk-requires
     self-chunk-requires-2
