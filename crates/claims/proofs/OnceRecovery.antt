@@ -46,6 +46,8 @@ use Rattle.books.proofs.inner.put_ranks.Kinds as put-ranks-kinds
 use Rattle.books.proofs.inner.put_ranks.Reads as put-ranks
 use Rattle.word.proofs.inner.extract_portable.Kinds as extract-portable-kinds
 use Rattle.word.proofs.inner.extract_portable.Reads as extract-portable
+use Rattle.word.proofs.inner.extract_portable_loop.Kinds as extract-portable-loop-kinds
+use Rattle.word.proofs.inner.extract_portable_loop.Reads as extract-portable-loop
 use Rattle.network.proofs.inner.extract_bytewise.Kinds as extract-bytewise-kinds
 use Rattle.network.proofs.inner.extract_bytewise.Reads as extract-bytewise
 
@@ -84,10 +86,10 @@ recover-recover-within-one κs a p x y v w hv hw =
     (hv .0 ∙ sym (hw .0), ap (λ (l : List ℕ). (tt, (tt, (tt, (tt, (tt, (tt, (l, tt)))))))) (hv .1 ∙ sym (hw .1)))
 
 pub extracts-recover-words-one : OneAnswer 3 recover-words-kinds.ps recover-words-kinds.r recover-words.Pre recover-words.Post
-extracts-recover-words-one κs a p x y v w hv hw = (refl, ap (λ (l : List ℕ). (tt, (tt, (tt, (tt, (tt, (tt, (l, tt)))))))) (hv ∙ sym hw))
+extracts-recover-words-one κs a p x y v w hv hw = (refl, ap (λ (l : List ℕ). (tt, (tt, (tt, (tt, (tt, (tt, (tt, (tt, (l, tt)))))))))) (hv ∙ sym hw))
 
 pub extracts-recover-chunks-one : OneAnswer 5 recover-chunks-kinds.ps recover-chunks-kinds.r recover-chunks.Pre recover-chunks.Post
-extracts-recover-chunks-one κs a p x y v w hv hw = (refl, ap (λ (l : List ℕ). (tt, (tt, (tt, (tt, (tt, (tt, (tt, (l, tt))))))))) (hv ∙ sym hw))
+extracts-recover-chunks-one κs a p x y v w hv hw = (refl, ap (λ (l : List ℕ). (tt, (tt, (tt, (tt, (tt, (tt, (tt, (tt, (l, tt)))))))))) (hv ∙ sym hw))
 
 pub in-runs-recover-under-runs-one : OneAnswer 3 under-runs-kinds.ps under-runs-kinds.r under-runs.Pre under-runs.Post
 in-runs-recover-under-runs-one κs a p x y v w hv hw = (refl, ap (λ (l : List ℕ). (tt, (tt, (tt, (tt, (tt, (l, tt))))))) (hv ∙ sym hw))
@@ -117,6 +119,9 @@ books-put-ranks-one κs a p x y v w hv hw = (refl, ap (λ (l : List ℕ). (l, (t
 
 pub word-extract-portable-one : OneAnswer 0 extract-portable-kinds.ps extract-portable-kinds.r extract-portable.Pre extract-portable.Post
 word-extract-portable-one κs a p x y v w hv hw = (hv ∙ sym hw, refl)
+
+pub word-extract-portable-loop-one : OneAnswer 0 extract-portable-loop-kinds.ps extract-portable-loop-kinds.r extract-portable-loop.Pre extract-portable-loop.Post
+word-extract-portable-loop-one κs a p x y v w hv hw = (hv ∙ sym hw, refl)
 
 pub network-extract-bytewise-one : OneAnswer 0 extract-bytewise-kinds.ps extract-bytewise-kinds.r extract-bytewise.Pre extract-bytewise.Post
 network-extract-bytewise-one κs a p x y v w hv hw = (hv ∙ sym hw, refl)

@@ -39,7 +39,7 @@ module _ (c : tie.After-has-words) where
   s = start c
 
   abbrev self : Operand
-  self = lent (s .args .s) (now (s .args .swords)) (now (s .args .srows))
+  self = lent (s .args .s .form) (now (s .args .swords)) (now (s .args .srows))
 
   abbrev other : Operand
   other = lent (s .args .k) (now (s .args .kwords)) (now (s .args .krows))
@@ -50,7 +50,7 @@ module _ (c : tie.After-has-words) where
   abbrev from : ℕ
   from = measured c .start-of .result
 
-  long : len ≡ lengthOf (s .args .s)
+  long : len ≡ lengthOf (s .args .s .form)
   long = measured c .before .length-of .ensures
 
   his : InView (startOf (s .args .k)) (lengthOf (s .args .k)) (now (s .args .kwords)) × (rowsOf other ≡ view (startOf (s .args .k)) (lengthOf (s .args .k)) (now (s .args .kwords)))
@@ -71,7 +71,7 @@ module _ (c : tie.After-start-of2) where
   abbrev t : tie.After-has-words
   t = c .before .before
 
-  own : InView (startOf (s t .args .s)) (lengthOf (s t .args .s)) (now (s t .args .swords)) × (rowsOf (self t) ≡ view (startOf (s t .args .s)) (lengthOf (s t .args .s)) (now (s t .args .swords)))
+  own : InView (startOf (s t .args .s .form)) (lengthOf (s t .args .s .form)) (now (s t .args .swords)) × (rowsOf (self t) ≡ view (startOf (s t .args .s .form)) (lengthOf (s t .args .s .form)) (now (s t .args .swords)))
   own = accepted-words (self t) (sym (t .has-words .ensures) ∙ c .before .if1 .taken) (s t .pre .0 .self)
 
   own-rows : view (c .start-of2 .result) (len t) (now (s t .args .swords)) ≡ rowsOf (self t)
@@ -81,10 +81,13 @@ module _ (c : tie.After-start-of2) where
   own-view =
       subst (λ (p : ℕ × ℕ). InView (p .0) (p .1) (now (s t .args .swords))) (λ i. (sym (c .start-of2 .ensures) i, sym (long t) i)) (own .0)
 
+  counted : s t .args .s .count ≡ count (view (c .start-of2 .result) (len t) (now (s t .args .swords)))
+  counted = s t .pre .2 ∙ sym (ap count own-rows ∙ accepted-count (self t) (s t .pre .0 .self))
+
   room : Room (s t .args .at) (count (view (c .start-of2 .result) (len t) (now (s t .args .swords)))) (now (s t .args .out))
   room =
       subst (λ (n : ℕ). Room (s t .args .at) n (now (s t .args .out)))
-      (sym (ap count own-rows ∙ accepted-count (self t) (s t .pre .0 .self))) (s t .pre .2)
+      (sym (ap count own-rows ∙ accepted-count (self t) (s t .pre .0 .self))) (s t .pre .3)
 
 -- ---- self in runs
 
@@ -95,7 +98,7 @@ module _ (c : tie.Then2) where
   abbrev runs : List ℕ
   runs = now (s u .args .srows)
 
-  in-runs : Apart 0 (lengthOf (s u .args .s)) runs × (rowsOf (self u) ≡ inRuns (lengthOf (s u .args .s)) runs) × (countOf (self u) ≡ runLengths runs)
+  in-runs : Apart 0 (lengthOf (s u .args .s .form)) runs × (rowsOf (self u) ≡ inRuns (lengthOf (s u .args .s .form)) runs) × (countOf (self u) ≡ runLengths runs)
   in-runs = accepted-runs (self u) (sym (c .before .has-runs .ensures) ∙ c .if2 .taken) (s u .pre .0 .self)
 
   runs-rows : inRuns (len u) runs ≡ rowsOf (self u)
@@ -115,10 +118,13 @@ has-words-requires c κs = search needs
 start-of-requires-2 : tie.Need-start-of-requires-2
 start-of-requires-2 c κs = search needs
 
+way-requires : tie.Need-way-requires
+way-requires c κs = search needs
+
 recover-words-requires : tie.Need-recover-words-requires
 recover-words-requires c κs =
-    let k = c .before in
-    (own-view k, other-view (t k), room k)
+    let k = c .before .before in
+    (own-view k, other-view (t k), counted k, room k)
 
 same-length : tie.Need-same-length
 same-length c = search needs
@@ -126,7 +132,7 @@ same-length c = search needs
 returns : tie.Need-returns
 returns c =
     let w = c .before .before in
-    let k = w .before .before in
+    let k = w .before .before .before in
     let a = s (t k) .args in
     w .recover-words .ensures ∙ ap₂ (λ (x y : List Bool). laid (a .at) (recover x y) (now (a .out))) (own-rows k) (other-rows (t k))
 
@@ -139,7 +145,7 @@ recover-under-runs-requires c κs =
     let b = s (u k) in (
       subst (λ (n : ℕ). Apart 0 n (runs k)) (sym (long (u k))) (in-runs k .0),
       other-view (u k),
-      subst (λ (n : ℕ). Room (b .args .at) n (now (b .args .out))) (in-runs k .2) (b .pre .2),
+      subst (λ (n : ℕ). Room (b .args .at) n (now (b .args .out))) (in-runs k .2) (b .pre .3),
     )
 
 same-length-2 : tie.Need-same-length-2
@@ -155,7 +161,7 @@ returns-2 c =
 recover-chunks-requires : tie.Need-recover-chunks-requires
 recover-chunks-requires c κs =
     let p = s (asked (c .before .before)) .pre in
-    (p .0 .self, p .0 .kept, p .0 .lengths, p .2)
+    (p .0 .self, p .0 .kept, p .0 .lengths, p .2, p .3)
 
 same-length-3 : tie.Need-same-length-3
 same-length-3 c = search needs
@@ -171,6 +177,7 @@ lay-kept-words-spec =
     start-of-requires
     has-words-requires
     start-of-requires-2
+    way-requires
     recover-words-requires
     same-length
     returns

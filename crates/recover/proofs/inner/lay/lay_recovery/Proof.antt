@@ -57,7 +57,7 @@ lay-kept-words-requires : tie.Need-lay-kept-words-requires
 lay-kept-words-requires c κs =
     let t = c .before in
     let p = start (t .before) .pre in
-    (p .0, sym (t .before .has-words .ensures) ∙ t .if1 .taken, p .2)
+    (p .0, sym (t .before .has-words .ensures) ∙ t .if1 .taken, p .1, p .2)
 
 same-length : tie.Need-same-length
 same-length c = search needs
@@ -92,7 +92,7 @@ returns-2 c =
 recover-chunks-requires : tie.Need-recover-chunks-requires
 recover-chunks-requires c κs =
     let p = asked (c .before .before) .pre in
-    (p .0 .self, p .0 .kept, p .0 .lengths, p .2)
+    (p .0 .self, p .0 .kept, p .0 .lengths, p .1, p .2)
 
 same-length-3 : tie.Need-same-length-3
 same-length-3 c = search needs
