@@ -107,8 +107,18 @@ module _ (s k : List Bool) (at : ℕ) where
       room =
           let whole = ap length (r .progress .parts) ∙ length-append (r .progress .front) (recover (drop row s) (drop row k)) in
           let split = ap length parts ∙ length-append (recover s₁ k₁) left in
-          omega (arith, whole, split, r .progress .passed, recover-length s k, recover-length s₁ k₁, set, stored .within, stored .enough,
-          bitsOf-length (stored .many - ones mask) (pext 64 source mask / 2 ^ ones mask))
+          omega (
+            arith,
+            whole,
+            split,
+            r .progress .passed,
+            recover-length s k,
+            recover-length s₁ k₁,
+            set,
+            stored .within,
+            stored .enough,
+            bitsOf-length (stored .many - ones mask) (pext 64 source mask / 2 ^ ones mask),
+          )
 
       pub extracting-chunk : (past : ℕ) → past ≡ rank + ones mask → Extracting (row + n) past out₀ then
       extracting-chunk past e = record {

@@ -69,15 +69,7 @@ pub fn recover_chunks(
         let n = chunk_len(len, row.0);
         let mask = rows_in_chunk(s, swords, srows, own, row, n);
         let source = rows_in_chunk(k, kwords, krows, other, row, n);
-        rank = lay_extract(
-            Way::Network,
-            mask.bits,
-            source.bits,
-            at,
-            rank,
-            end,
-            out,
-        );
+        rank = lay_extract(Way::Network, mask.bits, source.bits, at, rank, end, out);
         own = mask.next;
         other = source.next;
         let below = row.0 + n;

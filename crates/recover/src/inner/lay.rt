@@ -50,7 +50,17 @@ fn lay_kept_words(
     let from = start_of(k);
     if has_words(own) {
         let start = start_of(own);
-        recover_words(way(set, len), swords, start, len, set, kwords, from, at, out);
+        recover_words(
+            way(set, len),
+            swords,
+            start,
+            len,
+            set,
+            kwords,
+            from,
+            at,
+            out,
+        );
         return;
     }
     if has_runs(own) {
