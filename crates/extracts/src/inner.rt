@@ -8,8 +8,9 @@ ghost use Rattle.rows.specs.Asks.{Room, InView};
 ghost use Rattle.rules.specs.Operand.{lent, rowsOf, lengthOf, countOf, Accepted};
 use super::chunks::rows_in_chunk;
 use super::stores::lay_extract;
-use books::inner::self_chunk;
+use books::inner::self_bits;
 use lent::inner::chunk_len;
+use lent::inner::whole_word;
 use operand::inner::forms::length_of;
 use rows::Rank;
 use rows::Row;
@@ -32,15 +33,24 @@ pub fn recover_words(
     ensures { λ _. ⌜ now (out .exit) ≡ laid at (recover (view start len (now (words .entry))) (view from len (now (kept .entry)))) (now (out .entry)) ⌝ }
 {
     let end = at + set;
-    let mut row = Row(0);
+    let n = (len / 64) as usize;
     let mut rank = Rank(0);
-    while row.0 < len {
-        let mask = self_chunk(words, start, len, row);
-        let source = self_chunk(kept, from, len, row);
+    let mut i: usize = 0;
+    while i < n {
+        let mask = whole_word(words, start, i);
+        let source = whole_word(kept, from, i);
         rank = lay_extract(way, mask, source, at, rank, end, out);
-        let below = row.0 + 64;
-        row = Row(below);
+        i += 1;
     }
+    let rest = len % 64;
+    if rest == 0 {
+        return;
+    }
+    let below = len - rest;
+    let row = Row(below);
+    let mask = self_bits(words, start, row, rest);
+    let source = self_bits(kept, from, row, rest);
+    lay_extract(way, mask, source, at, rank, end, out);
 }
 
 // Two masks of one length in any forms; self has so many rows set.
