@@ -7,7 +7,8 @@ ghost use Rattle.rows.specs.Laid.{laid};
 ghost use Rattle.rows.specs.Asks.{Room, InView};
 ghost use Rattle.rules.specs.Operand.{lent, rowsOf, lengthOf, countOf, Accepted};
 use super::chunks::rows_in_chunk;
-use super::stores::lay_extract;
+use super::stores::extract_bits;
+use super::stores::store_ranks;
 use books::inner::self_bits;
 use lent::inner::chunk_len;
 use lent::inner::whole_word;
@@ -39,7 +40,9 @@ pub fn recover_words(
     while i < n {
         let mask = whole_word(words, start, i);
         let source = whole_word(kept, from, i);
-        rank = lay_extract(way, mask, source, at, rank, end, out);
+        let count = u64::count_ones(mask);
+        let bits = extract_bits(way, source, mask, count);
+        rank = store_ranks(bits, count as u64, at, rank, end, out);
         i += 1;
     }
     let rest = len % 64;
@@ -50,7 +53,9 @@ pub fn recover_words(
     let row = Row(below);
     let mask = self_bits(words, start, row, rest);
     let source = self_bits(kept, from, row, rest);
-    lay_extract(way, mask, source, at, rank, end, out);
+    let count = u64::count_ones(mask);
+    let bits = extract_bits(way, source, mask, count);
+    store_ranks(bits, count as u64, at, rank, end, out);
 }
 
 // Two masks of one length in any forms; self has so many rows set.
@@ -79,7 +84,9 @@ pub fn recover_chunks(
         let n = chunk_len(len, row.0);
         let mask = rows_in_chunk(s, swords, srows, own, row, n);
         let source = rows_in_chunk(k, kwords, krows, other, row, n);
-        rank = lay_extract(Way::Network, mask.bits, source.bits, at, rank, end, out);
+        let count = u64::count_ones(mask.bits);
+        let bits = extract_bits(Way::Network, source.bits, mask.bits, count);
+        rank = store_ranks(bits, count as u64, at, rank, end, out);
         own = mask.next;
         other = source.next;
         let below = row.0 + n;

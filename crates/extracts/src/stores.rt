@@ -28,7 +28,7 @@ fn put_over(out: &mut [u64], place: u64, bits: u64)
 }
 
 // Extract by either way.
-fn extract_bits(way: Way, source: u64, mask: u64, count: u32) -> u64
+pub fn extract_bits(way: Way, source: u64, mask: u64, count: u32) -> u64
     requires { ⌜ count ≡ ones mask ⌝ }
     ensures { λ r. ⌜ r ≡ pext 64 source mask ⌝ }
 {
@@ -38,29 +38,18 @@ fn extract_bits(way: Way, source: u64, mask: u64, count: u32) -> u64
     }
 }
 
-// The ranks of one chunk from a rank on, a bit for each of its set rows; before bit end more may be written. The rank after them.
-pub fn lay_extract(
-    way: Way,
-    mask: u64,
-    source: u64,
-    at: u64,
-    rank: Rank,
-    end: u64,
-    out: &mut [u64],
-) -> Rank
-    requires { ⌜ (ones mask ≤ 64) × (at + rank .0 + ones mask ≤ end) × (end ≤ length (now out) * 64) × (end < 2 ^ 64) ⌝ }
-    ensures { λ r. ⌜ (r .0 ≡ rank .0 + ones mask) × Stored (at + rank .0) end (ones mask) (pext 64 source mask) (now (out .entry)) (now (out .exit)) ⌝ }
+// The n ranks of one chunk from a rank on, the low bits of a word; before bit end more of it may be written. The rank after them.
+pub fn store_ranks(bits: u64, n: u64, at: u64, rank: Rank, end: u64, out: &mut [u64]) -> Rank
+    requires { ⌜ (n ≤ 64) × (at + rank .0 + n ≤ end) × (end ≤ length (now out) * 64) × (end < 2 ^ 64) ⌝ }
+    ensures { λ r. ⌜ (r .0 ≡ rank .0 + n) × Stored (at + rank .0) end n bits (now (out .entry)) (now (out .exit)) ⌝ }
 {
-    let set = u64::count_ones(mask);
-    let bits = extract_bits(way, source, mask, set);
-    let n = set as u64;
     let past = rank.0 + n;
     let place = at + rank.0;
     if place / 64 + 1 < end / 64 {
         put_over(out, place, bits);
         return Rank(past);
     }
-    if set == 0 {
+    if n == 0 {
         return Rank(past);
     }
     put_ranks(out, at, rank, n, bits);

@@ -2,7 +2,7 @@
 -- The invariant: the ranks of the rows before `row` are laid, and `rank` is how many they are. Assumes nothing.
 use Prim.Native.Nat.{ℕ, _+_, _-_, _^_, _≤_, _<_}
 use native.Mathlib.Omega.{arith}
-use mathlib.Core.Path.{_≡_, refl, sym, ap, ap₂, _∙_}
+use mathlib.Core.Path.{_≡_, refl, sym, ap, subst, _∙_}
 use mathlib.Core.Bool.{Bool}
 use mathlib.Core.List.{List}
 use lib.Count.{ones}
@@ -16,6 +16,7 @@ use Rattle.rows.proofs.LaidLaws.{below-all}
 use Rattle.rules.specs.Operand.{Operand, lent, rowsOf, lengthOf}
 use Rattle.rules.proofs.OperandLaws.{accepted-length, accepted-count, accepted-limit}
 use Rattle.extracts.specs.Walk.{Came}
+use Rattle.extracts.specs.Stored.{Stored}
 use Rattle.extracts.proofs.WalkLaws.{came-first}
 use Rattle.extracts.proofs.ExtractLaws.{Extracting, extracting-none, extracting-chunk, extracting-room, extracting-end}
 use Rattle.extracts.proofs.inner.recover_chunks.Statement.{statement}
@@ -46,10 +47,13 @@ masked c = c .before
 abbrev turn : tie.After-rows-in-chunk Inv-loop μ-loop → tie.After-chunk-len Inv-loop μ-loop
 turn c = c .before
 
-abbrev taken : tie.After-lay-extract Inv-loop μ-loop → tie.After-rows-in-chunk2 Inv-loop μ-loop
+abbrev taken : tie.After-store-ranks Inv-loop μ-loop → tie.After-extract-bits Inv-loop μ-loop
 taken c = c .before .before
 
-abbrev ended : tie.After-struct-known2 Inv-loop μ-loop → tie.After-lay-extract Inv-loop μ-loop
+abbrev gathered : tie.After-extract-bits Inv-loop μ-loop → tie.After-rows-in-chunk2 Inv-loop μ-loop
+gathered c = c .before .before
+
+abbrev ended : tie.After-struct-known3 Inv-loop μ-loop → tie.After-store-ranks Inv-loop μ-loop
 ended c = c .before .before .before
 
 abbrev last : tie.Else1 Inv-loop μ-loop → tie.At-loop Inv-loop μ-loop
@@ -141,9 +145,18 @@ rows-in-chunk-requires-2 c κs =
     let b = begun h in
     (b .pre .1, (sized h .0, sized h .1), omega (arith, sized h, b .pre .2), at-head h .loop .inv .2)
 
-lay-extract-requires : tie.Need-lay-extract-requires Inv-loop μ-loop
-lay-extract-requires c κs =
-    let m = c .before in
+extract-bits-requires : tie.Need-extract-bits-requires Inv-loop μ-loop
+extract-bits-requires c κs = refl
+
+cast-store-ranks : tie.Need-cast-store-ranks Inv-loop μ-loop
+cast-store-ranks c =
+    let m = gathered c in
+    let h = t m in
+    omega (arith, few m, count-take-le (n h) (drop (row h) (s (begun h))), sized h)
+
+store-ranks-requires : tie.Need-store-ranks-requires Inv-loop μ-loop
+store-ranks-requires c κs =
+    let m = gathered (c .before) in
     let h = t m in
     let b = begun h in
     let p = b .pre in
@@ -156,18 +169,19 @@ lay-extract-requires c κs =
 
 add-below : tie.Need-add-below Inv-loop μ-loop
 add-below c =
-    let h = t (taken (ended c)) in
+    let h = t (gathered (taken (ended c))) in
     omega (arith, sized h, accepted-limit (self (begun h)) (begun h .pre .0))
 
 loop-less : tie.Need-loop-less Inv-loop μ-loop
 loop-less c =
-    let h = t (taken (ended c)) in
+    let h = t (gathered (taken (ended c))) in
     omega (arith, sized h, long h)
 
 loop-again : tie.Need-loop-again Inv-loop μ-loop
 loop-again c =
     let p = ended c in
-    let m = taken p in
+    let x = taken p in
+    let m = gathered x in
     let h = t m in
     let b = begun h in
     let l = at-head h .loop in
@@ -180,7 +194,8 @@ loop-again c =
       his .ensures .1,
       extracting-chunk (s b) (k b) (b .args .at) (same b) (row h) (l .rank .0) (now (b .args .out)) (l .out) (l .inv .3) (n h) (sized h .1)
           (b .args .at + b .args .set) (own .result .bits) (his .result .bits) _ end (own .ensures .0) (his .ensures .0)
-          (p .lay-extract .ensures .1) _ (p .lay-extract .ensures .0),
+          (subst (λ (y : ℕ). Stored (b .args .at + l .rank .0) (b .args .at + b .args .set) (ones (own .result .bits)) y (l .out) (p .store-ranks .last .1 .1 .1 .1 .1 .0))
+          (x .extract-bits .ensures) (p .store-ranks .ensures .1)) _ (p .store-ranks .ensures .0),
     )
 
 same-length : tie.Need-same-length Inv-loop μ-loop
@@ -205,7 +220,9 @@ recover-chunks-spec =
     chunk-len-requires
     rows-in-chunk-requires
     rows-in-chunk-requires-2
-    lay-extract-requires
+    extract-bits-requires
+    cast-store-ranks
+    store-ranks-requires
     add-below
     loop-less
     loop-again

@@ -3,7 +3,7 @@
 -- Assumes nothing.
 use Prim.Native.Nat.{ℕ, _+_, _-_, _*_, _/_, _%_, _^_, _≤_, _<_}
 use native.Mathlib.Omega.{arith}
-use mathlib.Core.Path.{_≡_, sym, ap, subst, _∙_}
+use mathlib.Core.Path.{_≡_, refl, sym, ap, subst, _∙_}
 use mathlib.Core.Bool.{Bool}
 use mathlib.Core.List.{List}
 use lib.Count.{ones}
@@ -18,6 +18,7 @@ use Rattle.rows.proofs.WordLaws.{ones-word}
 use Rattle.rows.proofs.WordsLaws.{view-length}
 use Rattle.rows.proofs.PartLaws.{view-chunk}
 use Rattle.rows.proofs.LaidLaws.{below-all}
+use Rattle.extracts.specs.Stored.{Stored}
 use Rattle.extracts.proofs.ExtractLaws.{Extracting, extracting-none, extracting-chunk, extracting-room, extracting-end}
 use Rattle.extracts.proofs.inner.recover_words.Statement.{statement}
 use Rattle.extracts.proofs.inner.recover_words.Tie as tie
@@ -40,16 +41,16 @@ head c = c .before
 abbrev turn : tie.After-whole-word2 Inv-loop μ-loop → tie.In-loop Inv-loop μ-loop
 turn c = c .before .before
 
-abbrev taken : tie.After-lay-extract Inv-loop μ-loop → tie.After-whole-word2 Inv-loop μ-loop
+abbrev taken : tie.After-store-ranks Inv-loop μ-loop → tie.After-extract-bits Inv-loop μ-loop
 taken c = c .before .before
 
-abbrev ended : tie.After-slice-known2 Inv-loop μ-loop → tie.After-lay-extract Inv-loop μ-loop
+abbrev ended : tie.After-slice-known2 Inv-loop μ-loop → tie.After-store-ranks Inv-loop μ-loop
 ended c = c .before .before
 
 abbrev last : tie.Else1 Inv-loop μ-loop → tie.At-loop Inv-loop μ-loop
 last c = c .before .before
 
-abbrev rest : tie.After-lay-extract2 Inv-loop μ-loop → tie.After-self-bits2 Inv-loop μ-loop
+abbrev rest : tie.After-store-ranks2 Inv-loop μ-loop → tie.After-extract-bits2 Inv-loop μ-loop
 rest c = c .before .before
 
 -- ---- both masks
@@ -144,6 +145,23 @@ his-rest c =
     let a = bb e .args in
     c .self-bits2 .ensures ∙ view-chunk (a .from) (a .len - left e) (left e) (a .len) (now (a .kept)) (omega arith) (bb e .pre .1 .2)
 
+-- what storing their ranks asks
+asks-here : (c : tie.After-extract-bits Inv-loop μ-loop) → let t = turn (c .before) in let b = begun t in let m = c .before .before .whole-word .result in
+    (ones m ≤ 64) × (b .args .at + at-head t .loop .rank .0 + ones m ≤ b .args .at + b .args .set)
+    × (b .args .at + b .args .set ≤ length (at-head t .loop .out) * 64) × (b .args .at + b .args .set < 2 ^ 64)
+asks-here c =
+    let m = c .before in
+    let t = turn m in
+    asks (at-head t) (i t * 64) 64 (m .before .whole-word .result) (omega arith) (own (m .before)) (at-head t .loop .inv .1)
+
+asks-rest : (c : tie.After-extract-bits2 Inv-loop μ-loop) → let e = c .before .before .before in let b = bb e in let m = c .before .before .self-bits .result in
+    (ones m ≤ 64) × (b .args .at + last e .loop .rank .0 + ones m ≤ b .args .at + b .args .set)
+    × (b .args .at + b .args .set ≤ length (last e .loop .out) * 64) × (b .args .at + b .args .set < 2 ^ 64)
+asks-rest c =
+    let m = c .before in
+    let e = m .before .before in
+    asks (last e) (bb e .args .len - left e) (left e) (m .before .self-bits .result) (omega arith) (own-rest (m .before)) (progress e)
+
 -- ---- the answers
 
 add-end : tie.Need-add-end Inv-loop μ-loop
@@ -169,11 +187,14 @@ whole-word-requires-2 c κs =
     let p = begun t .pre .1 in
     (p .1, omega (arith, whole t, p .2))
 
-lay-extract-requires : tie.Need-lay-extract-requires Inv-loop μ-loop
-lay-extract-requires c κs =
-    let m = c .before in
-    let t = turn m in
-    asks (at-head t) (i t * 64) 64 (m .before .whole-word .result) (omega arith) (own (m .before)) (at-head t .loop .inv .1)
+extract-bits-requires : tie.Need-extract-bits-requires Inv-loop μ-loop
+extract-bits-requires c κs = refl
+
+cast-store-ranks : tie.Need-cast-store-ranks Inv-loop μ-loop
+cast-store-ranks c = omega (arith, asks-here c .0)
+
+store-ranks-requires : tie.Need-store-ranks-requires Inv-loop μ-loop
+store-ranks-requires c κs = asks-here (c .before)
 
 add-i : tie.Need-add-i Inv-loop μ-loop
 add-i c = omega arith
@@ -184,16 +205,18 @@ loop-less c = omega arith
 loop-again : tie.Need-loop-again Inv-loop μ-loop
 loop-again c =
     let p = ended c in
-    let m = taken p in
+    let x = taken p in
+    let m = x .before in
     let t = turn m in
     let b = begun t in
     let l = at-head t .loop in
     let next : i t * 64 + 64 ≡ (i t + 1) * 64 = omega arith in (
       omega arith,
-      subst (λ (x : ℕ). Extracting (s b) (k b) (b .args .at) x (p .lay-extract .result .0) (now (b .args .out)) (p .lay-extract .last .1 .1 .1 .1 .1 .1 .0)) next
+      subst (λ (x : ℕ). Extracting (s b) (k b) (b .args .at) x (p .store-ranks .result .0) (now (b .args .out)) (p .store-ranks .last .1 .1 .1 .1 .1 .0)) next
           (extracting-chunk (s b) (k b) (b .args .at) (same b) (i t * 64) (l .rank .0) (now (b .args .out)) (l .out) (l .inv .1) 64 (omega arith)
           (b .args .at + b .args .set) (m .before .whole-word .result) (m .whole-word2 .result) _ (end b) (own (m .before)) (his m)
-          (p .lay-extract .ensures .1) _ (p .lay-extract .ensures .0)),
+          (subst (λ (y : ℕ). Stored (b .args .at + l .rank .0) (b .args .at + b .args .set) (ones (m .before .whole-word .result)) y (l .out)
+          (p .store-ranks .last .1 .1 .1 .1 .1 .0)) (x .extract-bits .ensures) (p .store-ranks .ensures .1)) (p .store-ranks .result .0) (p .store-ranks .ensures .0)),
     )
 
 same-length : tie.Need-same-length Inv-loop μ-loop
@@ -216,11 +239,14 @@ self-bits-requires c κs = (omega (arith, c .if1 .left), omega arith)
 self-bits-requires-2 : tie.Need-self-bits-requires-2 Inv-loop μ-loop
 self-bits-requires-2 c κs = (omega (arith, c .before .if1 .left), omega arith)
 
-lay-extract-requires-2 : tie.Need-lay-extract-requires-2 Inv-loop μ-loop
-lay-extract-requires-2 c κs =
-    let m = c .before in
-    let e = m .before .before in
-    asks (last e) (bb e .args .len - left e) (left e) (m .before .self-bits .result) (omega arith) (own-rest (m .before)) (progress e)
+extract-bits-requires-2 : tie.Need-extract-bits-requires-2 Inv-loop μ-loop
+extract-bits-requires-2 c κs = refl
+
+cast-store-ranks-2 : tie.Need-cast-store-ranks-2 Inv-loop μ-loop
+cast-store-ranks-2 c = omega (arith, asks-rest c .0)
+
+store-ranks-requires-2 : tie.Need-store-ranks-requires-2 Inv-loop μ-loop
+store-ranks-requires-2 c κs = asks-rest (c .before)
 
 same-length-2 : tie.Need-same-length-2 Inv-loop μ-loop
 same-length-2 c = search needs
@@ -228,15 +254,18 @@ same-length-2 c = search needs
 returns-2 : tie.Need-returns-2 Inv-loop μ-loop
 returns-2 c =
     let p = c .before .before in
-    let m = rest p in
+    let x = rest p in
+    let m = x .before in
     let e = m .before .before in
     let b = bb e in
+    let after = p .store-ranks2 .last .1 .1 .1 .1 .1 .0 in
     let l = last e .loop in
     let done =
     extracting-chunk (s b) (k b) (b .args .at) (same b) (b .args .len - left e) (l .rank .0) (now (b .args .out)) (l .out) (progress e) (left e) (omega arith)
-    (b .args .at + b .args .set) (m .before .self-bits .result) (m .self-bits2 .result) (p .lay-extract2 .last .1 .1 .1 .1 .1 .1 .0) (end b) (own-rest (m .before)) (his-rest m)
-    (p .lay-extract2 .ensures .1) (p .lay-extract2 .result .0) (p .lay-extract2 .ensures .0) in
-    extracting-end (s b) (k b) (b .args .at) (same b) (b .args .len - left e + left e) (p .lay-extract2 .result .0) (now (b .args .out)) (p .lay-extract2 .last .1 .1 .1 .1 .1 .1 .0) done
+    (b .args .at + b .args .set) (m .before .self-bits .result) (m .self-bits2 .result) after (end b) (own-rest (m .before)) (his-rest m)
+    (subst (λ (y : ℕ). Stored (b .args .at + l .rank .0) (b .args .at + b .args .set) (ones (m .before .self-bits .result)) y (l .out) after)
+    (x .extract-bits2 .ensures) (p .store-ranks2 .ensures .1)) (p .store-ranks2 .result .0) (p .store-ranks2 .ensures .0) in
+    extracting-end (s b) (k b) (b .args .at) (same b) (b .args .len - left e + left e) (p .store-ranks2 .result .0) (now (b .args .out)) after done
     (omega (arith, s-long b))
 
 pub recover-words-spec : {M : Type 1} → statement M
@@ -249,7 +278,9 @@ recover-words-spec =
     loop-holds
     whole-word-requires
     whole-word-requires-2
-    lay-extract-requires
+    extract-bits-requires
+    cast-store-ranks
+    store-ranks-requires
     add-i
     loop-less
     loop-again
@@ -258,6 +289,8 @@ recover-words-spec =
     sub-below
     self-bits-requires
     self-bits-requires-2
-    lay-extract-requires-2
+    extract-bits-requires-2
+    cast-store-ranks-2
+    store-ranks-requires-2
     same-length-2
     returns-2)
