@@ -1,2 +1,3 @@
 pub mod ChunkLaws
 pub mod GatherLaws
+pub mod RunBitLaws

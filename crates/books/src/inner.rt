@@ -1,22 +1,26 @@
 // Where a row or a rank becomes a bit of lent words. The struct in the signature says in which book the number is kept, and nowhere else is one
 // added to a start or to the output's first bit.
 ghost use mathlib.Core.Path.{_≡_};
-ghost use mathlib.Core.Bool.{true, false};
+ghost use mathlib.Core.Bool.{true, false, _&&_};
 ghost use mathlib.Core.List.{[], _∷_};
 ghost use Prim.Native.Nat.{_+_, _*_, _^_, _≤_, _<_};
+ghost use lib.Dec.{leb, ltb};
 ghost use lib.ListN.{length, drop, replicate};
 ghost use denote.Ref.{now};
 ghost use Rattle.rows.specs.Word.{bitsOf, wordOf};
 ghost use Rattle.rows.specs.Words.{fit, bitsOfAll, view};
+ghost use Rattle.rows.specs.Lists.{tab};
 ghost use Rattle.rows.specs.Laid.{laid};
 ghost use Rattle.rows.specs.Asks.{Room, Chunk};
 ghost use Rattle.books.specs.Chunks.{chunkAt};
 ghost use Rattle.books.specs.Gathers.{Parted, Gathers};
+ghost use Rattle.books.specs.Windows.{window, into, Reached};
 use laid::inner::clear;
 use laid::inner::put;
 use laid::inner::set_bit;
 use lent::inner::chunk;
 use lent::inner::chunk_len;
+use lent::inner::ones;
 use lent::inner::read;
 use rows::Rank;
 use rows::Row;
@@ -100,6 +104,63 @@ pub fn rank_bits_for_chunk(ranks: &[u32], next: usize, rank: Rank, set: u64) -> 
     ensures { λ r. ⌜ Gathers (rank .0) set (now (ranks .entry)) (r .bits) (r .next) ⌝ }
 {
     entry_bits(ranks, next, rank.0, set)
+}
+
+// ---- of runs: a walk that goes on from chunk to chunk, so that each run is looked at once, or once more where a chunk ends in it
+
+// How far into the n numbers from base on another number lies.
+fn into_chunk(base: u64, n: u64, number: u64) -> u64
+    ensures { λ r. ⌜ r ≡ into base n number ⌝ }
+{
+    if number <= base {
+        return 0;
+    }
+    let passed = number - base;
+    if n < passed {
+        return n;
+    }
+    passed
+}
+
+// Which of the n numbers from base on are in a run.
+fn bits_in_run(first: u64, past: u64, base: u64, n: u64) -> u64
+    requires { ⌜ (n ≤ 64) × (base + n < 2 ^ 64) ⌝ }
+    ensures { λ r. ⌜ r ≡ wordOf (tab base n (λ i. leb first i && ltb i past)) ⌝ }
+{
+    let begin = into_chunk(base, n, first);
+    let end = into_chunk(base, n, past);
+    if end <= begin {
+        return 0;
+    }
+    ones(end - begin) << begin
+}
+
+// The n bits from base on of runs, from the run on that a walk has come to: those before it hold nothing from base on.
+pub fn run_bits(runs: &[u32], next: usize, base: u64, n: u64) -> Gathered
+    requires { ⌜ (n ≤ 64) × (base + n < 2 ^ 64) × Reached (now runs) next base ⌝ }
+    ensures { λ r. ⌜ (r .bits ≡ wordOf (window base n (now (runs .entry)))) × Reached (now (runs .entry)) (r .next) (base + n) ⌝ }
+{
+    let end = base + n;
+    let mut bits: u64 = 0;
+    let mut i = next;
+    while i < runs.len() {
+        let first = runs[i] as u64;
+        let past = runs[i + 1] as u64;
+        bits |= bits_in_run(first, past, base, n);
+        if end <= past {
+            return Gathered { bits, next: i };
+        }
+        i += 2;
+    }
+    Gathered { bits, next: i }
+}
+
+// The rank bits of a chunk that has so many rows set, from a rank on: those of runs of ranks, from the run on that the walk has come to.
+pub fn run_bits_for_chunk(ranks: &[u32], next: usize, rank: Rank, set: u64) -> Gathered
+    requires { ⌜ (set ≤ 64) × (rank .0 + set < 2 ^ 64) × Reached (now ranks) next (rank .0) ⌝ }
+    ensures { λ r. ⌜ (r .bits ≡ wordOf (window (rank .0) set (now (ranks .entry)))) × Reached (now (ranks .entry)) (r .next) (rank .0 + set) ⌝ }
+{
+    run_bits(ranks, next, rank.0, set)
 }
 
 // The low n bits of bits over the output from a row on; row 0 is at bit at.

@@ -14,7 +14,6 @@ ghost use Rattle.by_route.specs.Fits.{Fits, InWords};
 use kept::inner::keep_words;
 use marks::inner::lay_driven_by_list;
 use marks::inner::lay_driven_by_words;
-use mask::inner::lay::lay_rows;
 use operand::inner::forms::has_row_numbers;
 use operand::inner::forms::length_of;
 use operand::inner::forms::start_of;
@@ -53,7 +52,7 @@ pub fn lay_mask_driven(
     );
 }
 
-// Self is words and the rank mask runs: self is laid, and what each run of ranks has of it is kept.
+// Self is words and the rank mask runs: of self what each run of ranks has is kept.
 pub fn keep_in_words(
     s: Form,
     swords: &[u64],
@@ -66,6 +65,5 @@ pub fn keep_in_words(
         × Apart 0 (countOf (lent s (now swords) (now srows))) (now rruns) × Room at (lengthOf s) (now out) ⌝ }
     ensures { λ _. ⌜ now (out .exit) ≡ laid at (compose (rowsOf (lent s (now (swords .entry)) (now (srows .entry)))) (inRuns (countOf (lent s (now (swords .entry)) (now (srows .entry)))) (now (rruns .entry)))) (now (out .entry)) ⌝ }
 {
-    lay_rows(s, swords, srows, at, out);
     keep_words(swords, start_of(s), length_of(s), rruns, at, out);
 }

@@ -13,7 +13,7 @@ use lib.Count.{ones}
 use Rattle.rows.specs.Rows.{count, compose}
 use Rattle.rows.specs.Word.{bitsOf, wordOf}
 use Rattle.rows.specs.Words.{Below, fit, bitsOfAll, view}
-use Rattle.rows.specs.Lists.{tab, member, listed}
+use Rattle.rows.specs.Lists.{tab}
 use Rattle.rows.specs.Pdep.{pdep}
 use Rattle.rows.specs.Laid.{laid}
 use Rattle.rows.proofs.RowLaws.{count-append, count-le-length, compose-length}
@@ -99,13 +99,13 @@ module _ (start row n at : ℕ) (ws out : List ℕ) (r : List Bool) (reach : sta
         composed = on;
       }
 
--- rank bits gathered from a list: those of a part of the listed ranks, as many as the chunk sets
-pub gathered-same : (t : List Bool) (rank len : ℕ) (es : List ℕ) → length t ≤ 64 → rank + count t ≤ len
-    → compose t (bitsOf 64 (wordOf (tab rank (count t) (λ i. member i es)))) ≡ compose t (drop rank (listed len es))
-gathered-same t rank len es short room =
-    let part = take (count t) (drop rank (listed len es)) in
-    ap (λ (l : List Bool). compose t (bitsOf 64 (wordOf l))) (sym (tab-part 0 len rank (count t) (λ i. member i es) room ∙ ap (λ (k : ℕ). tab k (count t) (λ i. member i es)) (zero-add rank)))
-    ∙ ap (compose t) (bitsOf-wordOf-fit 64 part) ∙ compose-fit 64 t part (omega (arith, count-le-length t)) ∙ compose-cut (count t) t (drop rank (listed len es)) (omega arith)
+-- rank bits gathered from a list or from runs: those of a part of the ranks, as many as the chunk sets
+pub gathered-same : (t : List Bool) (rank len : ℕ) (f : ℕ → Bool) → length t ≤ 64 → rank + count t ≤ len
+    → compose t (bitsOf 64 (wordOf (tab rank (count t) f))) ≡ compose t (drop rank (tab 0 len f))
+gathered-same t rank len f short room =
+    let part = take (count t) (drop rank (tab 0 len f)) in
+    ap (λ (l : List Bool). compose t (bitsOf 64 (wordOf l))) (sym (tab-part 0 len rank (count t) f room ∙ ap (λ (k : ℕ). tab k (count t) f) (zero-add rank)))
+    ∙ ap (compose t) (bitsOf-wordOf-fit 64 part) ∙ compose-fit 64 t part (omega (arith, count-le-length t)) ∙ compose-cut (count t) t (drop rank (tab 0 len f)) (omega arith)
 
 -- what is passed has no more set rows than all
 pub rank-within : (start row len : ℕ) (ws : List ℕ) → row ≤ len → count (view start row ws) ≤ count (view start len ws)

@@ -12,15 +12,16 @@ use lib.Count.{ones}
 use Rattle.rows.specs.Rows.{count, compose}
 use Rattle.rows.specs.Word.{bitsOf, wordOf}
 use Rattle.rows.specs.Words.{Below, fit, bitsOfAll, view}
-use Rattle.rows.specs.Lists.{listed, member}
+use Rattle.rows.specs.Lists.{tab}
 use Rattle.rows.specs.Pdep.{pdep}
 use Rattle.rows.specs.Laid.{laid}
-use Rattle.rows.proofs.RowLaws.{count-split, compose-length}
+use Rattle.rows.proofs.RowLaws.{count-split, count-take-le, compose-length}
 use Rattle.rows.proofs.WordLaws.{bitsOf-length, wordOf-lt}
 use Rattle.rows.proofs.WordsLaws.{bitsOfAll-length}
 use Rattle.rows.proofs.FitLaws.{fit-is-take, compose-cut}
 use Rattle.rows.proofs.PdepLaws.{pdep-is}
-use Rattle.rows.proofs.LaidLaws.{below-set, laid-nil, laid-word}
+use Rattle.rows.proofs.LaidLaws.{below-set, laid-nil, laid-length, laid-word}
+use Rattle.rows.proofs.BehindLaws.{below-laid}
 use Rattle.books.proofs.GatherLaws.{tab-part}
 use Rattle.deposits.proofs.DepositLaws.{rank-turn, laid-turn, chunk-turn, chunk-few}
 
@@ -97,6 +98,30 @@ count-rest start done rest ws =
     let bs = drop start (bitsOfAll 64 ws) in
     ap (λ (l : List Bool). count (view start done ws) + count (take rest l)) (sym (drop-drop done start (bitsOfAll 64 ws))) ∙ sym (count-split done rest bs)
 
--- listed ranks past self's count do not matter
-pub listed-more : (s : List Bool) (k m : ℕ) (es : List ℕ) → count s ≤ k → k ≤ m → compose s (listed k es) ≡ compose s (listed m es)
-listed-more s k m es h le = ap (compose s) (sym (tab-part 0 m 0 k (λ i. member i es) (omega arith))) ∙ compose-cut k s (listed m es) h
+-- ranks past self's count do not matter
+pub ranks-more : (s : List Bool) (k m : ℕ) (f : ℕ → Bool) → count s ≤ k → k ≤ m → compose s (tab 0 k f) ≡ compose s (tab 0 m f)
+ranks-more s k m f h le = ap (compose s) (sym (tab-part 0 m 0 k f (omega arith))) ∙ compose-cut k s (tab 0 m f) h
+
+-- words one after the other, stored from those on that were stored before: as many as they are, by ranks that are those from there on
+pub stored-part : (start to : ℕ) (ws out : List ℕ) (r : List Bool) (i n rank : ℕ) (p : List Bool) (o then : List ℕ) → Stored start to ws out r i rank o
+    → start + (i + n) * 64 ≤ length ws * 64
+    → compose (view (start + i * 64) (n * 64) ws) p ≡ compose (view (start + i * 64) (n * 64) ws) (drop rank r)
+    → then ≡ laid ((to + i) * 64) (compose (view (start + i * 64) (n * 64) ws) p) o
+    → Stored start to ws out r (i + n) (rank + count (view (start + i * 64) (n * 64) ws)) then
+stored-part start to ws out r i n rank p o then s reach same e =
+    let part = view (start + i * 64) (n * 64) ws in
+    let done = view start (i * 64) ws in
+    let rows : i * 64 + n * 64 ≡ (i + n) * 64 = omega arith in
+    let place : (to + i) * 64 ≡ to * 64 + i * 64 = omega arith in
+    let on : then ≡ laid (to * 64) (compose (view start ((i + n) * 64) ws) r) out =
+    e ∙ ap₂ (λ (k : ℕ) (l : List Bool). laid k l o) place (same ∙ ap (λ (k : ℕ). compose part (drop k r)) (s .counted))
+    ∙ ap (laid (to * 64 + i * 64) (compose part (drop (count done) r))) (s .composed)
+    ∙ whole-and-rest start (to * 64) (i * 64) (n * 64) ws out r (omega arith)
+    ∙ ap (λ (k : ℕ). laid (to * 64) (compose (view start k ws) r) out) rows in
+    record {
+      few = omega (arith, s .few, count-take-le (n * 64) (drop (start + i * 64) (bitsOfAll 64 ws)));
+      counted = ap (λ (k : ℕ). k + count part) (s .counted) ∙ count-rest start (i * 64) (n * 64) ws ∙ ap (λ (k : ℕ). count (view start k ws)) rows;
+      long = ap length on ∙ laid-length 64 (to * 64) (compose (view start ((i + n) * 64) ws) r) out;
+      below = subst (Below (2 ^ 64)) (sym on) (below-laid 64 (to * 64) (compose (view start ((i + n) * 64) ws) r) out);
+      composed = on;
+    }

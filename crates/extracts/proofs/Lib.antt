@@ -1,4 +1,3 @@
-pub mod RunBitLaws
 pub mod WalkLaws
 pub mod OverLaws
 pub mod OpenLaws

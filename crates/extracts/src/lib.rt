@@ -3,4 +3,3 @@
 mod chunks;
 pub mod inner;
 mod stores;
-mod walks;

@@ -1,2 +1,2 @@
-pub mod KeepLaws
 pub mod EntrySpanLaws
+pub mod AlikeLaws

@@ -12,7 +12,7 @@ use Rattle.rows.specs.Word.{bitsOf, wordOf}
 use Rattle.rows.proofs.WordsLaws.{bitsOf-wordOf-fit, fit-all}
 
 -- the same row n times
-same-part : (b : Bool) (row n len : ℕ) → row + n ≤ len → take n (drop row (replicate len b)) ≡ replicate n b
+pub same-part : (b : Bool) (row n len : ℕ) → row + n ≤ len → take n (drop row (replicate len b)) ≡ replicate n b
 same-part b zero zero len h = refl
 same-part b zero (suc n) zero h = absurd (omega arith)
 same-part b zero (suc n) (suc len) h = ap (λ (l : List Bool). b ∷ l) (same-part b zero n len (omega arith))

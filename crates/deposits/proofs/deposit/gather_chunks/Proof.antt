@@ -137,7 +137,7 @@ module _ (c : tie.After-rank-bits-for-chunk Inv-loop μ-loop) where
       let set : ones (masked c .self-bits .result) ≡ count t = ap ones (masked c .self-bits .ensures) ∙ ones-word t in
       let bits = ap₂ (λ (x y : ℕ). wordOf (tab x y (λ i. member i (es here)))) (head here .loop .inv .1 .counted) set in
       ap (λ (x : ℕ). compose t (bitsOf 64 x)) (c .rank-bits-for-chunk .ensures .is ∙ bits)
-      ∙ gathered-same t (first here + passed here) (total here) (es here) (short here) (ranked here)
+      ∙ gathered-same t (first here + passed here) (total here) (λ i. member i (es here)) (short here) (ranked here)
       ∙ ap (compose t) (sym (drop-drop (passed here) (first here) (listed (total here) (es here))))
 
 -- ---- the answers

@@ -13,9 +13,9 @@ use Rattle.rows.specs.Laid.{laid}
 use Rattle.rows.proofs.RowLaws.{count-take-le}
 use Rattle.rows.proofs.LaidLaws.{laid-length}
 use native.Mathlib.Nat.{zero-add}
-use Rattle.rows.specs.Lists.{listed}
+use Rattle.rows.specs.Lists.{listed, member}
 use Rattle.books.proofs.GatherLaws.{ascending-climbs}
-use Rattle.deposits.proofs.WholeLaws.{whole-and-rest, count-rest, listed-more}
+use Rattle.deposits.proofs.WholeLaws.{whole-and-rest, count-rest, ranks-more}
 use borrow.Author.Needs.{needs}
 use Rattle.deposits.proofs.inner.intersect_bit_buffer_by_rank_indices.Statement.{statement}
 use Rattle.deposits.proofs.inner.intersect_bit_buffer_by_rank_indices.Tie as tie
@@ -92,7 +92,7 @@ module _ (c : tie.After-gather-words) where
       ≡ laid (start .args .at) (compose (view (start .args .start) done ws) (listed total es)) (now (start .args .out))
   whole =
       let place : start .args .at / 64 * 64 ≡ start .args .at = omega arith in
-      let same = listed-more (view (start .args .start) done ws) passed total es (omega arith) (omega (arith, sum)) in
+      let same = ranks-more (view (start .args .start) done ws) passed total (λ i. member i es) (omega arith) (omega (arith, sum)) in
       ap₂ (λ (k : ℕ) (l : List Bool). laid k l (now (start .args .out))) place same
 
 -- ---- the answers

@@ -104,7 +104,7 @@ module _ (c : tie.After-rank-bits-for-chunk Inv-loop μ-loop) where
       let set : ones (masked c .whole-word .result) ≡ count t = ap ones (masked c .whole-word .ensures) ∙ ones-word t in
       let bits = ap₂ (λ (x y : ℕ). wordOf (tab x y (λ i. member i (es here)))) (head here .loop .inv .1 .counted) set in
       ap (λ (x : ℕ). compose t (bitsOf 64 x)) (c .rank-bits-for-chunk .ensures .is ∙ bits)
-      ∙ gathered-same t (passed here) (total here) (es here) (omega (arith, fit-length 64 (rows here))) (ranked here)
+      ∙ gathered-same t (passed here) (total here) (λ i. member i (es here)) (omega (arith, fit-length 64 (rows here))) (ranked here)
 
 -- ---- the answers
 

@@ -73,7 +73,7 @@ run-bits-requires : tie.Need-run-bits-requires
 run-bits-requires c κs =
     let s = start (other (c .before)) in
     let a = s .args in
-    (s .pre .1, far s, runs-came (o s) (a .next) (a .row .0) (in-runs c) (s .pre .3))
+    (s .pre .1 .1, far s, runs-came (o s) (a .next) (a .row .0) (in-runs c) (s .pre .3))
 
 returns-2 : tie.Need-returns-2
 returns-2 c =

@@ -1,13 +1,13 @@
--- `extracts::walks::bits_in_run` meets its contract: nothing where the run ends before it begins, and else ones moved up to its beginning.
+-- `books::inner::bits_in_run` meets its contract: nothing where the run ends before it begins, and else ones moved up to its beginning.
 -- By the laws of one run in a window. Assumes nothing.
 use Prim.Native.Nat.{ℕ, _-_, _*_, _%_, _^_, _≤_, _<_}
 use native.Mathlib.Omega.{arith}
 use mathlib.Core.Path.{_≡_, ap, ap₂, _∙_}
 use borrow.Author.Needs.{needs}
 use Rattle.books.specs.Windows.{into}
-use Rattle.extracts.proofs.RunBitLaws.{run-none, run-some}
-use Rattle.extracts.proofs.walks.bits_in_run.Statement.{statement}
-use Rattle.extracts.proofs.walks.bits_in_run.Tie as tie
+use Rattle.books.proofs.RunBitLaws.{run-none, run-some}
+use Rattle.books.proofs.inner.bits_in_run.Statement.{statement}
+use Rattle.books.proofs.inner.bits_in_run.Tie as tie
 
 -- ---- the places, each from the one after it
 

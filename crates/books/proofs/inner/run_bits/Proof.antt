@@ -1,4 +1,4 @@
--- `extracts::walks::run_bits` meets its contract.
+-- `books::inner::run_bits` meets its contract.
 -- The invariant: the runs passed are in the word, those from number i on are left, and those before it are behind the window. Assumes nothing.
 use Prim.Native.Nat.{ℕ, _+_, _-_}
 use mathlib.Core.List.{List}
@@ -6,9 +6,9 @@ use native.Mathlib.Omega.{arith}
 use lib.ListN.{length}
 use denote.Ref.{now}
 use Rattle.rows.proofs.RunTurnLaws.{NextRun}
-use Rattle.extracts.proofs.RunBitLaws.{Gathering, gathering-none, gathering-next, gathering-run, gathering-stop, gathering-end}
-use Rattle.extracts.proofs.walks.run_bits.Statement.{statement}
-use Rattle.extracts.proofs.walks.run_bits.Tie as tie
+use Rattle.books.proofs.RunBitLaws.{Gathering, gathering-none, gathering-next, gathering-run, gathering-stop, gathering-end}
+use Rattle.books.proofs.inner.run_bits.Statement.{statement}
+use Rattle.books.proofs.inner.run_bits.Tie as tie
 
 abbrev Inv-loop : tie.InvT-loop
 Inv-loop runs next base n end bits₀ i₀ bits i = Gathering runs base n i bits
