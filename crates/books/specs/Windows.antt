@@ -1,9 +1,10 @@
 -- A window over the rows that runs say: so many from a row on, wherever the runs begin and end. What a walk over runs knows that has come to a row.
 -- Assumes nothing.
-use Prim.Native.Nat.{ℕ, _-_, _≤_, min}
+use Prim.Native.Nat.{ℕ, _+_, _-_, _≤_, min}
 use mathlib.Core.Path.{_≡_}
-use mathlib.Core.Bool.{Bool}
-use mathlib.Core.List.{List}
+use mathlib.Core.Bool.{Bool, true, false}
+use mathlib.Core.List.{List, [], _∷_}
+use lib.Dec.{leb}
 use lib.ListN.{drop}
 use Rattle.rows.specs.Lists.{tab}
 use Rattle.rows.specs.Runs.{held, Apart}
@@ -20,3 +21,13 @@ into b n row = min (row - b) n
 pub record Reached (runs : List ℕ) (i b : ℕ) : Type 0 where
   pub ahead : Apart 0 1048576 (drop i runs)
   pub behind : (row : ℕ) → b ≤ row → held row runs ≡ held row (drop i runs)
+
+-- how many numbers the runs are that end before row e, up to the first that does not
+abbrev pub orBefore : Bool → ℕ → ℕ
+orBefore true n = 0
+orBefore false n = 2 + n
+
+abbrev pub endedBefore : ℕ → List ℕ → ℕ
+endedBefore e [] = 0
+endedBefore e (first ∷ []) = 0
+endedBefore e (first ∷ past ∷ ns) = orBefore (leb e past) (endedBefore e ns)

@@ -14,7 +14,7 @@ ghost use Rattle.rows.specs.Laid.{laid};
 ghost use Rattle.rows.specs.Asks.{Room, Chunk};
 ghost use Rattle.books.specs.Chunks.{chunkAt};
 ghost use Rattle.books.specs.Gathers.{Parted, Gathers};
-ghost use Rattle.books.specs.Windows.{window, into, Reached};
+ghost use Rattle.books.specs.Windows.{window, into, Reached, endedBefore};
 use laid::inner::clear;
 use laid::inner::put;
 use laid::inner::set_bit;
@@ -138,7 +138,8 @@ fn bits_in_run(first: u64, past: u64, base: u64, n: u64) -> u64
 // The n bits from base on of runs, from the run on that a walk has come to: those before it hold nothing from base on.
 pub fn run_bits(runs: &[u32], next: usize, base: u64, n: u64) -> Gathered
     requires { ⌜ (n ≤ 64) × (base + n < 2 ^ 64) × Reached (now runs) next base ⌝ }
-    ensures { λ r. ⌜ (r .bits ≡ wordOf (window base n (now (runs .entry)))) × Reached (now (runs .entry)) (r .next) (base + n) ⌝ }
+    ensures { λ r. ⌜ (r .bits ≡ wordOf (window base n (now (runs .entry)))) × Reached (now (runs .entry)) (r .next) (base + n)
+        × (r .next ≡ next + endedBefore (base + n) (drop next (now (runs .entry)))) ⌝ }
 {
     let end = base + n;
     let mut bits: u64 = 0;
@@ -158,7 +159,8 @@ pub fn run_bits(runs: &[u32], next: usize, base: u64, n: u64) -> Gathered
 // The rank bits of a chunk that has so many rows set, from a rank on: those of runs of ranks, from the run on that the walk has come to.
 pub fn run_bits_for_chunk(ranks: &[u32], next: usize, rank: Rank, set: u64) -> Gathered
     requires { ⌜ (set ≤ 64) × (rank .0 + set < 2 ^ 64) × Reached (now ranks) next (rank .0) ⌝ }
-    ensures { λ r. ⌜ (r .bits ≡ wordOf (window (rank .0) set (now (ranks .entry)))) × Reached (now (ranks .entry)) (r .next) (rank .0 + set) ⌝ }
+    ensures { λ r. ⌜ (r .bits ≡ wordOf (window (rank .0) set (now (ranks .entry)))) × Reached (now (ranks .entry)) (r .next) (rank .0 + set)
+        × (r .next ≡ next + endedBefore (rank .0 + set) (drop next (now (ranks .entry)))) ⌝ }
 {
     run_bits(ranks, next, rank.0, set)
 }

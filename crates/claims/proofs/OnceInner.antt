@@ -18,6 +18,10 @@ use Rattle.books.specs.declared.inner.Gathered.{Gathered}
 use Rattle.books.proofs.GatherLaws.{parted-once}
 use Rattle.books.proofs.inner.rank_bits_for_chunk.Kinds as books-gather-kinds
 use Rattle.books.proofs.inner.rank_bits_for_chunk.Reads as books-gather
+use Rattle.books.proofs.inner.run_bits.Kinds as books-run-bits-kinds
+use Rattle.books.proofs.inner.run_bits.Reads as books-run-bits
+use Rattle.books.proofs.inner.run_bits_for_chunk.Kinds as books-run-bits-for-chunk-kinds
+use Rattle.books.proofs.inner.run_bits_for_chunk.Reads as books-run-bits-for-chunk
 use Rattle.books.proofs.inner.put_rows.Kinds as books-put-rows-kinds
 use Rattle.books.proofs.inner.put_rows.Reads as books-put-rows
 use Rattle.books.proofs.inner.mark_row.Kinds as books-mark-row-kinds
@@ -172,10 +176,6 @@ use Rattle.fills.proofs.inner.lay.set_run.Kinds as fills-set-run-kinds
 use Rattle.fills.proofs.inner.lay.set_run.Reads as fills-set-run
 use Rattle.marks.proofs.inner.entry_at.Kinds as marks-entry-at-kinds
 use Rattle.marks.proofs.inner.entry_at.Reads as marks-entry-at
-use Rattle.marks.proofs.inner.row_from.Kinds as marks-row-from-kinds
-use Rattle.marks.proofs.inner.row_from.Reads as marks-row-from
-use Rattle.marks.proofs.inner.row_on.Kinds as marks-row-on-kinds
-use Rattle.marks.proofs.inner.row_on.Reads as marks-row-on
 use Rattle.under.proofs.inner.lay_runs_in_runs.Kinds as runs-in-runs-kinds
 use Rattle.under.proofs.inner.lay_runs_in_runs.Reads as runs-in-runs
 use Rattle.kept.proofs.inner.lay_entries_by_runs.Kinds as entries-by-runs-kinds
@@ -219,6 +219,16 @@ pub books-rank-bits-for-chunk-one : OneAnswer 1 books-gather-kinds.ps books-gath
 books-rank-bits-for-chunk-one κs a p x y v w hv hw =
     let make : ℕ → ℕ → Gathered = λ bits next. record { bits = bits; next = next } in
     (ap₂ make (hv .is ∙ sym (hw .is)) (parted-once _ (x .next) (y .next) _ (hv .parted) (hw .parted)), refl)
+
+pub books-run-bits-one : OneAnswer 1 books-run-bits-kinds.ps books-run-bits-kinds.r books-run-bits.Pre books-run-bits.Post
+books-run-bits-one κs a p x y v w hv hw =
+    let make : ℕ → ℕ → Gathered = λ bits next. record { bits = bits; next = next } in
+    (ap₂ make (hv .0 ∙ sym (hw .0)) (hv .2 ∙ sym (hw .2)), refl)
+
+pub books-run-bits-for-chunk-one : OneAnswer 1 books-run-bits-for-chunk-kinds.ps books-run-bits-for-chunk-kinds.r books-run-bits-for-chunk.Pre books-run-bits-for-chunk.Post
+books-run-bits-for-chunk-one κs a p x y v w hv hw =
+    let make : ℕ → ℕ → Gathered = λ bits next. record { bits = bits; next = next } in
+    (ap₂ make (hv .0 ∙ sym (hw .0)) (hv .2 ∙ sym (hw .2)), refl)
 
 pub books-put-rows-one : OneAnswer 1 books-put-rows-kinds.ps books-put-rows-kinds.r books-put-rows.Pre books-put-rows.Post
 books-put-rows-one κs a p x y v w hv hw = (refl, ap (λ (l : List ℕ). (l, (tt, (tt, (tt, (tt, tt)))))) (hv ∙ sym hw))
@@ -435,12 +445,6 @@ under-lay-runs-in-runs-one κs a p x y v w hv hw = (hv .0 ∙ sym (hw .0), ap (�
 
 pub kept-lay-entries-by-runs-one : OneAnswer 3 entries-by-runs-kinds.ps entries-by-runs-kinds.r entries-by-runs.Pre entries-by-runs.Post
 kept-lay-entries-by-runs-one κs a p x y v w hv hw = (hv .0 ∙ sym (hw .0), ap (λ (l : List ℕ). (tt, (tt, (tt, (tt, (tt, (l, tt))))))) (hv .1 ∙ sym (hw .1)))
-
-pub marks-row-from-one : OneAnswer 1 marks-row-from-kinds.ps marks-row-from-kinds.r marks-row-from.Pre marks-row-from.Post
-marks-row-from-one κs a p x y v w hv hw = (hv ∙ sym hw, refl)
-
-pub marks-row-on-one : OneAnswer 1 marks-row-on-kinds.ps marks-row-on-kinds.r marks-row-on.Pre marks-row-on.Post
-marks-row-on-one κs a p x y v w hv hw = (hv ∙ sym hw, refl)
 
 pub under-lay-entries-in-runs-one : OneAnswer 3 entries-in-runs-kinds.ps entries-in-runs-kinds.r entries-in-runs.Pre entries-in-runs.Post
 under-lay-entries-in-runs-one κs a p x y v w hv hw = (hv .0 ∙ sym (hw .0), ap (λ (l : List ℕ). (tt, (tt, (tt, (tt, (tt, (l, tt))))))) (hv .1 ∙ sym (hw .1)))

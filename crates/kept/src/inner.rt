@@ -41,7 +41,15 @@ pub fn keep_words(
     let n = (len / 64) as usize;
     let reached = keep_whole(words, start, n, ranks, (at / 64) as usize, out);
     let done = len / 64 * 64;
-    keep_chunks(words, start + done, len - done, ranks, reached, at + done, out)
+    keep_chunks(
+        words,
+        start + done,
+        len - done,
+        ranks,
+        reached,
+        at + done,
+        out,
+    )
 }
 
 // Self a list, or runs of one row each, the rank mask in runs: that part of the output is cleared, and the entries from each run's first rank to its

@@ -1,7 +1,7 @@
 -- The row of a rank, by a walk over chunks; and what a loop over ranks keeps. By the laws of select on the rows before a
 -- chunk and on the chunk.
 -- Assumes nothing.
-use Prim.Native.Nat.{ℕ, suc, _+_, _-_, _*_, _/_, _≤_, _<_, min}
+use Prim.Native.Nat.{ℕ, suc, _+_, _-_, _*_, _≤_, _<_, min}
 use native.Mathlib.Nat.{zero-add}
 use native.Mathlib.Decide.{decLt}
 use mathlib.Core.Path.{_≡_, refl, sym, ap, ap₂, _∙_}
@@ -9,7 +9,7 @@ use mathlib.Core.Bool.{Bool, true}
 use mathlib.Core.List.{List, [], _∷_, _++_, map, map-append, append-nil}
 use native.Mathlib.Omega.{arith}
 use lib.ListN.{length, take, drop, length-take, length-drop, take-append-drop}
-use lib.Seq.{take-all, take-add, take-take, length-take-le}
+use lib.Seq.{take-all, take-add, length-take-le}
 use lib.Count.{ones}
 use Rattle.rows.specs.Rows.{count, rankAt, compose}
 use Rattle.rows.specs.Word.{bitsOf, wordOf}
@@ -26,11 +26,9 @@ use Rattle.rows.proofs.KeptLaws.{rows-compose-list}
 use Rattle.rows.proofs.SelectLaws.{selects, select-in, select-skip}
 use Rattle.rows.proofs.PartLaws.{rows-append, rows-word, count-part}
 use Rattle.rows.specs.declared.Rank.{Rank}
-use Rattle.rows.specs.declared.Row.{Row}
-use Rattle.marks.specs.declared.inner.Place.{Place}
-use Rattle.marks.specs.declared.inner.Found.{Found}
+use Rattle.marks.specs.declared.driven.Place.{Place}
 use Rattle.books.specs.Chunks.{chunkAt}
-use Rattle.marks.specs.Driven.{Walked, Holds, foundAt}
+use Rattle.marks.specs.Driven.{Walked, Holds}
 
 -- ---- a chunk
 
@@ -82,7 +80,7 @@ module _ (s : List Bool) (place : Place) (rank : Rank) (h : Holds s place rank) 
   left-in = omega (arith, h .reached, h .held)
 
   pub place-in : place .done .0 < length s
-  place-in = behind s (place .done .0) (rank .0) (omega (arith, h .walked .0, h .reached)) (omega (arith, h .walked .0, h .held, rank-next s (place .done .0), count-part (place .done .0 + 64) s))
+  place-in = behind s (place .done .0) (rank .0) (omega (arith, h .walked, h .reached)) (omega (arith, h .walked, h .held, rank-next s (place .done .0), count-part (place .done .0 + 64) s))
 
   pub row-of : select s (rank .0) ≡ place .done .0 + select (bitsOf 64 (wordOf (chunkAt s (place .done .0)))) (rank .0 - place .passed .0)
   row-of =
@@ -92,41 +90,10 @@ module _ (s : List Bool) (place : Place) (rank : Rank) (h : Holds s place rank) 
       let k = rank .0 - place .passed .0 in
       let short : length c ≤ 64 = omega (arith, chunk-length s i) in
       ap (λ (t : List Bool). select t (rank .0)) (sym (take-append-drop i s))
-      ∙ select-skip a (drop i s) (rank .0) (omega (arith, h .walked .0, h .reached))
-      ∙ ap₂ (λ (x y : ℕ). x + select (drop i s) y) (length-take-le i s (omega (arith, place-in))) (ap (λ (y : ℕ). rank .0 - y) (sym (h .walked .0)))
+      ∙ select-skip a (drop i s) (rank .0) (omega (arith, h .walked, h .reached))
+      ∙ ap₂ (λ (x y : ℕ). x + select (drop i s) y) (length-take-le i s (omega (arith, place-in))) (ap (λ (y : ℕ). rank .0 - y) (sym (h .walked)))
       ∙ ap (λ (x : ℕ). i + x)
       (ap (λ (t : List Bool). select t k) (sym (take-append-drop 64 (drop i s))) ∙ select-in c (drop 64 (drop i s)) k left-in ∙ sym (select-word 64 c k short left-in))
-
-  -- the chunk is the one that has the row
-  row-chunk : place .done .0 ≡ select s (rank .0) / 64 * 64
-  row-chunk =
-      let c = chunkAt s (place .done .0) in
-      let k = rank .0 - place .passed .0 in
-      let short : length c ≤ 64 = omega (arith, chunk-length s (place .done .0)) in
-      omega (arith, row-of, select-word 64 c k short left-in, selects c k left-in .within, h .walked .1)
-
-  -- so that the row and the place are those that are to be found
-  pub row-found : (row : Row) → row .0 ≡ select s (rank .0) → record { row = row; place = place } ≡ foundAt s rank
-  row-found row e =
-      let done = row-chunk in
-      let passed : place .passed .0 ≡ rankAt s (select s (rank .0) / 64 * 64) = h .walked .0 ∙ ap (rankAt s) done in
-      λ i. record { row = record { 0 = e i }; place = record { done = record { 0 = done i }; passed = record { 0 = passed i } } }
-
--- what was found: the row, and a place in the walk that is not past the rank
-module _ (s : List Bool) (rank : Rank) (r : Found) (e : r ≡ foundAt s rank) where
-  pub found-row : r .row .0 ≡ select s (rank .0)
-  found-row = ap (λ (f : Found). f .row .0) e
-
-  pub found-walked : Walked s (r .place)
-  found-walked =
-      let done : r .place .done .0 ≡ select s (rank .0) / 64 * 64 = ap (λ (f : Found). f .place .done .0) e in
-      (ap (λ (f : Found). f .place .passed .0) e ∙ ap (rankAt s) (sym done), omega (arith, done))
-
-  pub found-reached : rank .0 < count s → r .place .passed .0 ≤ rank .0
-  found-reached h =
-      let row : ℕ = select s (rank .0) in
-      let before : take (row / 64 * 64) (take row s) ≡ take (row / 64 * 64) s = take-take (row / 64 * 64) row s (omega arith) in
-      omega (arith, ap (λ (f : Found). f .place .passed .0) e, ap count before, count-part (row / 64 * 64) (take row s), selects s (rank .0) h .rank)
 
 -- ---- a loop over ranks
 

@@ -12,8 +12,7 @@ ghost use Rattle.rows.specs.Words.{view};
 ghost use Rattle.rows.specs.Lists.{listed, Ascending, setRows, select};
 ghost use Rattle.rows.specs.Laid.{laid, marked};
 ghost use Rattle.rows.specs.Asks.{Room, InView};
-ghost use Rattle.marks.specs.Driven.{HasRows, Walked, Holds};
-use super::inner::Place;
+ghost use Rattle.marks.specs.Driven.{Walked, Holds};
 use books::inner::mark_row;
 use books::inner::rank_chunk;
 use books::inner::self_chunk;
@@ -21,9 +20,15 @@ use rows::Rank;
 use rows::Row;
 use word::inner::select_bit_position;
 
+// A place in the walk over self: the first row not passed, a chunk's first, and its rank, the set rows before it.
+pub struct Place {
+    pub done: Row,
+    pub passed: Rank,
+}
+
 // From a place that is not past the rank on, the place whose chunk holds it.
-pub fn seek(words: &[u64], start: u64, len: u64, from: Place, rank: Rank) -> Place
-    requires { ⌜ HasRows start len (now words) × Walked (view start len (now words)) from
+fn seek(words: &[u64], start: u64, len: u64, from: Place, rank: Rank) -> Place
+    requires { ⌜ InView start len (now words) × Walked (view start len (now words)) from
         × (from .passed .0 ≤ rank .0) × (rank .0 < count (view start len (now words))) ⌝ }
     ensures { λ r. ⌜ Holds (view start len (now (words .entry))) r rank ⌝ }
 {
@@ -59,8 +64,8 @@ fn bit_in(chunk: u64, rank: u32) -> u32
 }
 
 // The row of a rank that the chunk at the place holds.
-pub fn row_in(words: &[u64], start: u64, len: u64, place: Place, rank: Rank) -> Row
-    requires { ⌜ HasRows start len (now words) × Holds (view start len (now words)) place rank ⌝ }
+fn row_in(words: &[u64], start: u64, len: u64, place: Place, rank: Rank) -> Row
+    requires { ⌜ InView start len (now words) × Holds (view start len (now words)) place rank ⌝ }
     ensures { λ r. ⌜ r .0 ≡ select (view start len (now (words .entry))) (rank .0) ⌝ }
 {
     let left = (rank.0 - place.passed.0) as u32;

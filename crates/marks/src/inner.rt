@@ -9,55 +9,14 @@ ghost use Rattle.rows.specs.Words.{bitsOfAll, view};
 ghost use Rattle.rows.specs.Lists.{listed, Ascending};
 ghost use Rattle.rows.specs.Laid.{laid};
 ghost use Rattle.rows.specs.Asks.{Room, InView};
-ghost use Rattle.marks.specs.Driven.{HasRows, Walked, foundAt};
 ghost use Rattle.marks.specs.Entries.{entries};
 use super::driven::intersect_mask_driven_list;
 use super::driven::intersect_mask_driven_words;
-use super::driven::row_in;
-use super::driven::seek;
 use super::lists::intersect_by_rank_indices;
 use super::lists::intersect_indices_by_rank_bits;
 use laid::inner::clear;
 use rows::Rank;
 use rows::Row;
-
-// A place in the walk over self: the first row not passed, a chunk's first, and its rank, the set rows before it.
-pub struct Place {
-    pub done: Row,
-    pub passed: Rank,
-}
-
-// The row of a rank, and the place whose chunk has it.
-pub struct Found {
-    pub row: Row,
-    pub place: Place,
-}
-
-// The row of a rank, sought from a place on that is not past it.
-pub fn row_from(words: &[u64], start: u64, len: u64, from: Place, rank: Rank) -> Found
-    requires { ⌜ HasRows start len (now words) × Walked (view start len (now words)) from
-        × (from .passed .0 ≤ rank .0) × (rank .0 < count (view start len (now words))) ⌝ }
-    ensures { λ r. ⌜ r ≡ foundAt (view start len (now (words .entry))) rank ⌝ }
-{
-    let place = seek(words, start, len, from, rank);
-    let row = row_in(words, start, len, place, rank);
-    Found {
-        row: row,
-        place: place,
-    }
-}
-
-// The row of a rank, sought from the row of another that is not above it. Of a run of one rank both are the same, and nothing is sought.
-pub fn row_on(words: &[u64], start: u64, len: u64, from: Found, known: Rank, rank: Rank) -> Found
-    requires { ⌜ HasRows start len (now words) × (from ≡ foundAt (view start len (now words)) known)
-        × (known .0 ≤ rank .0) × (rank .0 < count (view start len (now words))) ⌝ }
-    ensures { λ r. ⌜ r ≡ foundAt (view start len (now (words .entry))) rank ⌝ }
-{
-    if rank.0 == known.0 {
-        return from;
-    }
-    row_from(words, start, len, from.place, rank)
-}
 
 // The self entry that has a rank.
 pub fn entry_at(rows: &[u32], single: bool, rank: Rank) -> Row

@@ -1,7 +1,7 @@
--- What lies behind bits that were laid is as it was, and what lies there laid over itself changes nothing. By recursion over the place.
+-- A view from a row on; and what lies somewhere laid over itself changes nothing. By recursion over the place.
 -- Assumes nothing.
 use Prim.Native.Nat.{ℕ, zero, suc, _+_, _-_, _^_, _≤_}
-use native.Mathlib.Nat.{zero-add, suc-add, lt-of-lt-of-le}
+use native.Mathlib.Nat.{lt-of-lt-of-le}
 use mathlib.Core.Path.{_≡_, refl, sym, ap, _∙_}
 use mathlib.Core.Bool.{Bool}
 use mathlib.Core.List.{List, [], _∷_}
@@ -15,26 +15,6 @@ use Rattle.rows.specs.Laid.{laidIn, laid}
 use Rattle.rows.proofs.WordLaws.{wordOf-lt}
 use Rattle.rows.proofs.WordsLaws.{wordsOf-bitsOfAll}
 use Rattle.rows.proofs.PartLaws.{drop-take}
-use Rattle.rows.proofs.LaidLaws.{laid-bits}
-
--- ---- behind what was laid
-
-over-behind : (xs ys : List Bool) → drop (length ys) (over xs ys) ≡ drop (length ys) xs
-over-behind [] ys = refl
-over-behind (x ∷ xs) [] = refl
-over-behind (x ∷ xs) (y ∷ ys) = over-behind xs ys
-
-splice-behind : (at : ℕ) (xs ys : List Bool) → drop (at + length ys) (splice at xs ys) ≡ drop (at + length ys) xs
-splice-behind zero xs ys = rw zero-add (over-behind xs ys)
-splice-behind (suc at) [] ys = refl
-splice-behind (suc at) (x ∷ xs) ys = rw suc-add (splice-behind at xs ys)
-
-pub view-behind : (at next n : ℕ) (xs : List Bool) (ns : List ℕ) → next ≡ at + length xs → view next n (laid at xs ns) ≡ view next n ns
-view-behind at next n xs ns e =
-    ap (λ (k : ℕ). view k n (laid at xs ns)) e
-    ∙ ap (λ (l : List Bool). take n (drop (at + length xs) l)) (laid-bits 64 at xs ns)
-    ∙ ap (take n) (splice-behind at (bitsOfAll 64 ns) xs)
-    ∙ ap (λ (k : ℕ). view k n ns) (sym e)
 
 -- a view from a row on
 pub view-from : (start row len : ℕ) (ws : List ℕ) → row ≤ len → view (start + row) (len - row) ws ≡ drop row (view start len ws)

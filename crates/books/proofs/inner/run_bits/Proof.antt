@@ -1,17 +1,21 @@
 -- `books::inner::run_bits` meets its contract.
--- The invariant: the runs passed are in the word, those from number i on are left, and those before it are behind the window. Assumes nothing.
+-- The invariant: the runs passed are in the word, those from number i on are left, and those before it are behind the window and end
+-- before it does. Assumes nothing.
 use Prim.Native.Nat.{ℕ, _+_, _-_}
+use mathlib.Core.Path.{_≡_, refl, sym, _∙_}
 use mathlib.Core.List.{List}
 use native.Mathlib.Omega.{arith}
-use lib.ListN.{length}
+use lib.ListN.{length, drop}
 use denote.Ref.{now}
 use Rattle.rows.proofs.RunTurnLaws.{NextRun}
-use Rattle.books.proofs.RunBitLaws.{Gathering, gathering-none, gathering-next, gathering-run, gathering-stop, gathering-end}
+use Rattle.books.specs.Windows.{endedBefore}
+use Rattle.books.proofs.RunBitLaws.{Gathering, gathering-none, gathering-next, gathering-run, gathering-stop, gathering-end, ended-none, ended-here, ended-on}
 use Rattle.books.proofs.inner.run_bits.Statement.{statement}
 use Rattle.books.proofs.inner.run_bits.Tie as tie
 
 abbrev Inv-loop : tie.InvT-loop
-Inv-loop runs next base n end bits₀ i₀ bits i = Gathering runs base n i bits
+Inv-loop runs next base n end bits₀ i₀ bits i =
+    Gathering runs base n i bits × (next + endedBefore (base + n) (drop next runs) ≡ i + endedBefore (base + n) (drop i runs))
 
 abbrev μ-loop : tie.MeasureT-loop
 μ-loop runs next base n end bits₀ i₀ bits i = length runs - i
@@ -39,10 +43,10 @@ module _ (c : tie.In-loop Inv-loop μ-loop) where
   abbrev runs : List ℕ
   runs = now (s .args .runs)
 
-  next : NextRun (head c .loop .inv .from) 1048576 (head c .loop .i) runs
+  next : NextRun (head c .loop .inv .0 .from) 1048576 (head c .loop .i) runs
   next =
       let l = head c .loop in
-      gathering-next runs (s .args .base) (s .args .n) (l .i) (l .bits) (l .inv) (omega arith)
+      gathering-next runs (s .args .base) (s .args .n) (l .i) (l .bits) (l .inv .0) (omega arith)
 
 -- ---- the answers
 
@@ -52,7 +56,7 @@ add-end c = omega (arith, c .before .pre .1)
 loop-holds : tie.Need-loop-holds Inv-loop μ-loop
 loop-holds c =
     let a = c .before .args in
-    gathering-none (now (a .runs)) (a .base) (a .n) (a .next) (c .before .pre .2)
+    (gathering-none (now (a .runs)) (a .base) (a .n) (a .next) (c .before .pre .2), refl)
 
 mul-first : tie.Need-mul-first Inv-loop μ-loop
 mul-first c = omega arith
@@ -84,7 +88,9 @@ returns c =
     let t = turn m in
     let l = head t .loop in
     let a = s t .args in
-    gathering-stop (runs t) (a .base) (a .n) (l .i) (l .bits) (l .inv) (omega arith) (m .bits-in-run .result) (m .bits-in-run .ensures) (c .if1 .taken)
+    let g = gathering-stop (runs t) (a .base) (a .n) (l .i) (l .bits) (l .inv .0) (omega arith) (m .bits-in-run .result) (m .bits-in-run .ensures) (c .if1 .taken) in
+    let e : ℕ = a .base + a .n in
+    (g .0, g .1, sym (l .inv .1 ∙ ended-here e (l .inv .0 .from) 1048576 (l .i) (runs t) (next t) (c .if1 .taken)))
 
 add-i : tie.Need-add-i Inv-loop μ-loop
 add-i c = omega (arith, next (turn (c .before)) .pair)
@@ -98,14 +104,18 @@ loop-again c =
     let t = turn m in
     let l = head t .loop in
     let a = s t .args in
-    gathering-run (runs t) (a .base) (a .n) (l .i) (l .bits) (l .inv) (omega arith) (m .bits-in-run .result) (m .bits-in-run .ensures) (omega arith)
+    let e : ℕ = a .base + a .n in (
+      gathering-run (runs t) (a .base) (a .n) (l .i) (l .bits) (l .inv .0) (omega arith) (m .bits-in-run .result) (m .bits-in-run .ensures) (omega arith),
+      l .inv .1 ∙ ended-on e (l .inv .0 .from) 1048576 (l .i) (runs t) (next t) (omega arith),
+    )
 
 returns-2 : tie.Need-returns-2 Inv-loop μ-loop
 returns-2 c =
     let h = c .before in
     let l = h .loop in
     let a = entry h .args in
-    gathering-end (now (a .runs)) (a .base) (a .n) (l .i) (l .bits) (l .inv) (omega arith)
+    let g = gathering-end (now (a .runs)) (a .base) (a .n) (l .i) (l .bits) (l .inv .0) (omega arith) in
+    (g .0, g .1, sym (l .inv .1 ∙ ended-none (a .base + a .n) 0 0 (l .i) (now (a .runs)) (omega arith)))
 
 pub run-bits-spec : {M : Type 1} → statement M
 run-bits-spec =

@@ -78,7 +78,6 @@ cast-past c = omega (arith, c .shared-slice-known2 .given (start (c .before) .ar
 returns-3 : tie.Need-returns-3
 returns-3 c = refl
 
-
 returns-4 : tie.Need-returns-4
 returns-4 c =
     let e = past c in

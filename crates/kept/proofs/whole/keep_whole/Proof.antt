@@ -113,8 +113,13 @@ module _ (c : tie.After-store-alike Inv-loop μ-loop) where
   -- their ranks are below the count
   ranked : rank + set ≤ total
   ranked =
-      omega (arith, set-is, head c .loop .inv .1 .counted, count-rest (s .args .start) (i * 64) (some * 64) ws,
-      rank-within (s .args .start) (i * 64 + some * 64) (s .args .n * 64) ws (omega (arith, within)))
+      omega (
+        arith,
+        set-is,
+        head c .loop .inv .1 .counted,
+        count-rest (s .args .start) (i * 64) (some * 64) ws,
+        rank-within (s .args .start) (i * 64 + some * 64) (s .args .n * 64) ws (omega (arith, within)),
+      )
 
   stored-on : (then : List ℕ) → then ≡ laid ((s .args .to + i) * 64) (compose part (replicate most v)) (head c .loop .out)
       → Stored (s .args .start) (s .args .to) ws (now (s .args .out)) r (i + some) (rank + set) then
@@ -268,8 +273,15 @@ add-held-2 : tie.Need-add-held-2 Inv-loop μ-loop
 add-held-2 c =
     let k = c .before in
     let w = read k in
-    omega (arith, told-held (told-here w), k .keep-bits .ensures .2, held-on (first w) (ones-set w) (runs (here w)),
-    held-few (first w + ones-set w) (runs (here w)), few (here w), word-few w)
+    omega (
+      arith,
+      told-held (told-here w),
+      k .keep-bits .ensures .2,
+      held-on (first w) (ones-set w) (runs (here w)),
+      held-few (first w + ones-set w) (runs (here w)),
+      few (here w),
+      word-few w,
+    )
 
 add-past : tie.Need-add-past Inv-loop μ-loop
 add-past c =

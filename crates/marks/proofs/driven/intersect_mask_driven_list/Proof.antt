@@ -27,7 +27,7 @@ abbrev μ-loop : tie.MeasureT-loop
 μ-loop words start len ranks at out₀ place₀ i₀ out place i = length ranks - i
 
 loop-holds : tie.Need-loop-holds Inv-loop μ-loop
-loop-holds c = (omega arith, refl, record { walked = (refl, refl); ahead = c .before .before .before .pre .1; marks = refl })
+loop-holds c = (omega arith, refl, record { walked = refl; ahead = c .before .before .before .pre .1; marks = refl })
 
 mul-entry : tie.Need-mul-entry Inv-loop μ-loop
 mul-entry c = omega arith

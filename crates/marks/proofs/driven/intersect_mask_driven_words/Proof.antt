@@ -71,7 +71,7 @@ module _ (c : tie.Start Inv-loop μ-loop) where
 -- ---- the answers
 
 loop-holds : tie.Need-loop-holds Inv-loop μ-loop
-loop-holds c = (refl, (refl, refl), omega arith, refl)
+loop-holds c = (refl, refl, omega arith, refl)
 
 rank-chunk-requires : tie.Need-rank-chunk-requires Inv-loop μ-loop
 rank-chunk-requires c κs = (start c .pre .3, omega arith)

@@ -41,7 +41,7 @@ module _ (s : tie.Start) where
   within : s .args .place .done .0 < s .args .len
   within =
       let a = s .args in
-      omega (arith, place-in v (a .place) (a .rank) (s .pre .1), view-length (a .start) (a .len) (now (a .words)) (s .pre .0 .1))
+      omega (arith, place-in v (a .place) (a .rank) (s .pre .1), view-length (a .start) (a .len) (now (a .words)) (s .pre .0 .2))
 
   held : left < count (chunkAt v (s .args .place .done .0))
   held = left-in v (s .args .place) (s .args .rank) (s .pre .1)
@@ -57,7 +57,7 @@ cast-left c =
     omega (arith, held s, chunk-few (v s) (s .args .place .done .0))
 
 self-chunk-requires : tie.Need-self-chunk-requires
-self-chunk-requires c κs = (start c .pre .0 .1, within (start c))
+self-chunk-requires c κs = (start c .pre .0 .2, within (start c))
 
 bit-in-requires : tie.Need-bit-in-requires
 bit-in-requires c κs =

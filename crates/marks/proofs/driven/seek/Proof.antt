@@ -27,10 +27,10 @@ loop-holds c = search needs
 within : (c : tie.At-loop Inv-loop μ-loop) → c .loop .place .done .0 < c .before .before .args .len
 within c =
     let s = c .before .before in
-    view-behind (s .args .start) (s .args .len) (now (s .args .words)) (s .pre .0 .1) (c .loop .place .done .0) (s .args .rank .0) (omega (arith, c .loop .inv .0)) (s .pre .3)
+    view-behind (s .args .start) (s .args .len) (now (s .args .words)) (s .pre .0 .2) (c .loop .place .done .0) (s .args .rank .0) (omega (arith, c .loop .inv .0)) (s .pre .3)
 
 self-chunk-requires : tie.Need-self-chunk-requires Inv-loop μ-loop
-self-chunk-requires c κs = (c .before .before .pre .0 .1, within c)
+self-chunk-requires c κs = (c .before .before .pre .0 .2, within c)
 
 -- what its chunk has, and what that comes to: the next chunk's rank, which fits
 module _ (c : tie.After-self-chunk Inv-loop μ-loop) where
@@ -43,7 +43,7 @@ module _ (c : tie.After-self-chunk Inv-loop μ-loop) where
   small : c .before .loop .place .passed .0 + ones (c .self-chunk .result) < 1048640
   small =
       let a = start .args in
-      omega (arith, counted, chunk-few (view (a .start) (a .len) (now (a .words))) (c .before .loop .place .done .0), view-few (a .start) (a .len) (now (a .words)) (start .pre .0 .1))
+      omega (arith, counted, chunk-few (view (a .start) (a .len) (now (a .words))) (c .before .loop .place .done .0), view-few (a .start) (a .len) (now (a .words)) (start .pre .0 .2))
 
 cast-count : tie.Need-cast-count Inv-loop μ-loop
 cast-count c = omega (arith, small c)
