@@ -108,8 +108,8 @@ pub fn rank_bits_for_chunk(ranks: &[u32], next: usize, rank: Rank, set: u64) -> 
 
 // ---- of runs: a walk that goes on from chunk to chunk, so that each run is looked at once, or once more where a chunk ends in it
 
-// How far into the n numbers from base on another number lies.
-fn into_chunk(base: u64, n: u64, number: u64) -> u64
+// How far into the n numbers from base on another number lies. Base is a row or a rank, as the number is.
+pub fn into_window(base: u64, n: u64, number: u64) -> u64
     ensures { λ r. ⌜ r ≡ into base n number ⌝ }
 {
     if number <= base {
@@ -127,8 +127,8 @@ fn bits_in_run(first: u64, past: u64, base: u64, n: u64) -> u64
     requires { ⌜ (n ≤ 64) × (base + n < 2 ^ 64) ⌝ }
     ensures { λ r. ⌜ r ≡ wordOf (tab base n (λ i. leb first i && ltb i past)) ⌝ }
 {
-    let begin = into_chunk(base, n, first);
-    let end = into_chunk(base, n, past);
+    let begin = into_window(base, n, first);
+    let end = into_window(base, n, past);
     if end <= begin {
         return 0;
     }

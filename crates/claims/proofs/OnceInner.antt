@@ -18,6 +18,8 @@ use Rattle.books.specs.declared.inner.Gathered.{Gathered}
 use Rattle.books.proofs.GatherLaws.{parted-once}
 use Rattle.books.proofs.inner.rank_bits_for_chunk.Kinds as books-gather-kinds
 use Rattle.books.proofs.inner.rank_bits_for_chunk.Reads as books-gather
+use Rattle.books.proofs.inner.into_window.Kinds as books-into-window-kinds
+use Rattle.books.proofs.inner.into_window.Reads as books-into-window
 use Rattle.books.proofs.inner.run_bits.Kinds as books-run-bits-kinds
 use Rattle.books.proofs.inner.run_bits.Reads as books-run-bits
 use Rattle.books.proofs.inner.run_bits_for_chunk.Kinds as books-run-bits-for-chunk-kinds
@@ -219,6 +221,9 @@ pub books-rank-bits-for-chunk-one : OneAnswer 1 books-gather-kinds.ps books-gath
 books-rank-bits-for-chunk-one κs a p x y v w hv hw =
     let make : ℕ → ℕ → Gathered = λ bits next. record { bits = bits; next = next } in
     (ap₂ make (hv .is ∙ sym (hw .is)) (parted-once _ (x .next) (y .next) _ (hv .parted) (hw .parted)), refl)
+
+pub books-into-window-one : OneAnswer 0 books-into-window-kinds.ps books-into-window-kinds.r books-into-window.Pre books-into-window.Post
+books-into-window-one κs a p x y v w hv hw = (hv ∙ sym hw, refl)
 
 pub books-run-bits-one : OneAnswer 1 books-run-bits-kinds.ps books-run-bits-kinds.r books-run-bits.Pre books-run-bits.Post
 books-run-bits-one κs a p x y v w hv hw =

@@ -14,6 +14,7 @@ ghost use Rattle.books.specs.Windows.{window, into, Reached};
 ghost use Rattle.extracts.specs.Walk.{Came};
 ghost use Rattle.in_runs.specs.Behind.{behind};
 use super::counts::count_rows;
+use books::inner::into_window;
 use operand::inner::forms::has_row_numbers;
 use operand::inner::forms::has_runs;
 use rows::Row;
@@ -45,14 +46,7 @@ fn skip_entries(entries: &[u32], next: usize, end: Row) -> usize
 fn rows_into(from: Row, n: u64, row: Row) -> u64
     ensures { λ r. ⌜ r ≡ into (from .0) n (row .0) ⌝ }
 {
-    if row.0 <= from.0 {
-        return 0;
-    }
-    let passed = row.0 - from.0;
-    if n < passed {
-        return n;
-    }
-    passed
+    into_window(from.0, n, row.0)
 }
 
 // The rows of runs among n from a row on, counted from the run on that the walk has come to.

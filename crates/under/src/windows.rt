@@ -11,6 +11,7 @@ ghost use Rattle.rows.specs.Runs.{inRuns, runLengths, Apart};
 ghost use Rattle.rows.specs.Laid.{marked};
 ghost use Rattle.rows.specs.Asks.{Room};
 ghost use Rattle.books.specs.Windows.{window, into, Reached};
+use books::inner::into_window;
 use fills::inner::lay::set_run;
 use rows::Rank;
 use rows::Row;
@@ -19,14 +20,7 @@ use rows::Row;
 fn ranks_into(from: Rank, n: u64, rank: Rank) -> u64
     ensures { λ r. ⌜ r ≡ into (from .0) n (rank .0) ⌝ }
 {
-    if rank.0 <= from.0 {
-        return 0;
-    }
-    let passed = rank.0 - from.0;
-    if n < passed {
-        return n;
-    }
-    passed
+    into_window(from.0, n, rank.0)
 }
 
 // What a run of ranks has in the window, marked; the window's first rank is under a row. How many they are.

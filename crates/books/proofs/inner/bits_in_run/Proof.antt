@@ -11,34 +11,34 @@ use Rattle.books.proofs.inner.bits_in_run.Tie as tie
 
 -- ---- the places, each from the one after it
 
-abbrev start : tie.After-into-chunk2 → tie.Start
+abbrev start : tie.After-into-window2 → tie.Start
 start c = c .before .before
 
-abbrev chosen : tie.Else1 → tie.After-into-chunk2
+abbrev chosen : tie.Else1 → tie.After-into-window2
 chosen c = c .before
 
 -- ---- where the run begins in the window, and where it ends
 
-module _ (c : tie.After-into-chunk2) where
-  begin-is : c .before .into-chunk .result ≡ into (start c .args .base) (start c .args .n) (start c .args .first)
-  begin-is = c .before .into-chunk .ensures
+module _ (c : tie.After-into-window2) where
+  begin-is : c .before .into-window .result ≡ into (start c .args .base) (start c .args .n) (start c .args .first)
+  begin-is = c .before .into-window .ensures
 
-  end-is : c .into-chunk2 .result ≡ into (start c .args .base) (start c .args .n) (start c .args .past)
-  end-is = c .into-chunk2 .ensures
+  end-is : c .into-window2 .result ≡ into (start c .args .base) (start c .args .n) (start c .args .past)
+  end-is = c .into-window2 .ensures
 
 -- ---- the answers
 
-into-chunk-requires : tie.Need-into-chunk-requires
-into-chunk-requires c κs = search needs
+into-window-requires : tie.Need-into-window-requires
+into-window-requires c κs = search needs
 
-into-chunk-requires-2 : tie.Need-into-chunk-requires-2
-into-chunk-requires-2 c κs = search needs
+into-window-requires-2 : tie.Need-into-window-requires-2
+into-window-requires-2 c κs = search needs
 
 returns : tie.Need-returns
 returns c =
     let t = c .before in
     let a = start t .args in
-    run-none (a .first) (a .past) (a .base) (a .n) (omega (arith, t .before .into-chunk .ensures, t .into-chunk2 .ensures))
+    run-none (a .first) (a .past) (a .base) (a .n) (omega (arith, t .before .into-window .ensures, t .into-window2 .ensures))
 
 sub-ones : tie.Need-sub-ones
 sub-ones c = omega arith
@@ -55,7 +55,7 @@ returns-2 : tie.Need-returns-2
 returns-2 c =
     let t = chosen (c .before) in
     let a = start t .args in
-    let long : t .into-chunk2 .result - t .before .into-chunk .result ≡ into (a .base) (a .n) (a .past) - into (a .base) (a .n) (a .first) =
+    let long : t .into-window2 .result - t .before .into-window .result ≡ into (a .base) (a .n) (a .past) - into (a .base) (a .n) (a .first) =
     ap₂ (λ (x y : ℕ). x - y) (end-is t) (begin-is t) in
     ap₂ (λ (x y : ℕ). (x * 2 ^ y) % 2 ^ 64) (c .ones .ensures ∙ ap (λ (k : ℕ). 2 ^ k - 1) long) (begin-is t)
     ∙ run-some (a .first) (a .past) (a .base) (a .n) (omega (arith, end-is t, begin-is t)) (omega (arith, start t .pre .0))
@@ -64,8 +64,8 @@ pub bits-in-run-spec : {M : Type 1} → statement M
 bits-in-run-spec =
     tie.close
     (tie.spec
-    into-chunk-requires
-    into-chunk-requires-2
+    into-window-requires
+    into-window-requires-2
     returns
     sub-ones
     ones-requires
