@@ -1,6 +1,6 @@
 -- `books::inner::bits_in_run` meets its contract: nothing where the run ends before it begins, and else ones moved up to its beginning.
 -- By the laws of one run in a window. Assumes nothing.
-use Prim.Native.Nat.{ℕ, _-_, _*_, _%_, _^_, _≤_, _<_}
+use Prim.Native.Nat.{ℕ, _-_, _*_, _%_, _^_}
 use native.Mathlib.Omega.{arith}
 use mathlib.Core.Path.{_≡_, ap, ap₂, _∙_}
 use borrow.Author.Needs.{needs}

@@ -1,6 +1,6 @@
 -- `extracts::chunks::rows_in_chunk` meets its contract: a list's entries, runs, or what is read of the other forms.
 -- By what each form's walk tells of its rows. Assumes nothing.
-use Prim.Native.Nat.{_+_, _^_, _≤_, _<_}
+use Prim.Native.Nat.{_+_, _^_, _<_}
 use native.Mathlib.Omega.{arith}
 use mathlib.Core.Path.{_≡_, sym, _∙_}
 use mathlib.Core.Bool.{true, false}

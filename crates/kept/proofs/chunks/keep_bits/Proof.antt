@@ -1,6 +1,6 @@
 -- `kept::chunks::keep_bits` meets its contract: the ranks of the chunk, deposited and counted.
 -- By what is read from the runs. Assumes nothing.
-use Prim.Native.Nat.{ℕ, _+_, _≤_}
+use Prim.Native.Nat.{ℕ, _≤_}
 use mathlib.Core.Path.{_≡_, refl, ap, _∙_}
 use native.Mathlib.Omega.{arith}
 use lib.Count.{ones, ones-le}

@@ -14,7 +14,6 @@ use Rattle.rows.specs.Rows.{count, compose}
 use Rattle.rows.specs.Word.{bitsOf, wordOf}
 use Rattle.rows.specs.Words.{fit, bitsOfAll, view}
 use Rattle.rows.specs.Runs.{held, inRuns}
-use Rattle.rows.specs.Pdep.{pdep}
 use Rattle.rows.specs.Laid.{laid}
 use Rattle.rows.proofs.WordLaws.{ones-word}
 use Rattle.rows.proofs.WordsLaws.{fit-length}

@@ -1,7 +1,7 @@
 -- `kept::whole::keep_whole` meets its contract.
 -- The invariant: the words before `i` are stored, `rank` is their count in self, a walk over the runs has come to it, and `held` ranks before it are kept.
 -- Assumes nothing.
-use Prim.Native.Nat.{ℕ, _+_, _-_, _*_, _≤_, _<_, _^_}
+use Prim.Native.Nat.{ℕ, _+_, _-_, _*_, _≤_, _^_}
 use mathlib.Core.Path.{_≡_, refl, sym, ap, ap₂, subst, _∙_}
 use mathlib.Core.Bool.{Bool}
 use mathlib.Core.List.{List}

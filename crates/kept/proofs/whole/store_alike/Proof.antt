@@ -8,8 +8,8 @@ use native.Mathlib.Omega.{arith}
 use lib.ListN.{length, drop, replicate}
 use lib.Count.{ones}
 use denote.Ref.{now}
-use Rattle.rows.specs.Rows.{count, compose}
-use Rattle.rows.specs.Word.{bitsOf, wordOf}
+use Rattle.rows.specs.Rows.{count}
+use Rattle.rows.specs.Word.{wordOf}
 use Rattle.rows.specs.Words.{fit, bitsOfAll, view}
 use Rattle.rows.proofs.WordLaws.{ones-word, wordOf-lt}
 use Rattle.rows.proofs.WordsLaws.{fit-length}
