@@ -2,7 +2,7 @@
 // rows are the word against itself moved up by one, with the row before it carried in.
 ghost use mathlib.Core.Path.{_≡_};
 ghost use mathlib.Core.List.{[]};
-ghost use Prim.Native.Nat.{_+_, _≤_, _<_};
+ghost use Prim.Native.Nat.{_+_, _-_, _*_, _/_, _%_, _≤_, _<_, min};
 ghost use lib.ListN.{length};
 ghost use denote.Ref.{now};
 ghost use Rattle.rows.specs.Rows.{count, splice};
@@ -154,19 +154,69 @@ pub fn write_list_turns(rows: &[u32], len: u64, out: &mut [u32])
     out[k] = past;
 }
 
-// How many rows runs of a mask have: no more than the mask, so that 32 bits hold the sum. A loop with no way out is made of vectors.
+// A run's two numbers as one: so a sum of runs is a sum of words that lie side by side, and no number has to be parted from its pair.
+fn packed(first: u32, past: u32) -> u64
+    ensures { λ r. ⌜ r ≡ first + past * 4294967296 ⌝ }
+{
+    let low = first as u64;
+    let high = past as u64;
+    low + (high << 32)
+}
+
+// What the pasts of packed runs, summed, exceed the firsts by.
+fn excess(sum: u64) -> u64
+    requires { ⌜ sum % 4294967296 ≤ sum / 4294967296 ⌝ }
+    ensures { λ r. ⌜ r ≡ sum / 4294967296 - sum % 4294967296 ⌝ }
+{
+    sum / 4294967296 - sum % 4294967296
+}
+
+// How many rows a block of runs has, by halves: with two sums at once neither has to wait for itself. No number is above 1,048,576, so 32 bits hold
+// the firsts of 2,048 runs, or their pasts, summed.
+fn sum_block(runs: &[u32]) -> u64
+    requires { ⌜ (length (now runs) % 4 ≡ 0) × (length (now runs) ≤ 8192) × Apart 0 1048576 (now runs) ⌝ }
+    ensures { λ r. ⌜ r ≡ runLengths (now (runs .entry)) ⌝ }
+{
+    let half = runs.len() / 2;
+    let mut one: u64 = 0;
+    let mut other: u64 = 0;
+    let mut i: usize = 0;
+    while i < half {
+        one += packed(runs[i], runs[i + 1]);
+        other += packed(runs[half + i], runs[half + i + 1]);
+        i += 2;
+    }
+    excess(one) + excess(other)
+}
+
+// Where the block ends that begins at number i: 8,192 numbers on, or where the numbers end.
+fn block_end(len: usize, i: usize) -> usize
+    requires { ⌜ i ≤ len ⌝ }
+    ensures { λ r. ⌜ r ≡ min (i + 8192) len ⌝ }
+{
+    if len - i < 8192 {
+        return len;
+    }
+    i + 8192
+}
+
+// How many rows runs of a mask have: block by block, as far as the runs go in pairs, and then the last.
 pub fn sum_runs(runs: &[u32]) -> u64
     requires { ⌜ Apart 0 1048576 (now runs) ⌝ }
     ensures { λ r. ⌜ r ≡ runLengths (now (runs .entry)) ⌝ }
 {
-    let mut sum: u32 = 0;
+    let paired = runs.len() / 4 * 4;
+    let mut sum: u64 = 0;
     let mut i: usize = 0;
-    while i < runs.len() {
-        let first = runs[i];
-        let past = runs[i + 1];
-        let held = past - first;
-        sum += held;
-        i += 2;
+    while i < paired {
+        let past = block_end(paired, i);
+        sum += sum_block(&runs[i..past]);
+        i = past;
     }
-    sum as u64
+    if paired == runs.len() {
+        return sum;
+    }
+    let first = runs[paired];
+    let past = runs[paired + 1];
+    sum + (past - first) as u64
 }
