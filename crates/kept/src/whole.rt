@@ -25,7 +25,7 @@ pub struct Passed {
 }
 
 // The words from the first on, before n, whose ranks are all of one stretch: stored as they are, or 0.
-pub fn store_alike(
+fn store_alike(
     words: &[u64],
     start: u64,
     first: usize,
