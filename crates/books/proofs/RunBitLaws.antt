@@ -21,7 +21,7 @@ use Rattle.rows.proofs.ChunkLaws.{word-true, word-false}
 use Rattle.rows.proofs.ListLaws.{tab-length}
 use Rattle.rows.proofs.RunLaws.{held-below, held-past, tab-add, tab-all, apart-wider}
 use Rattle.rows.proofs.RunTurnLaws.{NextRun, next-run}
-use Rattle.books.specs.Windows.{window, into, Reached, orBefore, endedBefore}
+use Rattle.books.specs.Windows.{window, into, Reached, twoUnless, endedBefore}
 use Rattle.books.proofs.GatherLaws.{tab-same, word-none, word-or}
 
 -- ---- what one run has in the window
@@ -163,14 +163,14 @@ module _ (e b m i : ℕ) (runs : List ℕ) where
   ended-none h = ap (λ (l : List ℕ). i + endedBefore e l) (drop-of-length-le runs {i = i} h) ∙ add-zero i
 
   module _ (r : NextRun b m i runs) where
-    by-next : endedBefore e (drop i runs) ≡ orBefore (leb e (getD runs (i + 1) 0)) (endedBefore e (drop (i + 2) runs))
+    by-next : endedBefore e (drop i runs) ≡ twoUnless (leb e (getD runs (i + 1) 0)) (endedBefore e (drop (i + 2) runs))
     by-next = ap (endedBefore e) (r .is)
 
     pub ended-here : e ≤ getD runs (i + 1) 0 → i + endedBefore e (drop i runs) ≡ i
     ended-here h =
-        ap (λ (x : ℕ). i + x) (by-next ∙ ap (λ (t : Bool). orBefore t (endedBefore e (drop (i + 2) runs))) (le-leb e (getD runs (i + 1) 0) h)) ∙ add-zero i
+        ap (λ (x : ℕ). i + x) (by-next ∙ ap (λ (t : Bool). twoUnless t (endedBefore e (drop (i + 2) runs))) (le-leb e (getD runs (i + 1) 0) h)) ∙ add-zero i
 
     pub ended-on : getD runs (i + 1) 0 < e → i + endedBefore e (drop i runs) ≡ i + 2 + endedBefore e (drop (i + 2) runs)
     ended-on h =
-        ap (λ (x : ℕ). i + x) (by-next ∙ ap (λ (t : Bool). orBefore t (endedBefore e (drop (i + 2) runs))) (lt-leb e (getD runs (i + 1) 0) h))
+        ap (λ (x : ℕ). i + x) (by-next ∙ ap (λ (t : Bool). twoUnless t (endedBefore e (drop (i + 2) runs))) (lt-leb e (getD runs (i + 1) 0) h))
         ∙ omega arith

@@ -22,12 +22,13 @@ pub record Reached (runs : List ℕ) (i b : ℕ) : Type 0 where
   pub ahead : Apart 0 1048576 (drop i runs)
   pub behind : (row : ℕ) → b ≤ row → held row runs ≡ held row (drop i runs)
 
--- how many numbers the runs are that end before row e, up to the first that does not
-abbrev pub orBefore : Bool → ℕ → ℕ
-orBefore true n = 0
-orBefore false n = 2 + n
+-- a run's two numbers and n more, or none where the test holds
+abbrev pub twoUnless : Bool → ℕ → ℕ
+twoUnless true n = 0
+twoUnless false n = 2 + n
 
+-- how many numbers the runs are that end before row e, up to the first that does not
 abbrev pub endedBefore : ℕ → List ℕ → ℕ
 endedBefore e [] = 0
 endedBefore e (first ∷ []) = 0
-endedBefore e (first ∷ past ∷ ns) = orBefore (leb e past) (endedBefore e ns)
+endedBefore e (first ∷ past ∷ ns) = twoUnless (leb e past) (endedBefore e ns)

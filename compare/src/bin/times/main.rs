@@ -124,11 +124,10 @@ Masks that are a few long runs, lent as runs: blocks of 1,048,576 rows, timed on
 and the next alone. The runs are of about the same length, at random places, and half of the rows are in them, but for short ones as a rank mask, in which a
 hundredth of the ranks are, and runs of one row, which are every 64th row.
 
-The bounds: a composition takes at most as long as with the same masks in words; beside a list, as with the runs in words and the same list. A
-conversion to words takes at most twice the time of clearing the output for 1 and 52 runs, and four times for 1,000; runs of one row each at most
-twice the time of the same rows as a list. Clearing is the C library's memset of the same 131,072 bytes, and ours of none. A line over its bound is
-marked. The crate, where it has the call, gets the words of both masks, made before the clock starts. To runs has no bound: beside it is the same
-call to a list.
+The bounds: a composition takes at most as long as with the same masks in words; a conversion to words at most twice the time of clearing the
+output for 1 and 52 runs, and four times for 1,000; runs of one row each at most twice the time of the same rows as a list. Clearing is the C
+library's memset of the same 131,072 bytes, and ours of none. A line over its bound is marked. The crate, where it has the call, gets the words of both
+masks, made before the clock starts. To runs has no bound: beside it is the same call to a list.
 ";
 
 const RECOVERY: &str = "\

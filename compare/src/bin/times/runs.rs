@@ -23,7 +23,6 @@ pub const LONG: f64 = 0.5; // the density of a mask of runs
 const SHORT: f64 = 0.01; // as a rank mask: by route 6
 const COMPOSITIONS: usize = 25; // turns
 const CONVERSIONS: usize = 400;
-const BOTH_IN_WORDS: &str = "the same in words";
 pub const WORDS_OUT: usize = (LIMIT / 64) as usize;
 
 pub fn fill(table: &mut Table) {
@@ -72,22 +71,20 @@ fn compositions(table: &mut Table) {
     }
 }
 
-/// Where the other mask is a list, the bound is on the line with the runs in words and the same list: with both in words the list's own
-/// entries would be held against words.
 fn lists(table: &mut Table) {
     let mut random = Random::new(1, "runs and lists");
     for runs in COUNTS {
         let own = Rows::of_runs(LIMIT, runs, LONG, &mut random);
         for density in [0.01, 0.1, 0.5, 0.9] {
             let ranks = Rows::scattered(own.count(), density, &mut random);
-            composition(table, [&own, &ranks], [RUNS, LIST], [WORDS, WORDS], BOTH_IN_WORDS, None);
-            composition(table, [&own, &ranks], [RUNS, LIST], [WORDS, LIST], "self in words", Some(1.0));
+            beside_words(table, [&own, &ranks], [RUNS, LIST]);
+            composition(table, [&own, &ranks], [RUNS, LIST], [WORDS, LIST], "self in words", 1.0);
         }
         for density in [0.01, 0.02, 0.1, 0.9, 0.99] {
             let own = Rows::scattered(LIMIT, density, &mut random);
             let ranks = Rows::of_runs(own.count(), runs, LONG, &mut random);
-            composition(table, [&own, &ranks], [LIST, RUNS], [WORDS, WORDS], BOTH_IN_WORDS, None);
-            composition(table, [&own, &ranks], [LIST, RUNS], [LIST, WORDS], "ranks in words", Some(1.0));
+            beside_words(table, [&own, &ranks], [LIST, RUNS]);
+            composition(table, [&own, &ranks], [LIST, RUNS], [LIST, WORDS], "ranks in words", 1.0);
             beside_words(table, [&own, &ranks], [WORDS, RUNS]);
         }
     }
@@ -104,7 +101,7 @@ fn short_rank_runs(table: &mut Table) {
 }
 
 fn beside_words(table: &mut Table, masks: [&Rows; 2], forms: [u64; 2]) {
-    composition(table, masks, forms, [WORDS, WORDS], BOTH_IN_WORDS, Some(1.0));
+    composition(table, masks, forms, [WORDS, WORDS], "the same in words", 1.0);
 }
 
 /// The masks in `forms` beside the same masks in `others`, and beside the crate, which gets their words.
@@ -114,7 +111,7 @@ fn composition(
     forms: [u64; 2],
     others: [u64; 2],
     beside: &'static str,
-    bound: Option<f64>,
+    bound: f64,
 ) {
     let lent = |forms: [u64; 2]| [own.lent(forms[0], 0), ranks.lent(forms[1], 0)];
     let (pair, other, words) = (lent(forms), lent(others), lent([WORDS, WORDS]));
@@ -122,7 +119,7 @@ fn composition(
     the_same(&other[0], &other[1]);
     let call = format!("composition, route {route}");
     let cells = vec![call, described(own, forms[0]), described(ranks, forms[1])];
-    table.add(cells, beside, bound, time(&pair, &other, &words));
+    table.add(cells, beside, Some(bound), time(&pair, &other, &words));
 }
 
 fn time(pair: &[Operand; 2], other: &[Operand; 2], [own, ranks]: &[Operand; 2]) -> Sides {
@@ -185,12 +182,12 @@ fn runs_of_one_row(table: &mut Table) {
     let cells = vec!["to words".to_string(), described(&rows, RUNS), "-".to_string()];
     table.add(cells, "the same as a list", Some(BOUND), to_words_beside(&a, |out| listed.to_words(out)));
     let ranks = Rows::scattered(rows.count(), 0.5, &mut random);
-    composition(table, [&rows, &ranks], [RUNS, WORDS], [LIST, WORDS], "the same as a list", Some(BOUND));
+    composition(table, [&rows, &ranks], [RUNS, WORDS], [LIST, WORDS], "the same as a list", BOUND);
     let own = Rows::scattered(LIMIT, 0.5, &mut random);
     let ranks = Rows::every_64th(own.count());
-    composition(table, [&own, &ranks], [WORDS, RUNS], [WORDS, LIST], "the same as a list", Some(BOUND));
+    composition(table, [&own, &ranks], [WORDS, RUNS], [WORDS, LIST], "the same as a list", BOUND);
     let ranks = Rows::every_64th(rows.count());
-    composition(table, [&rows, &ranks], [RUNS, RUNS], [LIST, LIST], "the same as lists", Some(BOUND));
+    composition(table, [&rows, &ranks], [RUNS, RUNS], [LIST, LIST], "the same as lists", BOUND);
 }
 
 /// Beside the same words to a list, for want of another writer; no bound.
