@@ -1,7 +1,7 @@
 // An operation on two operands.
 ghost use Rattle.std.specs.Prelude.{◌≡◌};
 ghost use Rattle.rules.specs.Operand.{lent};
-ghost use Rattle.rules.specs.SetOps.{row_of, combined, combinedOut};
+ghost use Rattle.rules.specs.SetOps.{row_of, combined, combined_out};
 
 use super::judge::judge_two;
 use operand::inner::answers::refused;
@@ -21,7 +21,7 @@ pub fn combine(
     out: &mut [u64],
 ) -> Answer
     ensures { (result ≡ combined (row_of op) (lent a awords.now arows.now) (lent b bwords.now brows.now) out.old)
-        × (out.new ≡ combinedOut (row_of op) (lent a awords.now arows.now) (lent b bwords.now brows.now) out.old) }
+        × (out.new ≡ combined_out (row_of op) (lent a awords.now arows.now) (lent b bwords.now brows.now) out.old) }
 {
     match judge_two(a, awords, arows, b, bwords, brows, out.len() as u64) {
         Verdict::Refused(refusal) => refused(refusal),

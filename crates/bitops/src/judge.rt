@@ -1,7 +1,7 @@
 // The checks of a set operation, part by part as its table has them; the first part that refuses is the verdict.
 ghost use Rattle.std.specs.Prelude.{◌≡◌};
 ghost use Rattle.rows.specs.Table.{first};
-ghost use Rattle.rules.specs.SetOps.{pairChecks, notChecks};
+ghost use Rattle.rules.specs.SetOps.{pair_checks, not_checks};
 ghost use Rattle.rules.specs.Operand.{lent};
 
 use lent::inner::words_for;
@@ -21,7 +21,7 @@ pub fn judge_two(
     brows: &[u32],
     room: u64,
 ) -> Verdict
-    ensures { result ≡ first (pairChecks (lent a awords.now arows.now) (lent b bwords.now brows.now) room) }
+    ensures { result ≡ first (pair_checks (lent a awords.now arows.now) (lent b bwords.now brows.now) room) }
 {
     let one = check_set(1, a, awords, arows);
     let two = check_set(2, b, bwords, brows);
@@ -32,7 +32,7 @@ pub fn judge_two(
 
 // One operand.
 pub fn judge_one(a: Form, awords: &[u64], arows: &[u32], room: u64) -> Verdict
-    ensures { result ≡ first (notChecks (lent a awords.now arows.now) room) }
+    ensures { result ≡ first (not_checks (lent a awords.now arows.now) room) }
 {
     let one = check_set(1, a, awords, arows);
     let space = has_room(words_for(length_of(a)), room);

@@ -1,6 +1,8 @@
 // Set operations: and, or, and-not of two operands, and not of one. All, none and words in, words out: document 01, part 8.
+#![tactic(auto)]
+
 ghost use Rattle.std.specs.Prelude.{◌≡◌, ◌&&◌, ◌||◌};
-ghost use Rattle.rules.specs.SetOps.{andNot, combined, combinedOut, negated, negatedOut};
+ghost use Rattle.rules.specs.SetOps.{and_not, combined, combined_out, negated, negated_out};
 ghost use Rattle.rules.specs.Operand.{lent};
 
 use combine::combine;
@@ -24,7 +26,7 @@ pub fn and(
     out: &mut [u64],
 ) -> Answer
     ensures { (result ≡ combined ◌&&◌ (lent a awords.now arows.now) (lent b bwords.now brows.now) out.old)
-        × (out.new ≡ combinedOut ◌&&◌ (lent a awords.now arows.now) (lent b bwords.now brows.now) out.old) }
+        × (out.new ≡ combined_out ◌&&◌ (lent a awords.now arows.now) (lent b bwords.now brows.now) out.old) }
 {
     combine(Operation::And, a, awords, arows, b, bwords, brows, out)
 }
@@ -40,7 +42,7 @@ pub fn or(
     out: &mut [u64],
 ) -> Answer
     ensures { (result ≡ combined ◌||◌ (lent a awords.now arows.now) (lent b bwords.now brows.now) out.old)
-        × (out.new ≡ combinedOut ◌||◌ (lent a awords.now arows.now) (lent b bwords.now brows.now) out.old) }
+        × (out.new ≡ combined_out ◌||◌ (lent a awords.now arows.now) (lent b bwords.now brows.now) out.old) }
 {
     combine(Operation::Or, a, awords, arows, b, bwords, brows, out)
 }
@@ -55,8 +57,8 @@ pub fn and_not(
     brows: &[u32],
     out: &mut [u64],
 ) -> Answer
-    ensures { (result ≡ combined andNot (lent a awords.now arows.now) (lent b bwords.now brows.now) out.old)
-        × (out.new ≡ combinedOut andNot (lent a awords.now arows.now) (lent b bwords.now brows.now) out.old) }
+    ensures { (result ≡ combined and_not (lent a awords.now arows.now) (lent b bwords.now brows.now) out.old)
+        × (out.new ≡ combined_out and_not (lent a awords.now arows.now) (lent b bwords.now brows.now) out.old) }
 {
     combine(Operation::AndNot, a, awords, arows, b, bwords, brows, out)
 }
@@ -64,7 +66,7 @@ pub fn and_not(
 // The rows not in the one operand, which is lent to the loop twice.
 pub fn not(a: Form, awords: &[u64], arows: &[u32], out: &mut [u64]) -> Answer
     ensures { (result ≡ negated (lent a awords.now arows.now) out.old)
-        × (out.new ≡ negatedOut (lent a awords.now arows.now) out.old) }
+        × (out.new ≡ negated_out (lent a awords.now arows.now) out.old) }
 {
     match judge_one(a, awords, arows, out.len() as u64) {
         Verdict::Refused(refusal) => refused(refusal),

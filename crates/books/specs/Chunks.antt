@@ -2,5 +2,5 @@
 use Rattle.std.specs.Prelude.{ℕ, Bool, List, take, drop}
 
 -- the rows from row i on that one chunk has: 64, and fewer at the end
-abbrev pub chunkAt : List Bool → ℕ → List Bool
-chunkAt s i = take 64 (drop i s)
+abbrev pub chunk_at : List Bool → ℕ → List Bool
+chunk_at s i = take 64 (drop i s)

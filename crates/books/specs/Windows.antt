@@ -18,12 +18,12 @@ pub record Reached (runs : List ℕ) (i b : ℕ) : Type 0 where
   pub behind : (row : ℕ) → b ≤ row → held row runs ≡ held row (drop i runs)
 
 -- a run's two numbers and n more, or none where the test holds
-abbrev pub twoUnless : Bool → ℕ → ℕ
-twoUnless true n = 0
-twoUnless false n = 2 + n
+abbrev pub two_unless : Bool → ℕ → ℕ
+two_unless true n = 0
+two_unless false n = 2 + n
 
 -- how many numbers the runs are that end before row e, up to the first that does not
-abbrev pub endedBefore : ℕ → List ℕ → ℕ
-endedBefore e [] = 0
-endedBefore e (first ∷ []) = 0
-endedBefore e (first ∷ past ∷ ns) = twoUnless (leb e past) (endedBefore e ns)
+abbrev pub ended_before : ℕ → List ℕ → ℕ
+ended_before e [] = 0
+ended_before e (first ∷ []) = 0
+ended_before e (first ∷ past ∷ ns) = two_unless (leb e past) (ended_before e ns)

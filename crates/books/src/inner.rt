@@ -2,13 +2,13 @@
 // added to a start or to the output's first bit.
 ghost use Rattle.std.specs.Prelude.{◌≡◌, true, false, ◌&&◌, [], ◌∷◌, ◌+◌, ◌*◌, ◌^◌, ◌≤◌, ◌<◌, leb, ltb, length, drop, replicate};
 ghost use Rattle.rows.specs.Word.{bits_of, word_of};
-ghost use Rattle.rows.specs.Words.{fit, bitsOfAll, view};
+ghost use Rattle.rows.specs.Words.{fit, bits_of_all, view};
 ghost use Rattle.rows.specs.Lists.{tab};
 ghost use Rattle.rows.specs.Laid.{laid};
 ghost use Rattle.rows.specs.Asks.{Room, Chunk};
-ghost use Rattle.books.specs.Chunks.{chunkAt};
+ghost use Rattle.books.specs.Chunks.{chunk_at};
 ghost use Rattle.books.specs.Gathers.{Parted, Gathers};
-ghost use Rattle.books.specs.Windows.{window, into, Reached, endedBefore};
+ghost use Rattle.books.specs.Windows.{window, into, Reached, ended_before};
 
 use laid::inner::{clear, put, set_bit};
 use lent::inner::{chunk, chunk_len, ones, read};
@@ -18,7 +18,7 @@ use rows::{Rank, Row};
 // words, and neither a row nor a rank: the view is self's or the rank mask's.
 fn chunk_at(words: &[u64], start: u64, len: u64, i: u64) -> u64
     requires { (start + len ≤ length words.now * 64) × (i < len) }
-    ensures { result ≡ word_of (chunkAt (view start len words.now) i) }
+    ensures { result ≡ word_of (chunk_at (view start len words.now) i) }
 {
     let n = chunk_len(len, i);
     if start != 0 {
@@ -33,7 +33,7 @@ fn chunk_at(words: &[u64], start: u64, len: u64, i: u64) -> u64
 // The chunk of a mask of rows from a row on.
 pub fn self_chunk(words: &[u64], start: u64, len: u64, row: Row) -> u64
     requires { (start + len ≤ length words.now * 64) × (row.0 < len) }
-    ensures { result ≡ word_of (chunkAt (view start len words.now) row.0) }
+    ensures { result ≡ word_of (chunk_at (view start len words.now) row.0) }
 {
     chunk_at(words, start, len, row.0)
 }
@@ -41,7 +41,7 @@ pub fn self_chunk(words: &[u64], start: u64, len: u64, row: Row) -> u64
 // The chunk of a rank mask from a rank on.
 pub fn rank_chunk(ranks: &[u64], from: u64, ranklen: u64, rank: Rank) -> u64
     requires { (from + ranklen ≤ length ranks.now * 64) × (rank.0 < ranklen) }
-    ensures { result ≡ word_of (chunkAt (view from ranklen ranks.now) rank.0) }
+    ensures { result ≡ word_of (chunk_at (view from ranklen ranks.now) rank.0) }
 {
     chunk_at(ranks, from, ranklen, rank.0)
 }
@@ -49,7 +49,7 @@ pub fn rank_chunk(ranks: &[u64], from: u64, ranklen: u64, rank: Rank) -> u64
 // Rows of self from a row on, n of them: the caller knows how many its chunk has.
 pub fn self_bits(words: &[u64], start: u64, row: Row, n: u64) -> u64
     requires { Chunk n }
-    ensures { result ≡ word_of (fit n (drop (start + row.0) (bitsOfAll 64 words.now))) }
+    ensures { result ≡ word_of (fit n (drop (start + row.0) (bits_of_all 64 words.now))) }
 {
     chunk(words, start, row.0, n)
 }
@@ -57,7 +57,7 @@ pub fn self_bits(words: &[u64], start: u64, row: Row, n: u64) -> u64
 // The rank bits from a rank on. The place is one sum, so that the read has nothing else to add.
 pub fn rank_bits(ranks: &[u64], from: u64, rank: Rank) -> u64
     requires { from + rank.0 < 2 ^ 64 }
-    ensures { result ≡ word_of (fit 64 (drop (from + rank.0) (bitsOfAll 64 ranks.now))) }
+    ensures { result ≡ word_of (fit 64 (drop (from + rank.0) (bits_of_all 64 ranks.now))) }
 {
     let at = from + rank.0;
     read(ranks, at, 0)
@@ -129,7 +129,7 @@ fn bits_in_run(first: u64, past: u64, base: u64, n: u64) -> u64
 pub fn run_bits(runs: &[u32], next: usize, base: u64, n: u64) -> Gathered
     requires { (n ≤ 64) × (base + n < 2 ^ 64) × Reached runs.now next base }
     ensures { (result.bits ≡ word_of (window base n runs.now)) × Reached runs.now result.next (base + n)
-        × (result.next ≡ next + endedBefore (base + n) (drop next runs.now)) }
+        × (result.next ≡ next + ended_before (base + n) (drop next runs.now)) }
 {
     let end = base + n;
     let mut bits: u64 = 0;
@@ -150,7 +150,7 @@ pub fn run_bits(runs: &[u32], next: usize, base: u64, n: u64) -> Gathered
 pub fn run_bits_for_chunk(ranks: &[u32], next: usize, rank: Rank, set: u64) -> Gathered
     requires { (set ≤ 64) × (rank.0 + set < 2 ^ 64) × Reached ranks.now next rank.0 }
     ensures { (result.bits ≡ word_of (window rank.0 set ranks.now)) × Reached ranks.now result.next (rank.0 + set)
-        × (result.next ≡ next + endedBefore (rank.0 + set) (drop next ranks.now)) }
+        × (result.next ≡ next + ended_before (rank.0 + set) (drop next ranks.now)) }
 {
     run_bits(ranks, next, rank.0, set)
 }

@@ -7,21 +7,21 @@ use borrow.Author.Tests.{eqb-true}
 use lib.Dec.{eqb}
 use lib.ListN.{length}
 use Rattle.rows.specs.Lists.{listed, Ascending}
-use Rattle.rows.specs.Runs.{inRuns, runLengths, Apart}
-use Rattle.rules.specs.Operand.{Operand, rows_of, length_of, count_of, countsAsList, Accepted}
-use Rattle.rules.proofs.OperandLaws.{accepted-limit}
-use Rattle.operand.specs.Flat.{hasRuns}
-use Rattle.operand.proofs.NumberLaws.{list-numbers, accepted-list, list-rows, list_count, accepted-runs, runs-rows, runs-sum}
+use Rattle.rows.specs.Runs.{in_runs, run_lengths, Apart}
+use Rattle.rules.specs.Operand.{Operand, rows_of, length_of, count_of, counts_as_list, Accepted}
+use Rattle.rules.proofs.OperandLaws.{accepted_limit}
+use Rattle.operand.specs.Flat.{has_runs}
+use Rattle.operand.proofs.NumberLaws.{list_numbers, accepted_list, list_rows, list_count, accepted_runs, runs_rows, runs_sum}
 use Rattle.marks.specs.Entries.{entries}
-use Rattle.marks.proofs.EntryLaws.{firsts-length, singles-listed, singles-ascending}
-use Rattle.by_route.specs.Fits.{hasLongRuns}
+use Rattle.marks.proofs.EntryLaws.{firsts_length, singles_listed, singles_ascending}
+use Rattle.by_route.specs.Fits.{has_long_runs}
 
 -- its runs
 pub record AsRuns (o : Operand) : Type 0 where
   pub apart : Apart 0 (length_of o.form) o.numbers
   pub limit : length_of o.form ≤ 1048576
-  pub rows : inRuns (length_of o.form) o.numbers ≡ rows_of o
-  pub sum : count_of o ≡ runLengths o.numbers
+  pub rows : in_runs (length_of o.form) o.numbers ≡ rows_of o
+  pub sum : count_of o ≡ run_lengths o.numbers
 
 -- its entries, where `single` tells how they lie
 pub record AsEntries (o : Operand) (single : Bool) : Type 0 where
@@ -33,32 +33,32 @@ module _ (o : Operand) (count : ℕ) (well : Accepted o) where
   abbrev runs : ℕ
   runs = length o.numbers / 2
 
-  pub as-runs : hasLongRuns o.form count o.numbers ≡ true → AsRuns o
-  as-runs e = record { apart = accepted-runs o has well; limit = accepted-limit o well; rows = sym (runs-rows o has); sum = runs-sum o has }
+  pub as_runs : has_long_runs o.form count o.numbers ≡ true → AsRuns o
+  as_runs e = record { apart = accepted_runs o has well; limit = accepted_limit o well; rows = sym (runs_rows o has); sum = runs_sum o has }
     where
       by : (b x : Bool) → (b && x) ≡ true → b ≡ true
       by true x f = refl
       by false x f = absurd (false≢true f)
 
-      has : hasRuns o.form ≡ true
-      has = by (hasRuns o.form) (not (eqb count runs)) e
+      has : has_runs o.form ≡ true
+      has = by (has_runs o.form) (not (eqb count runs)) e
 
-  pub as-entries : countsAsList o.form ≡ true → count ≡ count_of o → hasLongRuns o.form count o.numbers ≡ false → AsEntries o (hasRuns o.form)
-  as-entries l c e = by (hasRuns o.form) refl e
+  pub as_entries : counts_as_list o.form ≡ true → count ≡ count_of o → has_long_runs o.form count o.numbers ≡ false → AsEntries o (has_runs o.form)
+  as_entries l c e = by (has_runs o.form) refl e
     where
       equal : (x : Bool) → not x ≡ false → x ≡ true
       equal true f = refl
       equal false f = absurd (false≢true (sym f))
 
-      by : (b : Bool) → hasRuns o.form ≡ b → (b && not (eqb count runs)) ≡ false → AsEntries o b
+      by : (b : Bool) → has_runs o.form ≡ b → (b && not (eqb count runs)) ≡ false → AsEntries o b
       by true f g =
-          let one = sym (runs-sum o f) ∙ sym c ∙ eqb-true count runs (equal (eqb count runs) g) ∙ sym (firsts-length o.numbers) in
-          let a = accepted-runs o f well in
+          let one = sym (runs_sum o f) ∙ sym c ∙ eqb-true count runs (equal (eqb count runs) g) ∙ sym (firsts_length o.numbers) in
+          let a = accepted_runs o f well in
           record {
-            up = singles-ascending (length_of o.form) o.numbers a one;
-            rows = sym (runs-rows o f ∙ singles-listed (length_of o.form) o.numbers a one);
-            many = runs-sum o f ∙ one;
+            up = singles_ascending (length_of o.form) o.numbers a one;
+            rows = sym (runs_rows o f ∙ singles_listed (length_of o.form) o.numbers a one);
+            many = runs_sum o f ∙ one;
           }
       by false f g =
-          let n = list-numbers o.form l f in
-          record { up = accepted-list o n well; rows = sym (list-rows o n); many = list_count o n }
+          let n = list_numbers o.form l f in
+          record { up = accepted_list o n well; rows = sym (list_rows o n); many = list_count o n }

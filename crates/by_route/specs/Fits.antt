@@ -4,16 +4,16 @@ use Rattle.std.specs.Prelude.{ℕ, ◌/◌, ◌≡◌, Bool, true, false, not, �
 use Rattle.rules.specs.declared.Form.{Form}
 use Rattle.rules.specs.declared.Route.{Route}
 use Rattle.rules.specs.declared.Route.TheVariants.{RankMask, SelfMask, NoRows, EntryAtRank, EntryIfSet, MaskDriven, Gathered, Read}
-use Rattle.rules.specs.Operand.{Operand, empty, full, countsAsList}
-use Rattle.operand.specs.Flat.{hasRuns}
+use Rattle.rules.specs.Operand.{Operand, empty, full, counts_as_list}
+use Rattle.operand.specs.Flat.{has_runs}
 
 -- a list, or runs, for the route
 abbrev pub AsList : Operand → Type 0
-AsList o = countsAsList o.form ≡ true
+AsList o = counts_as_list o.form ≡ true
 
 -- words: an all or a none is full or empty
 abbrev pub InWords : Operand → Type 0
-InWords o = (countsAsList o.form ≡ false) × (full o ≡ false) × (empty o ≡ false)
+InWords o = (counts_as_list o.form ≡ false) × (full o ≡ false) × (empty o ≡ false)
 
 abbrev pub Fits : Route → Operand → Operand → Type 0
 Fits RankMask s r = full s ≡ true
@@ -26,16 +26,16 @@ Fits (Gathered way) s r = InWords s × AsList r
 Fits (Read way) s r = InWords s × InWords r
 
 -- the rank mask is runs that are to be kept: on routes 1 to 3 self or the rank mask is full or empty
-abbrev pub keepsRuns : Route → Form → Bool
-keepsRuns RankMask r = false
-keepsRuns SelfMask r = false
-keepsRuns NoRows r = false
-keepsRuns EntryAtRank r = hasRuns r
-keepsRuns EntryIfSet r = hasRuns r
-keepsRuns MaskDriven r = hasRuns r
-keepsRuns (Gathered way) r = hasRuns r
-keepsRuns (Read way) r = hasRuns r
+abbrev pub keeps_runs : Route → Form → Bool
+keeps_runs RankMask r = false
+keeps_runs SelfMask r = false
+keeps_runs NoRows r = false
+keeps_runs EntryAtRank r = has_runs r
+keeps_runs EntryIfSet r = has_runs r
+keeps_runs MaskDriven r = has_runs r
+keeps_runs (Gathered way) r = has_runs r
+keeps_runs (Read way) r = has_runs r
 
 -- runs, of which one at least is longer than a row: they have more rows than they are
-abbrev pub hasLongRuns : Form → ℕ → List ℕ → Bool
-hasLongRuns s count ns = hasRuns s && not (eqb count (length ns / 2))
+abbrev pub has_long_runs : Form → ℕ → List ℕ → Bool
+has_long_runs s count ns = has_runs s && not (eqb count (length ns / 2))

@@ -1,13 +1,13 @@
 // Self is a list, or runs: a kernel for runs that are longer than a row, and one for entries.
 ghost use Rattle.std.specs.Prelude.{◌≡◌, true, [], ◌+◌, ◌*◌, ◌≤◌, length, drop};
 ghost use Rattle.rows.specs.Rows.{compose};
-ghost use Rattle.rows.specs.Words.{bitsOfAll};
+ghost use Rattle.rows.specs.Words.{bits_of_all};
 ghost use Rattle.rows.specs.Lists.{listed, Ascending};
-ghost use Rattle.rows.specs.Runs.{inRuns, Apart};
+ghost use Rattle.rows.specs.Runs.{in_runs, Apart};
 ghost use Rattle.rows.specs.Laid.{laid};
 ghost use Rattle.rows.specs.Asks.{Room};
-ghost use Rattle.rules.specs.Operand.{lent, rows_of, length_of, count_of, countsAsList, Accepted};
-ghost use Rattle.by_route.specs.Fits.{hasLongRuns};
+ghost use Rattle.rules.specs.Operand.{lent, rows_of, length_of, count_of, counts_as_list, Accepted};
+ghost use Rattle.by_route.specs.Fits.{has_long_runs};
 
 use kept::inner::lay_entries_by_runs;
 use marks::inner::{lay_entry_at_rank, lay_entry_if_set};
@@ -17,7 +17,7 @@ use under::inner::{lay_entries_in_runs, lay_ranks_under_runs, lay_runs_in_runs};
 
 // Runs, of which one at least is longer than a row: they have more rows than they are. Runs of one row each are laid as a list is.
 fn has_long_runs(s: Form, count: u64, numbers: &[u32]) -> bool
-    ensures { result ≡ hasLongRuns s count numbers.now }
+    ensures { result ≡ has_long_runs s count numbers.now }
 {
     if has_runs(s) {
         let runs = numbers.len() as u64 / 2;
@@ -28,7 +28,7 @@ fn has_long_runs(s: Form, count: u64, numbers: &[u32]) -> bool
 
 // Route 4: self is a list, or runs, and the rank mask a list.
 pub fn lay_at_ranks(s: Form, count: u64, srows: &[u32], rrows: &[u32], at: u64, out: &mut [u64])
-    requires { Accepted (lent s [] srows.now) × (countsAsList s ≡ true) × (count ≡ count_of (lent s [] srows.now))
+    requires { Accepted (lent s [] srows.now) × (counts_as_list s ≡ true) × (count ≡ count_of (lent s [] srows.now))
         × Ascending 0 (count_of (lent s [] srows.now)) rrows.now × Room at (length_of s) out.old }
     ensures { out.new ≡ laid at (compose (rows_of (lent s [] srows.now)) (listed (count_of (lent s [] srows.now)) rrows.now)) out.old }
 {
@@ -50,9 +50,9 @@ pub fn lay_if_set(
     at: u64,
     out: &mut [u64],
 )
-    requires { Accepted (lent s [] srows.now) × (countsAsList s ≡ true) × (count ≡ count_of (lent s [] srows.now)) × (from ≤ 63)
+    requires { Accepted (lent s [] srows.now) × (counts_as_list s ≡ true) × (count ≡ count_of (lent s [] srows.now)) × (from ≤ 63)
         × (from + count_of (lent s [] srows.now) ≤ length rwords.now * 64) × Room at (length_of s) out.old }
-    ensures { out.new ≡ laid at (compose (rows_of (lent s [] srows.now)) (drop from (bitsOfAll 64 rwords.now))) out.old }
+    ensures { out.new ≡ laid at (compose (rows_of (lent s [] srows.now)) (drop from (bits_of_all 64 rwords.now))) out.old }
 {
     let len = length_of(s);
     if has_long_runs(s, count, srows) {
@@ -64,9 +64,9 @@ pub fn lay_if_set(
 
 // Self is a list, or runs, and the rank mask runs.
 pub fn keep_in_list(s: Form, count: u64, srows: &[u32], rruns: &[u32], at: u64, out: &mut [u64])
-    requires { Accepted (lent s [] srows.now) × (countsAsList s ≡ true) × (count ≡ count_of (lent s [] srows.now))
+    requires { Accepted (lent s [] srows.now) × (counts_as_list s ≡ true) × (count ≡ count_of (lent s [] srows.now))
         × Apart 0 (count_of (lent s [] srows.now)) rruns.now × Room at (length_of s) out.old }
-    ensures { out.new ≡ laid at (compose (rows_of (lent s [] srows.now)) (inRuns (count_of (lent s [] srows.now)) rruns.now)) out.old }
+    ensures { out.new ≡ laid at (compose (rows_of (lent s [] srows.now)) (in_runs (count_of (lent s [] srows.now)) rruns.now)) out.old }
 {
     let len = length_of(s);
     if has_long_runs(s, count, srows) {

@@ -18,36 +18,36 @@ use Rattle.rows.specs.Lists.{select}
 use Rattle.rules.specs.declared.State.{State}
 use Rattle.rules.specs.declared.RecoveryState.{RecoveryState}
 use Rattle.rules.specs.Operand.{Operand}
-use Rattle.rules.specs.Answer.{noDensity, noRoute}
-use Rattle.rules.specs.Stream.{Pair, pair_of, judged, fedBy, outBy}
-use Rattle.rules.specs.Recover.{strays, recoverChecks, recovery, recovered}
-use Rattle.rules.specs.RecoverStream.{Masks, masksOf, judged as recoveryJudged, fedBy as recoveryFedBy, outBy as recoveryOutBy}
-use Rattle.rules.proofs.Recoveries.{told-first, told-else}
+use Rattle.rules.specs.Answer.{no_density, no_route}
+use Rattle.rules.specs.Stream.{Pair, pair_of, judged, fed_by, out_by}
+use Rattle.rules.specs.Recover.{strays, recover_checks, recovery, recovered}
+use Rattle.rules.specs.RecoverStream.{Masks, masks_of, judged as recoveryJudged, fed_by as recoveryFedBy, out_by as recoveryOutBy}
+use Rattle.rules.proofs.Recoveries.{told_first, told_else}
 use Rattle.cells.specs.declared.Given.{Given}
 use Rattle.cells.specs.declared.Given.TheVariants.{Bad}
 use Rattle.cells.specs.declared.Told.{Told}
-use Rattle.cells.specs.Probe.{AnswerCells, cells, enough, ready, tells, Memory, Done, does, fedTold, recoveryFedTold, given, form_of, ifGood, ifBoth}
-use Rattle.cells.specs.Probe.{toWordsDone, toListDone, toRunsDone, composeDone, setsDone, feedDone, recoverDone, recoverFeedDone}
+use Rattle.cells.specs.Probe.{AnswerCells, cells, enough, ready, tells, Memory, Done, does, fed_told, recovery_fed_told, given, form_of, if_good, if_both}
+use Rattle.cells.specs.Probe.{to_words_done, to_list_done, to_runs_done, compose_done, sets_done, feed_done, recover_done, recover_feed_done}
 
 -- ---- where `ans` has fewer than 16 cells or `den` fewer than 1, the call does nothing at all
 
 abbrev pub Short : AnswerCells → Type 0
 Short l = (length l.ans < 16) ⊎ (length l.den < 1)
 
-and-false : (b : Bool) → b && false ≡ false
-and-false true = refl
-and-false false = refl
+and_false : (b : Bool) → b && false ≡ false
+and_false true = refl
+and_false false = refl
 
-not-ready : (l : AnswerCells) → Short l → ready l ≡ false
+not_ready : (l : AnswerCells) → Short l → ready l ≡ false
 unfolding enough
-not-ready l (inl h) = rw (lt-leb 16 (length l.ans) h)
-not-ready l (inr h) = rw (lt-leb 1 (length l.den) h) (and-false (leb 16 (length l.ans)))
+not_ready l (inl h) = rw (lt-leb 16 (length l.ans) h)
+not_ready l (inr h) = rw (lt-leb 1 (length l.den) h) (and_false (leb 16 (length l.ans)))
 
-pub tells-nothing : (t : Told) (l : AnswerCells) → Short l → tells t l ≡ l
-tells-nothing t l h = rw (not-ready l h)
+pub tells_nothing : (t : Told) (l : AnswerCells) → Short l → tells t l ≡ l
+tells_nothing t l h = rw (not_ready l h)
 
-pub does-nothing : (d : Done) (m : Memory) → Short m.answer → does d m ≡ m
-does-nothing d m h = rw (not-ready m.answer h)
+pub does_nothing : (d : Done) (m : Memory) → Short m.answer → does d m ≡ m
+does_nothing d m h = rw (not_ready m.answer h)
 
 -- ---- else all cells are written; cells past the 16th, and `den` past its first, stay
 
@@ -61,63 +61,63 @@ has_room : (l : AnswerCells) → 16 ≤ length l.ans → 1 ≤ length l.den → 
 unfolding enough
 has_room l h k = rw (le-leb 16 (length l.ans) h, le-leb 1 (length l.den) k)
 
-pub tells-written : (t : Told) (l : AnswerCells) → 16 ≤ length l.ans → 1 ≤ length l.den → Leaves t l (tells t l)
-tells-written t l h k = rw (has_room l h k) record { told = refl; density = refl; rest = refl; others = refl }
+pub tells_written : (t : Told) (l : AnswerCells) → 16 ≤ length l.ans → 1 ≤ length l.den → Leaves t l (tells t l)
+tells_written t l h k = rw (has_room l h k) record { told = refl; density = refl; rest = refl; others = refl }
 
-pub does-written : (d : Done) (m : Memory) → 16 ≤ length m.answer.ans → 1 ≤ length m.answer.den → Leaves d.told m.answer (does d m).answer × ((does d m).out ≡ d.out)
-does-written d m h k = rw (has_room m.answer h k) (record { told = refl; density = refl; rest = refl; others = refl }, refl)
+pub does_written : (d : Done) (m : Memory) → 16 ≤ length m.answer.ans → 1 ≤ length m.answer.den → Leaves d.told m.answer (does d m).answer × ((does d m).out ≡ d.out)
+does_written d m h k = rw (has_room m.answer h k) (record { told = refl; density = refl; rest = refl; others = refl }, refl)
 
 -- ---- a form that is none of the five, in either operand: 99 in cell 0, 0 in all others, density 0.0, and no other memory changes
 
 pub record Bads (out : List ℕ) (d : Done) : Type 0 where
   pub told : cells d.told ≡ 99 ∷ replicate 15 0
-  pub density : d.told.density ≡ noDensity
+  pub density : d.told.density ≡ no_density
   pub stays : d.out ≡ out
 
-pub bad-form : (kind length start claimed : ℕ) (ws es : List ℕ) → 4 < kind → given (form_of kind length start claimed) ws es ≡ none
+pub bad_form : (kind length start claimed : ℕ) (ws es : List ℕ) → 4 < kind → given (form_of kind length start claimed) ws es ≡ none
 unfolding form_of
-bad-form kind length start claimed ws es h = ap (λ (g : Given). given g ws es) bad
+bad_form kind length start claimed ws es h = ap (λ (g : Given). given g ws es) bad
   where
     bad : form_of kind length start claimed ≡ Bad
     bad = rw (ne_eqb kind 0 (λ e. omega arith), ne_eqb kind 1 (λ e. omega arith), ne_eqb kind 2 (λ e. omega arith), ne_eqb kind 3 (λ e. omega arith), ne_eqb kind 4 (λ e. omega arith))
 
-one-bad : (a : Option Operand) (call : Operand → Done) (out : List ℕ) → a ≡ none → Bads out (ifGood a call out)
-one-bad a call out e = rw e record { told = refl; density = refl; stays = refl }
+one_bad : (a : Option Operand) (call : Operand → Done) (out : List ℕ) → a ≡ none → Bads out (if_good a call out)
+one_bad a call out e = rw e record { told = refl; density = refl; stays = refl }
 
-second-bad : (a : Option Operand) (call : Operand → Operand → Done) (out : List ℕ) → Bads out (ifBoth a none call out)
-second-bad (some x) call out = record { told = refl; density = refl; stays = refl }
-second-bad none call out = record { told = refl; density = refl; stays = refl }
+second_bad : (a : Option Operand) (call : Operand → Operand → Done) (out : List ℕ) → Bads out (if_both a none call out)
+second_bad (some x) call out = record { told = refl; density = refl; stays = refl }
+second_bad none call out = record { told = refl; density = refl; stays = refl }
 
-either-bad : (a b : Option Operand) (call : Operand → Operand → Done) (out : List ℕ) → (a ≡ none) ⊎ (b ≡ none) → Bads out (ifBoth a b call out)
-either-bad a b call out (inl e) = rw e record { told = refl; density = refl; stays = refl }
-either-bad a b call out (inr e) = rw e (second-bad a call out)
+either_bad : (a b : Option Operand) (call : Operand → Operand → Done) (out : List ℕ) → (a ≡ none) ⊎ (b ≡ none) → Bads out (if_both a b call out)
+either_bad a b call out (inl e) = rw e record { told = refl; density = refl; stays = refl }
+either_bad a b call out (inr e) = rw e (second_bad a call out)
 
 module _ (a : Option Operand) (out : List ℕ) (e : a ≡ none) where
-  pub to-words-bad : Bads out (toWordsDone a out)
-  to-words-bad = one-bad a _ out e
+  pub to_words_bad : Bads out (to_words_done a out)
+  to_words_bad = one_bad a _ out e
 
-  pub to-list-bad : Bads out (toListDone a out)
-  to-list-bad = one-bad a _ out e
+  pub to_list_bad : Bads out (to_list_done a out)
+  to_list_bad = one_bad a _ out e
 
-  pub to-runs-bad : Bads out (toRunsDone a out)
-  to-runs-bad = one-bad a _ out e
+  pub to_runs_bad : Bads out (to_runs_done a out)
+  to_runs_bad = one_bad a _ out e
 
 -- also in one that the call ignores, as not does its second
 module _ (a b : Option Operand) (out : List ℕ) (e : (a ≡ none) ⊎ (b ≡ none)) where
-  pub compose-bad : Bads out (composeDone a b out)
-  compose-bad = either-bad a b _ out e
+  pub compose_bad : Bads out (compose_done a b out)
+  compose_bad = either_bad a b _ out e
 
-  pub set-bad : (which : ℕ) → Bads out (setsDone which a b out)
-  set-bad which = either-bad a b _ out e
+  pub set_bad : (which : ℕ) → Bads out (sets_done which a b out)
+  set_bad which = either_bad a b _ out e
 
-  pub feed-bad : (st : State) → Bads out (feedDone st a b out)
-  feed-bad st = either-bad a b _ out e
+  pub feed_bad : (st : State) → Bads out (feed_done st a b out)
+  feed_bad st = either_bad a b _ out e
 
-  pub recover-bad : Bads out (recoverDone a b out)
-  recover-bad = either-bad a b _ out e
+  pub recover_bad : Bads out (recover_done a b out)
+  recover_bad = either_bad a b _ out e
 
-  pub recover-feed-bad : (st : RecoveryState) → Bads out (recoverFeedDone st a b out)
-  recover-feed-bad st = either-bad a b _ out e
+  pub recover_feed_bad : (st : RecoveryState) → Bads out (recover_feed_done st a b out)
+  recover_feed_bad st = either_bad a b _ out e
 
 -- ---- the state after a feed, of the composer or of recovery, as given where it is refused
 
@@ -126,23 +126,23 @@ pub record Keeps (d r k : ℕ) (t : Told) : Type 0 where
   pub ranks : t.ranks ≡ r
   pub kept : t.kept ≡ k
 
-by-verdict : (v : Verdict) (st : State) (p : Pair) (out : List ℕ) → let t = fedTold (fedBy v st p) in
-    (t.refusal ≡ 0 → ⊥) → Keeps st.done.0 st.ranks.0 st.kept t × (outBy v st p out ≡ out)
-by-verdict Fine st p out h = absurd (h refl)
-by-verdict (Refused r) st p out h = (record { done = refl; ranks = refl; kept = refl }, refl)
+by_verdict : (v : Verdict) (st : State) (p : Pair) (out : List ℕ) → let t = fed_told (fed_by v st p) in
+    (t.refusal ≡ 0 → ⊥) → Keeps st.done.0 st.ranks.0 st.kept t × (out_by v st p out ≡ out)
+by_verdict Fine st p out h = absurd (h refl)
+by_verdict (Refused r) st p out h = (record { done = refl; ranks = refl; kept = refl }, refl)
 
-pub refused-feed : (st : State) (x y : Operand) (out : List ℕ) → let d = feedDone st (some x) (some y) out in
+pub refused_feed : (st : State) (x y : Operand) (out : List ℕ) → let d = feed_done st (some x) (some y) out in
     (d.told.refusal ≡ 0 → ⊥) → Keeps st.done.0 st.ranks.0 st.kept d.told × (d.out ≡ out)
-refused-feed st x y out = by-verdict (judged st (pair_of x y) (length out)) st (pair_of x y) out
+refused_feed st x y out = by_verdict (judged st (pair_of x y) (length out)) st (pair_of x y) out
 
-by-recovery-verdict : (v : Verdict) (st : RecoveryState) (m : Masks) (out : List ℕ) → let t = recoveryFedTold (recoveryFedBy v st m) in
+by_recovery_verdict : (v : Verdict) (st : RecoveryState) (m : Masks) (out : List ℕ) → let t = recovery_fed_told (recoveryFedBy v st m) in
     (t.refusal ≡ 0 → ⊥) → Keeps st.done.0 st.ranks.0 st.kept t × (recoveryOutBy v st m out ≡ out)
-by-recovery-verdict Fine st m out h = absurd (h refl)
-by-recovery-verdict (Refused r) st m out h = (record { done = refl; ranks = refl; kept = refl }, refl)
+by_recovery_verdict Fine st m out h = absurd (h refl)
+by_recovery_verdict (Refused r) st m out h = (record { done = refl; ranks = refl; kept = refl }, refl)
 
-pub refused-recovery-feed : (st : RecoveryState) (x y : Operand) (out : List ℕ) → let d = recoverFeedDone st (some x) (some y) out in
+pub refused_recovery_feed : (st : RecoveryState) (x y : Operand) (out : List ℕ) → let d = recover_feed_done st (some x) (some y) out in
     (d.told.refusal ≡ 0 → ⊥) → Keeps st.done.0 st.ranks.0 st.kept d.told × (d.out ≡ out)
-refused-recovery-feed st x y out = by-recovery-verdict (recoveryJudged st (masksOf x y) (length out)) st (masksOf x y) out
+refused_recovery_feed st x y out = by_recovery_verdict (recoveryJudged st (masks_of x y) (length out)) st (masks_of x y) out
 
 -- ---- cell 10: with 17 the first row outside self, counted in the piece for a feed; 0 in all other answers of recovery
 
@@ -150,13 +150,13 @@ pub record Outside (x y : Operand) (t : Told) : Type 0 where
   pub row : t.refusal ≡ 17 → t.outside ≡ select (strays x y) 0
   pub else : t.refusal ≢ 17 → t.outside ≡ 0
 
-pub recover-outside : (x y : Operand) (out : List ℕ) → Outside x y (recoverDone (some x) (some y) out).told
+pub recover_outside : (x y : Operand) (out : List ℕ) → Outside x y (recover_done (some x) (some y) out).told
 unfolding recovered
-recover-outside x y out =
-    let v = first (recoverChecks x y (length out)) in
-    record { row = told-first v (recovery x y) noRoute (strays x y); else = told-else v (recovery x y) noRoute (strays x y) }
+recover_outside x y out =
+    let v = first (recover_checks x y (length out)) in
+    record { row = told_first v (recovery x y) no_route (strays x y); else = told_else v (recovery x y) no_route (strays x y) }
 
-pub recover-feed-outside : (st : RecoveryState) (x y : Operand) (out : List ℕ) → Outside x y (recoverFeedDone st (some x) (some y) out).told
-recover-feed-outside st x y out =
-    let v = recoveryJudged st (masksOf x y) (length out) in
-    record { row = told-first v (recovery x y) noRoute (strays x y); else = told-else v (recovery x y) noRoute (strays x y) }
+pub recover_feed_outside : (st : RecoveryState) (x y : Operand) (out : List ℕ) → Outside x y (recover_feed_done st (some x) (some y) out).told
+recover_feed_outside st x y out =
+    let v = recoveryJudged st (masks_of x y) (length out) in
+    record { row = told_first v (recovery x y) no_route (strays x y); else = told_else v (recovery x y) no_route (strays x y) }

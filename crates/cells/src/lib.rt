@@ -1,4 +1,6 @@
 // The C boundary for tests, no code: what a call tells, cell by cell, and what it leaves of the memory lent to it. include/probe.h says it in C.
+#![tactic(auto)]
+
 use rules::Form;
 
 // The numbers that the cells have, and the density.

@@ -10,121 +10,121 @@ use contract.Lifetimes.{Lfts}
 use borrow.Fn.Kinds.{Dens, res_t, ended_of}
 use denote.Triple.Clauses.{Lasts, at_exit}
 use Rattle.rows.specs.declared.Refusal.{Refusal}
-use Rattle.rows.specs.Runs.{runsIn}
-use Rattle.rows.specs.Laid.{wordsFor}
+use Rattle.rows.specs.Runs.{runs_in}
+use Rattle.rows.specs.Laid.{words_for}
 use Rattle.rules.specs.declared.Answer.{Answer}
 use Rattle.rules.specs.declared.Written.{Written}
 use Rattle.rules.specs.declared.Form.TheVariants.{Words, List as Listed, Runs}
 use Rattle.rules.specs.Operand.{Operand, lent, rows_of, length_of, count_of, Accepted}
-use Rattle.rules.specs.Convert.{toWords, toWordsOut, to_list, toListOut, toRuns, toRunsOut}
+use Rattle.rules.specs.Convert.{to_words, to_words_out, to_list, to_list_out, to_runs, to_runs_out}
 use Rattle.rules.proofs.AnswerLaws.{Bare}
 use Rattle.rules.proofs.Writes.{row, Writes, Lists, WritesRuns}
 use Rattle.rules.proofs.Densities.{Nearest}
-use Rattle.rules.proofs.Conversions.{Refuses, to-words-refuses, to-words-accepts, to-words-refused, to-list-refuses, to-list-accepts, to-list-refused}
-use Rattle.rules.proofs.Conversions.{to-runs-refuses, to-runs-accepts, to-runs-refused}
-use Rattle.rules.proofs.RoundTrips.{to-words-writes, to-words-back, to-list-lists, to-list-back, to-runs-writes, to-runs-back, to-runs-only}
+use Rattle.rules.proofs.Conversions.{Refuses, to_words_refuses, to_words_accepts, to_words_refused, to_list_refuses, to_list_accepts, to_list_refused}
+use Rattle.rules.proofs.Conversions.{to_runs_refuses, to_runs_accepts, to_runs_refused}
+use Rattle.rules.proofs.RoundTrips.{to_words_writes, to_words_back, to_list_lists, to_list_back, to_runs_writes, to_runs_back, to_runs_only}
 use Rattle.mask.proofs.to_words.Kinds as words-kinds
 use Rattle.mask.proofs.to_words.Reads as words-reads
 use Rattle.mask.proofs.to_list.Kinds as list-kinds
 use Rattle.mask.proofs.to_list.Reads as list-reads
 use Rattle.mask.proofs.to_runs.Kinds as runs-kinds
 use Rattle.mask.proofs.to_runs.Reads as runs-reads
-use Rattle.claims.proofs.Densities.{written-nearest, listed-nearest, runs-nearest}
+use Rattle.claims.proofs.Densities.{written_nearest, listed_nearest, runs_nearest}
 
 -- what a conversion that needs so many elements owes, refused: each refusal exactly when, and accepted exactly otherwise; and a refusal
 -- changes no lent element, and reports count 0, route 0 and density 0.0
 pub record Refusing (o : Operand) (needed : ℕ) (out : List ℕ) (answer : Answer) (after : List ℕ) : Type 0 where
-  pub refuses-exactly : (x : Refusal) → zero < x.number → (answer.refusal ≡ x) ↔ Refuses o needed (length out) x
-  pub accepts-exactly : (answer.refusal.number ≡ 0) ↔ (Accepted o × (needed ≤ length out))
-  pub refused-changes-nothing : answer.refusal.number ≢ 0 → (after ≡ out) × Bare answer
+  pub refuses_exactly : (x : Refusal) → zero < x.number → (answer.refusal ≡ x) ↔ Refuses o needed (length out) x
+  pub accepts_exactly : (answer.refusal.number ≡ 0) ↔ (Accepted o × (needed ≤ length out))
+  pub refused_changes_nothing : answer.refusal.number ≢ 0 → (after ≡ out) × Bare answer
 
 -- ---- to words
 
 pub record ToWords (o : Operand) (out : List ℕ) (answer : Answer) (after : List ℕ) : Type 0 where
-  pub refusing : Refusing o (wordsFor (length_of o.form)) out answer after
+  pub refusing : Refusing o (words_for (length_of o.form)) out answer after
   -- accepted: its rows bit by bit, their own count, route 0, their density, the tail and the later words
-  pub accepted-writes : Accepted o → wordsFor (length_of o.form) ≤ length out → Writes (length_of o.form) (row o) 0 answer after out
+  pub accepted_writes : Accepted o → words_for (length_of o.form) ≤ length out → Writes (length_of o.form) (row o) 0 answer after out
   -- the density told is the value of the format nearest to the told count over the length
-  pub accepted-density : Accepted o → wordsFor (length_of o.form) ≤ length out → 0 < length_of o.form → Nearest answer.summary.count (length_of o.form) answer.summary.density
+  pub accepted_density : Accepted o → words_for (length_of o.form) ≤ length out → 0 < length_of o.form → Nearest answer.summary.count (length_of o.form) answer.summary.density
   -- and what was written, read as words, is the same mask
-  pub reads-back : Accepted o → wordsFor (length_of o.form) ≤ length out → let back = lent (Words 0 (length_of o.form) (count_of o)) after [] in Accepted back × (rows_of back ≡ rows_of o)
+  pub reads_back : Accepted o → words_for (length_of o.form) ≤ length out → let back = lent (Words 0 (length_of o.form) (count_of o)) after [] in Accepted back × (rows_of back ≡ rows_of o)
 
-words-demands : (o : Operand) (out : List ℕ) (answer : Answer) (after : List ℕ) → answer ≡ toWords o out → after ≡ toWordsOut o out → ToWords o out answer after
-words-demands o out answer after e f =
+words_demands : (o : Operand) (out : List ℕ) (answer : Answer) (after : List ℕ) → answer ≡ to_words o out → after ≡ to_words_out o out → ToWords o out answer after
+words_demands o out answer after e f =
     rw (e, f)
     (record {
-      refusing = record { refuses-exactly = to-words-refuses o out; accepts-exactly = to-words-accepts o out; refused-changes-nothing = to-words-refused o out };
-      accepted-writes = to-words-writes o out;
-      accepted-density = λ a r. written-nearest (to-words-writes o out a r);
-      reads-back = to-words-back o out;
+      refusing = record { refuses_exactly = to_words_refuses o out; accepts_exactly = to_words_accepts o out; refused_changes_nothing = to_words_refused o out };
+      accepted_writes = to_words_writes o out;
+      accepted_density = λ a r. written_nearest (to_words_writes o out a r);
+      reads_back = to_words_back o out;
     })
 
-pub to-words-demands : (κs : Lfts 3) (a : Dens κs words-kinds.ps) (x : (res_t words-kinds.r κs).Denot) (v : Lasts (ended_of 3 words-kinds.ps words-kinds.r) κs a)
+pub to_words_demands : (κs : Lfts 3) (a : Dens κs words-kinds.ps) (x : (res_t words-kinds.r κs).Denot) (v : Lasts (ended_of 3 words-kinds.ps words-kinds.r) κs a)
     → words-reads.Post κs a x (at_exit (ended_of 3 words-kinds.ps words-kinds.r) κs a v)
     → ToWords (lent a.0 a.1.0.now a.1.1.0.now) a.1.1.1.0.now x v.1.1.1.0
-to-words-demands κs a x v allowed = words-demands _ _ _ _ allowed.0 allowed.1
+to_words_demands κs a x v allowed = words_demands _ _ _ _ allowed.0 allowed.1
 
 -- ---- to a list
 
 pub record ToList (o : Operand) (out : List ℕ) (answer : Answer) (after : List ℕ) : Type 0 where
   pub refusing : Refusing o (count_of o) out answer after
   -- accepted: its set rows as entries, as many as it counts, route 0, its density and the later entries
-  pub accepted-lists : Accepted o → count_of o ≤ length out → Lists (length_of o.form) (rows_of o) answer after out
+  pub accepted_lists : Accepted o → count_of o ≤ length out → Lists (length_of o.form) (rows_of o) answer after out
   -- the density told is the value of the format nearest to the told count over the length
-  pub accepted-density : Accepted o → count_of o ≤ length out → 0 < length_of o.form → Nearest answer.summary.count (length_of o.form) answer.summary.density
+  pub accepted_density : Accepted o → count_of o ≤ length out → 0 < length_of o.form → Nearest answer.summary.count (length_of o.form) answer.summary.density
   -- and what was written, read as a list, is the same mask
-  pub reads-back : Accepted o → count_of o ≤ length out → let back = lent (Listed (length_of o.form)) [] (take (count_of o) after) in Accepted back × (rows_of back ≡ rows_of o)
+  pub reads_back : Accepted o → count_of o ≤ length out → let back = lent (Listed (length_of o.form)) [] (take (count_of o) after) in Accepted back × (rows_of back ≡ rows_of o)
 
-list-demands : (o : Operand) (out : List ℕ) (answer : Answer) (after : List ℕ) → answer ≡ to_list o out → after ≡ toListOut o out → ToList o out answer after
-list-demands o out answer after e f =
+list_demands : (o : Operand) (out : List ℕ) (answer : Answer) (after : List ℕ) → answer ≡ to_list o out → after ≡ to_list_out o out → ToList o out answer after
+list_demands o out answer after e f =
     rw (e, f)
     (record {
-      refusing = record { refuses-exactly = to-list-refuses o out; accepts-exactly = to-list-accepts o out; refused-changes-nothing = to-list-refused o out };
-      accepted-lists = to-list-lists o out;
-      accepted-density = λ a r. listed-nearest o a (to-list-lists o out a r);
-      reads-back = to-list-back o out;
+      refusing = record { refuses_exactly = to_list_refuses o out; accepts_exactly = to_list_accepts o out; refused_changes_nothing = to_list_refused o out };
+      accepted_lists = to_list_lists o out;
+      accepted_density = λ a r. listed_nearest o a (to_list_lists o out a r);
+      reads_back = to_list_back o out;
     })
 
-pub to-list-demands : (κs : Lfts 3) (a : Dens κs list-kinds.ps) (x : (res_t list-kinds.r κs).Denot) (v : Lasts (ended_of 3 list-kinds.ps list-kinds.r) κs a)
+pub to_list_demands : (κs : Lfts 3) (a : Dens κs list-kinds.ps) (x : (res_t list-kinds.r κs).Denot) (v : Lasts (ended_of 3 list-kinds.ps list-kinds.r) κs a)
     → list-reads.Post κs a x (at_exit (ended_of 3 list-kinds.ps list-kinds.r) κs a v)
     → ToList (lent a.0 a.1.0.now a.1.1.0.now) a.1.1.1.0.now x v.1.1.1.0
-to-list-demands κs a x v allowed = list-demands _ _ _ _ allowed.0 allowed.1
+to_list_demands κs a x v allowed = list_demands _ _ _ _ allowed.0 allowed.1
 
 -- ---- to runs
 
 pub record ToRuns (o : Operand) (out : List ℕ) (told : Written) (after : List ℕ) : Type 0 where
-  pub refusing : Refusing o (runsIn (rows_of o) * 2) out told.answer after
+  pub refusing : Refusing o (runs_in (rows_of o) * 2) out told.answer after
   -- a refusal tells no runs
-  pub refused-no-runs : told.answer.refusal.number ≢ 0 → told.runs ≡ 0
+  pub refused_no_runs : told.answer.refusal.number ≢ 0 → told.runs ≡ 0
   -- accepted: its runs as numbers, how many they are, its own count, route 0, its density, and that later numbers stay
-  pub accepted-runs : Accepted o → runsIn (rows_of o) * 2 ≤ length out → WritesRuns (length_of o.form) (rows_of o) told after out
+  pub accepted_runs : Accepted o → runs_in (rows_of o) * 2 ≤ length out → WritesRuns (length_of o.form) (rows_of o) told after out
   -- the density told is the value of the format nearest to the told count over the length
-  pub accepted-density : Accepted o → runsIn (rows_of o) * 2 ≤ length out → 0 < length_of o.form
+  pub accepted_density : Accepted o → runs_in (rows_of o) * 2 ≤ length out → 0 < length_of o.form
       → Nearest told.answer.summary.count (length_of o.form) told.answer.summary.density
   -- what was written, read as runs, is the same mask
-  pub reads-back : Accepted o → runsIn (rows_of o) * 2 ≤ length out
+  pub reads_back : Accepted o → runs_in (rows_of o) * 2 ≤ length out
       → let back = lent (Runs (length_of o.form)) [] (take (told.runs * 2) after) in Accepted back × (rows_of back ≡ rows_of o)
   -- and it is the only run list that the mask has: any that is accepted and has these rows is, number by number, the one written
-  pub only : Accepted o → runsIn (rows_of o) * 2 ≤ length out → (ns : List ℕ) → Accepted (lent (Runs (length_of o.form)) [] ns)
+  pub only : Accepted o → runs_in (rows_of o) * 2 ≤ length out → (ns : List ℕ) → Accepted (lent (Runs (length_of o.form)) [] ns)
       → rows_of (lent (Runs (length_of o.form)) [] ns) ≡ rows_of o → ns ≡ take (told.runs * 2) after
 
-runs-demands : (o : Operand) (out : List ℕ) (told : Written) (after : List ℕ) → told ≡ toRuns o out → after ≡ toRunsOut o out → ToRuns o out told after
-runs-demands o out told after e f =
+runs_demands : (o : Operand) (out : List ℕ) (told : Written) (after : List ℕ) → told ≡ to_runs o out → after ≡ to_runs_out o out → ToRuns o out told after
+runs_demands o out told after e f =
     rw (e, f)
     (record {
       refusing = record {
-        refuses-exactly = to-runs-refuses o out;
-        accepts-exactly = to-runs-accepts o out;
-        refused-changes-nothing = λ h. ((to-runs-refused o out h).0, (to-runs-refused o out h).1);
+        refuses_exactly = to_runs_refuses o out;
+        accepts_exactly = to_runs_accepts o out;
+        refused_changes_nothing = λ h. ((to_runs_refused o out h).0, (to_runs_refused o out h).1);
       };
-      refused-no-runs = λ h. (to-runs-refused o out h).2;
-      accepted-runs = to-runs-writes o out;
-      accepted-density = λ a r. runs-nearest o a (to-runs-writes o out a r);
-      reads-back = to-runs-back o out;
-      only = to-runs-only o out;
+      refused_no_runs = λ h. (to_runs_refused o out h).2;
+      accepted_runs = to_runs_writes o out;
+      accepted_density = λ a r. runs_nearest o a (to_runs_writes o out a r);
+      reads_back = to_runs_back o out;
+      only = to_runs_only o out;
     })
 
-pub to-runs-demands : (κs : Lfts 3) (a : Dens κs runs-kinds.ps) (x : (res_t runs-kinds.r κs).Denot) (v : Lasts (ended_of 3 runs-kinds.ps runs-kinds.r) κs a)
+pub to_runs_demands : (κs : Lfts 3) (a : Dens κs runs-kinds.ps) (x : (res_t runs-kinds.r κs).Denot) (v : Lasts (ended_of 3 runs-kinds.ps runs-kinds.r) κs a)
     → runs-reads.Post κs a x (at_exit (ended_of 3 runs-kinds.ps runs-kinds.r) κs a v)
     → ToRuns (lent a.0 a.1.0.now a.1.1.0.now) a.1.1.1.0.now x v.1.1.1.0
-to-runs-demands κs a x v allowed = runs-demands _ _ _ _ allowed.0 allowed.1
+to_runs_demands κs a x v allowed = runs_demands _ _ _ _ allowed.0 allowed.1

@@ -6,46 +6,46 @@ use mathlib.Core.Bool.{Bool}
 use mathlib.Core.List.{List}
 use native.Mathlib.Omega.{arith}
 use lib.ListN.{take, length-take}
-use Rattle.rows.specs.Words.{bitsOfAll}
-use Rattle.rows.proofs.RowLaws.{count-le-length}
+use Rattle.rows.specs.Words.{bits_of_all}
+use Rattle.rows.proofs.RowLaws.{count_le_length}
 use Rattle.rules.specs.declared.Answer.{Answer}
 use Rattle.rules.specs.declared.Fed.{Fed}
 use Rattle.rules.specs.declared.State.{State}
 use Rattle.rules.specs.declared.Written.{Written}
 use Rattle.rules.specs.Operand.{Operand, rows_of, length_of, Accepted}
 use Rattle.rules.specs.Stream.{Pair, long, kept}
-use Rattle.rules.proofs.OperandLaws.{accepted-length}
-use Rattle.rules.proofs.StreamLaws.{Accepts, kept-length}
+use Rattle.rules.proofs.OperandLaws.{accepted_length}
+use Rattle.rules.proofs.StreamLaws.{Accepts, kept_length}
 use Rattle.rules.proofs.Writes.{Writes, Lists, WritesRuns}
-use Rattle.rules.proofs.Densities.{Nearest, density-nearest}
+use Rattle.rules.proofs.Densities.{Nearest, density_nearest}
 use Rattle.rules.proofs.Feeds.{Feeds}
 
 -- a composition, a set operation, a conversion to words
-pub written-nearest : {n : ℕ} {row_at : ℕ → Bool} {by : ℕ} {answer : Answer} {left out : List ℕ} → Writes n row_at by answer left out → 0 < n
+pub written_nearest : {n : ℕ} {row_at : ℕ → Bool} {by : ℕ} {answer : Answer} {left out : List ℕ} → Writes n row_at by answer left out → 0 < n
     → Nearest answer.summary.count n answer.summary.density
-written-nearest {n} {row_at} {by} {answer} {left} {out} w h =
-    let rows = take n (bitsOfAll 64 left) in
+written_nearest {n} {row_at} {by} {answer} {left} {out} w h =
+    let rows = take n (bits_of_all 64 left) in
     subst (Nearest answer.summary.count n) (sym w.dense)
-    (density-nearest answer.summary.count n h (omega (arith, w.counted, count-le-length rows, length-take n (bitsOfAll 64 left))))
+    (density_nearest answer.summary.count n h (omega (arith, w.counted, count_le_length rows, length-take n (bits_of_all 64 left))))
 
 -- a conversion to a list
-pub listed-nearest : (o : Operand) {answer : Answer} {left out : List ℕ} → Accepted o → Lists (length_of o.form) (rows_of o) answer left out → 0 < length_of o.form
+pub listed_nearest : (o : Operand) {answer : Answer} {left out : List ℕ} → Accepted o → Lists (length_of o.form) (rows_of o) answer left out → 0 < length_of o.form
     → Nearest answer.summary.count (length_of o.form) answer.summary.density
-listed-nearest o {answer} {left} {out} a w h =
+listed_nearest o {answer} {left} {out} a w h =
     subst (Nearest answer.summary.count (length_of o.form)) (sym w.dense)
-    (density-nearest answer.summary.count (length_of o.form) h (omega (arith, w.counted, count-le-length (rows_of o), accepted-length o a)))
+    (density_nearest answer.summary.count (length_of o.form) h (omega (arith, w.counted, count_le_length (rows_of o), accepted_length o a)))
 
 -- a conversion to runs
-pub runs-nearest : (o : Operand) {told : Written} {left out : List ℕ} → Accepted o → WritesRuns (length_of o.form) (rows_of o) told left out
+pub runs_nearest : (o : Operand) {told : Written} {left out : List ℕ} → Accepted o → WritesRuns (length_of o.form) (rows_of o) told left out
     → 0 < length_of o.form → Nearest told.answer.summary.count (length_of o.form) told.answer.summary.density
-runs-nearest o {told} {left} {out} a w h =
+runs_nearest o {told} {left} {out} a w h =
     let counted = told.answer.summary.count in
     subst (Nearest counted (length_of o.form)) (sym w.dense)
-    (density-nearest counted (length_of o.form) h (omega (arith, w.counted, count-le-length (rows_of o), accepted-length o a)))
+    (density_nearest counted (length_of o.form) h (omega (arith, w.counted, count_le_length (rows_of o), accepted_length o a)))
 
 -- a feed, of its piece
-pub fed-nearest : {st : State} {p : Pair} {room : ℕ} {gave : Fed} {left out : List ℕ} → Accepts st p room → Feeds st p gave left out → 0 < long p
+pub fed_nearest : {st : State} {p : Pair} {room : ℕ} {gave : Fed} {left out : List ℕ} → Accepts st p room → Feeds st p gave left out → 0 < long p
     → Nearest gave.answer.summary.count (long p) gave.answer.summary.density
-fed-nearest {st} {p} {room} {gave} {left} {out} a w h =
+fed_nearest {st} {p} {room} {gave} {left} {out} a w h =
     subst (Nearest gave.answer.summary.count (long p)) (sym w.dense)
-    (density-nearest gave.answer.summary.count (long p) h (omega (arith, w.counted, count-le-length (kept p), kept-length p a.matched)))
+    (density_nearest gave.answer.summary.count (long p) h (omega (arith, w.counted, count_le_length (kept p), kept_length p a.matched)))

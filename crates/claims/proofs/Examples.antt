@@ -12,17 +12,17 @@ use Rattle.rows.specs.declared.Read.{Read}
 use Rattle.rows.specs.declared.Selected.{Selected}
 use Rattle.rows.specs.Rows.{count}
 use Rattle.rows.specs.Word.{bits_of}
-use Rattle.rows.specs.Table.{refusal, noRefusal}
-use Rattle.rows.specs.WordAnswer.{depositAnswer, selectAnswer, readAnswer, deposited, selected, rankRead}
+use Rattle.rows.specs.Table.{refusal, no_refusal}
+use Rattle.rows.specs.WordAnswer.{deposit_answer, select_answer, read_answer, deposited, selected, rank_read}
 use Rattle.rules.specs.declared.Answer.{Answer}
 use Rattle.rules.specs.Answer.{answer}
 use Rattle.rules.specs.Operand.{Operand, lent}
 use Rattle.rules.specs.Route.{published}
-use Rattle.rules.specs.Compose.{composed, composedOut}
+use Rattle.rules.specs.Compose.{composed, composed_out}
 use Rattle.rules.specs.Stream.{state_of, fresh, Run}
 use Rattle.rules.proofs.WordExamples as word-examples
 use Rattle.rules.proofs.ReadExamples as read-examples
-use Rattle.rules.proofs.Examples.{quarter, Case, gives, before, Holds, Fed, feeds, keepsOne, Example, word, read, composition, stream, True, AllTrue, document, examples}
+use Rattle.rules.proofs.Examples.{quarter, Case, gives, before, Holds, Fed, feeds, keeps_one, Example, word, read, composition, stream, True, AllTrue, document, examples}
 use Rattle.word.proofs.deposit.Kinds as deposit-kinds
 use Rattle.word.proofs.deposit.Reads as deposit
 use Rattle.word.proofs.select.Kinds as select-kinds
@@ -31,7 +31,7 @@ use Rattle.lent.proofs.rank_read.Kinds as read-kinds
 use Rattle.lent.proofs.rank_read.Reads as reads
 use Rattle.intersect_by_rank.proofs.intersect_by_rank.Kinds as compose-kinds
 use Rattle.intersect_by_rank.proofs.intersect_by_rank.Reads as compose-reads
-use Rattle.claims.proofs.Streams.{Calls, calls-run}
+use Rattle.claims.proofs.Streams.{Calls, calls_run}
 
 -- ---- an answer that a contract allows
 
@@ -43,7 +43,7 @@ pub record Deposits (source mask : ℕ) (x : Deposited) : Type 1 where
   pub allowed : deposit.Post κs args x (at_exit (ended_of 0 deposit-kinds.ps deposit-kinds.r) κs args lasts)
   pub source_is : args.0 ≡ source
   pub mask_is : args.1.0 ≡ mask
-  pub claimed-is : args.1.1.0 ≡ count (bits_of 64 mask)
+  pub claimed_is : args.1.1.0 ≡ count (bits_of 64 mask)
 
 -- to a word and a rank
 pub record Selects (n rank : ℕ) (x : Selected) : Type 1 where
@@ -51,7 +51,7 @@ pub record Selects (n rank : ℕ) (x : Selected) : Type 1 where
   pub args : Dens κs select-kinds.ps
   pub lasts : Lasts (ended_of 0 select-kinds.ps select-kinds.r) κs args
   pub allowed : select.Post κs args x (at_exit (ended_of 0 select-kinds.ps select-kinds.r) κs args lasts)
-  pub word-is : args.0 ≡ n
+  pub word_is : args.0 ≡ n
   pub rank_is : args.1.0 ≡ rank
 
 -- to lent words, a start and an offset
@@ -62,7 +62,7 @@ pub record Reads (words : List ℕ) (start offset : ℕ) (x : Read) : Type 1 whe
   pub allowed : reads.Post κs args x (at_exit (ended_of 1 read-kinds.ps read-kinds.r) κs args lasts)
   pub words_are : args.0.now ≡ words
   pub start_is : args.1.0 ≡ start
-  pub offset-is : args.1.1.0 ≡ offset
+  pub offset_is : args.1.1.0 ≡ offset
 
 -- to self, the rank mask and an output, which it leaves so
 pub record Composes (s r : Operand) (out : List ℕ) (x : Answer) (after : List ℕ) : Type 1 where
@@ -70,28 +70,28 @@ pub record Composes (s r : Operand) (out : List ℕ) (x : Answer) (after : List 
   pub args : Dens κs compose-kinds.ps
   pub lasts : Lasts (ended_of 5 compose-kinds.ps compose-kinds.r) κs args
   pub allowed : compose-reads.Post κs args x (at_exit (ended_of 5 compose-kinds.ps compose-kinds.r) κs args lasts)
-  pub self-is : lent args.0 args.1.0.now args.1.1.0.now ≡ s
+  pub self_is : lent args.0 args.1.0.now args.1.1.0.now ≡ s
   pub rank_is : lent args.1.1.1.0 args.1.1.1.1.0.now args.1.1.1.1.1.0.now ≡ r
-  pub out-is : args.1.1.1.1.1.1.0.now ≡ out
+  pub out_is : args.1.1.1.1.1.1.0.now ≡ out
   pub leaves : lasts.1.1.1.1.1.1.0 ≡ after
 
 -- ---- the examples of such answers
 
 abbrev pub WordHolds : word-examples.Case → Type 1
-WordHolds (word-examples.deposits s m w) = (x : Deposited) → Deposits s m x → x ≡ depositAnswer noRefusal w
-WordHolds (word-examples.takes m w) = (s : ℕ) → s < 2 ^ 64 → (x : Deposited) → Deposits s m x → x ≡ depositAnswer noRefusal (w s)
-WordHolds (word-examples.selects n r p) = (x : Selected) → Selects n r x → x ≡ selectAnswer noRefusal p
-WordHolds (word-examples.refuses n r) = (x : Selected) → Selects n r x → x ≡ selectAnswer (refusal 9 0) 0
+WordHolds (word-examples.deposits s m w) = (x : Deposited) → Deposits s m x → x ≡ deposit_answer no_refusal w
+WordHolds (word-examples.takes m w) = (s : ℕ) → s < 2 ^ 64 → (x : Deposited) → Deposits s m x → x ≡ deposit_answer no_refusal (w s)
+WordHolds (word-examples.selects n r p) = (x : Selected) → Selects n r x → x ≡ select_answer no_refusal p
+WordHolds (word-examples.refuses n r) = (x : Selected) → Selects n r x → x ≡ select_answer (refusal 9 0) 0
 
 abbrev pub ReadHolds : read-examples.Case → Type 1
-ReadHolds (read-examples.reads ws s o w) = (x : Read) → Reads ws s o x → x ≡ readAnswer noRefusal w
-ReadHolds (read-examples.refuses ws s o) = (x : Read) → Reads ws s o x → x ≡ readAnswer (refusal 2 0) 0
+ReadHolds (read-examples.reads ws s o w) = (x : Read) → Reads ws s o x → x ≡ read_answer no_refusal w
+ReadHolds (read-examples.refuses ws s o) = (x : Read) → Reads ws s o x → x ≡ read_answer (refusal 2 0) 0
 
 abbrev pub CompositionHolds : Case → Type 1
-CompositionHolds (gives s r n) = (x : Answer) (after : List ℕ) → Composes s r before x after → (x ≡ answer noRefusal 2 n quarter) × (after ≡ 66 ∷ 7 ∷ [])
+CompositionHolds (gives s r n) = (x : Answer) (after : List ℕ) → Composes s r before x after → (x ≡ answer no_refusal 2 n quarter) × (after ≡ 66 ∷ 7 ∷ [])
 
 abbrev pub StreamHolds : Fed → Type 1
-StreamHolds (feeds one two n m) = (t : Run) → Calls fresh before (one ∷ two ∷ []) t → t ≡ record { answers = keepsOne n ∷ keepsOne m ∷ []; state = state_of 8 5 2; out = (2 ^ 64 - 256 + 66) ∷ 7 ∷ [] }
+StreamHolds (feeds one two n m) = (t : Run) → Calls fresh before (one ∷ two ∷ []) t → t ≡ record { answers = keeps_one n ∷ keeps_one m ∷ []; state = state_of 8 5 2; out = (2 ^ 64 - 256 + 66) ∷ 7 ∷ [] }
 
 abbrev pub HoldsOfCalls : Example → Type 1
 HoldsOfCalls (word c) = WordHolds c
@@ -105,40 +105,40 @@ AllHold (e ∷ es) = HoldsOfCalls e × AllHold es
 
 -- ---- from the definitions to the calls
 
-deposits-are : {s m : ℕ} {x : Deposited} → Deposits s m x → x ≡ deposited s m (count (bits_of 64 m))
-deposits-are d = rw (← d.source_is, ← d.claimed-is, ← d.mask_is) d.allowed
+deposits_are : {s m : ℕ} {x : Deposited} → Deposits s m x → x ≡ deposited s m (count (bits_of 64 m))
+deposits_are d = rw (← d.source_is, ← d.claimed_is, ← d.mask_is) d.allowed
 
-selects-are : {n r : ℕ} {x : Selected} → Selects n r x → x ≡ selected n r
-selects-are d = rw (← d.word-is, ← d.rank_is) d.allowed
+selects_are : {n r : ℕ} {x : Selected} → Selects n r x → x ≡ selected n r
+selects_are d = rw (← d.word_is, ← d.rank_is) d.allowed
 
-reads-are : {ws : List ℕ} {s o : ℕ} {x : Read} → Reads ws s o x → x ≡ rankRead ws s o
-reads-are d = rw (← d.words_are, ← d.start_is, ← d.offset-is) d.allowed
+reads_are : {ws : List ℕ} {s o : ℕ} {x : Read} → Reads ws s o x → x ≡ rank_read ws s o
+reads_are d = rw (← d.words_are, ← d.start_is, ← d.offset_is) d.allowed
 
-word-carried : (c : word-examples.Case) → word-examples.Holds c → WordHolds c
-word-carried (word-examples.deposits s m w) h = λ x d. deposits-are d ∙ h
-word-carried (word-examples.takes m w) h = λ s l x d. deposits-are d ∙ h s l
-word-carried (word-examples.selects n r p) h = λ x d. selects-are d ∙ h
-word-carried (word-examples.refuses n r) h = λ x d. selects-are d ∙ h
+word_carried : (c : word-examples.Case) → word-examples.Holds c → WordHolds c
+word_carried (word-examples.deposits s m w) h = λ x d. deposits_are d ∙ h
+word_carried (word-examples.takes m w) h = λ s l x d. deposits_are d ∙ h s l
+word_carried (word-examples.selects n r p) h = λ x d. selects_are d ∙ h
+word_carried (word-examples.refuses n r) h = λ x d. selects_are d ∙ h
 
-read-carried : (c : read-examples.Case) → read-examples.Holds c → ReadHolds c
-read-carried (read-examples.reads ws s o w) h = λ x d. reads-are d ∙ h
-read-carried (read-examples.refuses ws s o) h = λ x d. reads-are d ∙ h
+read_carried : (c : read-examples.Case) → read-examples.Holds c → ReadHolds c
+read_carried (read-examples.reads ws s o w) h = λ x d. reads_are d ∙ h
+read_carried (read-examples.refuses ws s o) h = λ x d. reads_are d ∙ h
 
-composes-are : {s r : Operand} {out : List ℕ} {x : Answer} {after : List ℕ} → Composes s r out x after → (x ≡ composed published s r out) × (after ≡ composedOut s r out)
-composes-are d = rw (← d.self-is, ← d.rank_is, ← d.out-is, ← d.leaves) d.allowed
+composes_are : {s r : Operand} {out : List ℕ} {x : Answer} {after : List ℕ} → Composes s r out x after → (x ≡ composed published s r out) × (after ≡ composed_out s r out)
+composes_are d = rw (← d.self_is, ← d.rank_is, ← d.out_is, ← d.leaves) d.allowed
 
-composition-carried : (c : Case) → Holds c → CompositionHolds c
-composition-carried (gives s r n) h = λ x after d. (let p = composes-are d in (p.0 ∙ h.0, p.1 ∙ h.1))
+composition_carried : (c : Case) → Holds c → CompositionHolds c
+composition_carried (gives s r n) h = λ x after d. (let p = composes_are d in (p.0 ∙ h.0, p.1 ∙ h.1))
 
 carried : (e : Example) → True e → HoldsOfCalls e
-carried (word c) h = word-carried c h
-carried (read c) h = read-carried c h
-carried (composition c) h = composition-carried c h
-carried (stream (feeds one two n m)) h = λ t cs. calls-run cs ∙ h
+carried (word c) h = word_carried c h
+carried (read c) h = read_carried c h
+carried (composition c) h = composition_carried c h
+carried (stream (feeds one two n m)) h = λ t cs. calls_run cs ∙ h
 
-all-carried : (es : List Example) → AllTrue es → AllHold es
-all-carried [] h = tt
-all-carried (e ∷ es) h = (carried e h.0, all-carried es h.1)
+all_carried : (es : List Example) → AllTrue es → AllHold es
+all_carried [] h = tt
+all_carried (e ∷ es) h = (carried e h.0, all_carried es h.1)
 
-pub document-holds : AllHold document
-document-holds = all-carried document examples
+pub document_holds : AllHold document
+document_holds = all_carried document examples

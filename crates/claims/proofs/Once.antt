@@ -59,83 +59,83 @@ use Rattle.probe.proofs.probe_recover_feed.Reads as probe-recover-feed
 use Rattle.probe.proofs.probe_program.Kinds as probe-program-kinds
 use Rattle.probe.proofs.probe_program.Reads as probe-program
 
-pub word-deposit-one : OneAnswer 0 deposit-kinds.ps deposit-kinds.r deposit.Pre deposit.Post
-word-deposit-one κs a p x y v w hv hw = (hv ∙ sym hw, refl)
+pub word_deposit_one : OneAnswer 0 deposit-kinds.ps deposit-kinds.r deposit.Pre deposit.Post
+word_deposit_one κs a p x y v w hv hw = (hv ∙ sym hw, refl)
 
-pub word-select-one : OneAnswer 0 select-kinds.ps select-kinds.r select.Pre select.Post
-word-select-one κs a p x y v w hv hw = (hv ∙ sym hw, refl)
+pub word_select_one : OneAnswer 0 select-kinds.ps select-kinds.r select.Pre select.Post
+word_select_one κs a p x y v w hv hw = (hv ∙ sym hw, refl)
 
-pub lent-rank-read-one : OneAnswer 1 rank-read-kinds.ps rank-read-kinds.r rank-read.Pre rank-read.Post
-lent-rank-read-one κs a p x y v w hv hw = (hv ∙ sym hw, refl)
+pub lent_rank_read_one : OneAnswer 1 rank-read-kinds.ps rank-read-kinds.r rank-read.Pre rank-read.Post
+lent_rank_read_one κs a p x y v w hv hw = (hv ∙ sym hw, refl)
 
-pub mask-to-words-one : OneAnswer 3 to-words-kinds.ps to-words-kinds.r to-words.Pre to-words.Post
-mask-to-words-one κs a p x y v w hv hw = (hv.0 ∙ sym hw.0, ap (λ (l : List ℕ). (tt, (tt, (tt, (l, tt))))) (hv.1 ∙ sym hw.1))
+pub mask_to_words_one : OneAnswer 3 to-words-kinds.ps to-words-kinds.r to-words.Pre to-words.Post
+mask_to_words_one κs a p x y v w hv hw = (hv.0 ∙ sym hw.0, ap (λ (l : List ℕ). (tt, (tt, (tt, (l, tt))))) (hv.1 ∙ sym hw.1))
 
-pub mask-to-list-one : OneAnswer 3 to-list-kinds.ps to-list-kinds.r to-list.Pre to-list.Post
-mask-to-list-one κs a p x y v w hv hw = (hv.0 ∙ sym hw.0, ap (λ (l : List ℕ). (tt, (tt, (tt, (l, tt))))) (hv.1 ∙ sym hw.1))
+pub mask_to_list_one : OneAnswer 3 to-list-kinds.ps to-list-kinds.r to-list.Pre to-list.Post
+mask_to_list_one κs a p x y v w hv hw = (hv.0 ∙ sym hw.0, ap (λ (l : List ℕ). (tt, (tt, (tt, (l, tt))))) (hv.1 ∙ sym hw.1))
 
-pub mask-to-runs-one : OneAnswer 3 to-runs-kinds.ps to-runs-kinds.r to-runs.Pre to-runs.Post
-mask-to-runs-one κs a p x y v w hv hw = (hv.0 ∙ sym hw.0, ap (λ (l : List ℕ). (tt, (tt, (tt, (l, tt))))) (hv.1 ∙ sym hw.1))
+pub mask_to_runs_one : OneAnswer 3 to-runs-kinds.ps to-runs-kinds.r to-runs.Pre to-runs.Post
+mask_to_runs_one κs a p x y v w hv hw = (hv.0 ∙ sym hw.0, ap (λ (l : List ℕ). (tt, (tt, (tt, (l, tt))))) (hv.1 ∙ sym hw.1))
 
-pub bitops-and-one : OneAnswer 5 and-kinds.ps and-kinds.r and.Pre and.Post
-bitops-and-one κs a p x y v w hv hw = (hv.0 ∙ sym hw.0, ap (λ (l : List ℕ). (tt, (tt, (tt, (tt, (tt, (tt, (l, tt)))))))) (hv.1 ∙ sym hw.1))
+pub bitops_and_one : OneAnswer 5 and-kinds.ps and-kinds.r and.Pre and.Post
+bitops_and_one κs a p x y v w hv hw = (hv.0 ∙ sym hw.0, ap (λ (l : List ℕ). (tt, (tt, (tt, (tt, (tt, (tt, (l, tt)))))))) (hv.1 ∙ sym hw.1))
 
-pub bitops-or-one : OneAnswer 5 or-kinds.ps or-kinds.r or.Pre or.Post
-bitops-or-one κs a p x y v w hv hw = (hv.0 ∙ sym hw.0, ap (λ (l : List ℕ). (tt, (tt, (tt, (tt, (tt, (tt, (l, tt)))))))) (hv.1 ∙ sym hw.1))
+pub bitops_or_one : OneAnswer 5 or-kinds.ps or-kinds.r or.Pre or.Post
+bitops_or_one κs a p x y v w hv hw = (hv.0 ∙ sym hw.0, ap (λ (l : List ℕ). (tt, (tt, (tt, (tt, (tt, (tt, (l, tt)))))))) (hv.1 ∙ sym hw.1))
 
-pub bitops-and-not-one : OneAnswer 5 and-not-kinds.ps and-not-kinds.r and-not.Pre and-not.Post
-bitops-and-not-one κs a p x y v w hv hw = (hv.0 ∙ sym hw.0, ap (λ (l : List ℕ). (tt, (tt, (tt, (tt, (tt, (tt, (l, tt)))))))) (hv.1 ∙ sym hw.1))
+pub bitops_and_not_one : OneAnswer 5 and-not-kinds.ps and-not-kinds.r and-not.Pre and-not.Post
+bitops_and_not_one κs a p x y v w hv hw = (hv.0 ∙ sym hw.0, ap (λ (l : List ℕ). (tt, (tt, (tt, (tt, (tt, (tt, (l, tt)))))))) (hv.1 ∙ sym hw.1))
 
-pub bitops-not-one : OneAnswer 3 not-kinds.ps not-kinds.r not-one.Pre not-one.Post
-bitops-not-one κs a p x y v w hv hw = (hv.0 ∙ sym hw.0, ap (λ (l : List ℕ). (tt, (tt, (tt, (l, tt))))) (hv.1 ∙ sym hw.1))
+pub bitops_not_one : OneAnswer 3 not-kinds.ps not-kinds.r not-one.Pre not-one.Post
+bitops_not_one κs a p x y v w hv hw = (hv.0 ∙ sym hw.0, ap (λ (l : List ℕ). (tt, (tt, (tt, (l, tt))))) (hv.1 ∙ sym hw.1))
 
-pub intersect-by-rank-intersect-by-rank-one : OneAnswer 5 intersect-kinds.ps intersect-kinds.r intersect.Pre intersect.Post
-intersect-by-rank-intersect-by-rank-one κs a p x y v w hv hw = (hv.0 ∙ sym hw.0, ap (λ (l : List ℕ). (tt, (tt, (tt, (tt, (tt, (tt, (l, tt)))))))) (hv.1 ∙ sym hw.1))
+pub intersect_by_rank_intersect_by_rank_one : OneAnswer 5 intersect-kinds.ps intersect-kinds.r intersect.Pre intersect.Post
+intersect_by_rank_intersect_by_rank_one κs a p x y v w hv hw = (hv.0 ∙ sym hw.0, ap (λ (l : List ℕ). (tt, (tt, (tt, (tt, (tt, (tt, (l, tt)))))))) (hv.1 ∙ sym hw.1))
 
-pub composer-fresh-one : OneAnswer 0 fresh-kinds.ps fresh-kinds.r fresh.Pre fresh.Post
-composer-fresh-one κs a p x y v w hv hw = (hv ∙ sym hw, refl)
+pub composer_fresh_one : OneAnswer 0 fresh-kinds.ps fresh-kinds.r fresh.Pre fresh.Post
+composer_fresh_one κs a p x y v w hv hw = (hv ∙ sym hw, refl)
 
-pub composer-feed-one : OneAnswer 5 feed-kinds.ps feed-kinds.r feed.Pre feed.Post
-composer-feed-one κs a p x y v w hv hw = (hv.0 ∙ sym hw.0, ap (λ (l : List ℕ). (tt, (tt, (tt, (tt, (tt, (tt, (tt, (l, tt))))))))) (hv.1 ∙ sym hw.1))
+pub composer_feed_one : OneAnswer 5 feed-kinds.ps feed-kinds.r feed.Pre feed.Post
+composer_feed_one κs a p x y v w hv hw = (hv.0 ∙ sym hw.0, ap (λ (l : List ℕ). (tt, (tt, (tt, (tt, (tt, (tt, (tt, (l, tt))))))))) (hv.1 ∙ sym hw.1))
 
-pub text-answer-one : OneAnswer 2 answer-kinds.ps answer-kinds.r answer.Pre answer.Post
-text-answer-one κs a p x y v w hv hw = (hv.0 ∙ sym hw.0, ap (λ (l : List ℕ). (tt, (l, tt))) (hv.1 ∙ sym hw.1))
+pub text_answer_one : OneAnswer 2 answer-kinds.ps answer-kinds.r answer.Pre answer.Post
+text_answer_one κs a p x y v w hv hw = (hv.0 ∙ sym hw.0, ap (λ (l : List ℕ). (tt, (l, tt))) (hv.1 ∙ sym hw.1))
 
-pub probe-probe-deposit-one : OneAnswer 2 probe-deposit-kinds.ps probe-deposit-kinds.r probe-deposit.Pre probe-deposit.Post
-probe-probe-deposit-one κs a p x y v w hv hw = (refl, ap (λ (m : AnswerCells). (tt, (tt, (tt, (tt, (m.ans, (m.den, tt))))))) (hv ∙ sym hw))
+pub probe_probe_deposit_one : OneAnswer 2 probe-deposit-kinds.ps probe-deposit-kinds.r probe-deposit.Pre probe-deposit.Post
+probe_probe_deposit_one κs a p x y v w hv hw = (refl, ap (λ (m : AnswerCells). (tt, (tt, (tt, (tt, (m.ans, (m.den, tt))))))) (hv ∙ sym hw))
 
-pub probe-probe-select-one : OneAnswer 2 probe-select-kinds.ps probe-select-kinds.r probe-select.Pre probe-select.Post
-probe-probe-select-one κs a p x y v w hv hw = (refl, ap (λ (m : AnswerCells). (tt, (tt, (m.ans, (m.den, tt))))) (hv ∙ sym hw))
+pub probe_probe_select_one : OneAnswer 2 probe-select-kinds.ps probe-select-kinds.r probe-select.Pre probe-select.Post
+probe_probe_select_one κs a p x y v w hv hw = (refl, ap (λ (m : AnswerCells). (tt, (tt, (m.ans, (m.den, tt))))) (hv ∙ sym hw))
 
-pub probe-probe-rank-read-one : OneAnswer 3 probe-rank-read-kinds.ps probe-rank-read-kinds.r probe-rank-read.Pre probe-rank-read.Post
-probe-probe-rank-read-one κs a p x y v w hv hw = (refl, ap (λ (m : AnswerCells). (tt, (tt, (tt, (m.ans, (m.den, tt)))))) (hv ∙ sym hw))
+pub probe_probe_rank_read_one : OneAnswer 3 probe-rank-read-kinds.ps probe-rank-read-kinds.r probe-rank-read.Pre probe-rank-read.Post
+probe_probe_rank_read_one κs a p x y v w hv hw = (refl, ap (λ (m : AnswerCells). (tt, (tt, (tt, (m.ans, (m.den, tt)))))) (hv ∙ sym hw))
 
-pub probe-probe-to-words-one : OneAnswer 5 probe-to-words-kinds.ps probe-to-words-kinds.r probe-to-words.Pre probe-to-words.Post
-probe-probe-to-words-one κs a p x y v w hv hw = (refl, ap (λ (m : Memory). (tt, (tt, (tt, (tt, (tt, (tt, (m.out, (m.answer.ans, (m.answer.den, tt)))))))))) (hv ∙ sym hw))
+pub probe_probe_to_words_one : OneAnswer 5 probe-to-words-kinds.ps probe-to-words-kinds.r probe-to-words.Pre probe-to-words.Post
+probe_probe_to_words_one κs a p x y v w hv hw = (refl, ap (λ (m : Memory). (tt, (tt, (tt, (tt, (tt, (tt, (m.out, (m.answer.ans, (m.answer.den, tt)))))))))) (hv ∙ sym hw))
 
-pub probe-probe-to-list-one : OneAnswer 5 probe-to-list-kinds.ps probe-to-list-kinds.r probe-to-list.Pre probe-to-list.Post
-probe-probe-to-list-one κs a p x y v w hv hw = (refl, ap (λ (m : Memory). (tt, (tt, (tt, (tt, (tt, (tt, (m.out, (m.answer.ans, (m.answer.den, tt)))))))))) (hv ∙ sym hw))
+pub probe_probe_to_list_one : OneAnswer 5 probe-to-list-kinds.ps probe-to-list-kinds.r probe-to-list.Pre probe-to-list.Post
+probe_probe_to_list_one κs a p x y v w hv hw = (refl, ap (λ (m : Memory). (tt, (tt, (tt, (tt, (tt, (tt, (m.out, (m.answer.ans, (m.answer.den, tt)))))))))) (hv ∙ sym hw))
 
-pub probe-probe-to-runs-one : OneAnswer 5 probe-to-runs-kinds.ps probe-to-runs-kinds.r probe-to-runs.Pre probe-to-runs.Post
-probe-probe-to-runs-one κs a p x y v w hv hw =
+pub probe_probe_to_runs_one : OneAnswer 5 probe-to-runs-kinds.ps probe-to-runs-kinds.r probe-to-runs.Pre probe-to-runs.Post
+probe_probe_to_runs_one κs a p x y v w hv hw =
     (refl, ap (λ (m : Memory). (tt, (tt, (tt, (tt, (tt, (tt, (m.out, (m.answer.ans, (m.answer.den, tt)))))))))) (hv ∙ sym hw))
 
-pub probe-probe-compose-one : OneAnswer 7 probe-compose-kinds.ps probe-compose-kinds.r probe-compose.Pre probe-compose.Post
-probe-probe-compose-one κs a p x y v w hv hw = (refl, ap (λ (m : Memory). (tt, (tt, (tt, (tt, (tt, (tt, (tt, (tt, (tt, (tt, (tt, (tt, (m.out, (m.answer.ans, (m.answer.den, tt)))))))))))))))) (hv ∙ sym hw))
+pub probe_probe_compose_one : OneAnswer 7 probe-compose-kinds.ps probe-compose-kinds.r probe-compose.Pre probe-compose.Post
+probe_probe_compose_one κs a p x y v w hv hw = (refl, ap (λ (m : Memory). (tt, (tt, (tt, (tt, (tt, (tt, (tt, (tt, (tt, (tt, (tt, (tt, (m.out, (m.answer.ans, (m.answer.den, tt)))))))))))))))) (hv ∙ sym hw))
 
-pub probe-probe-set-one : OneAnswer 7 probe-set-kinds.ps probe-set-kinds.r probe-set.Pre probe-set.Post
-probe-probe-set-one κs a p x y v w hv hw = (refl, ap (λ (m : Memory). (tt, (tt, (tt, (tt, (tt, (tt, (tt, (tt, (tt, (tt, (tt, (tt, (tt, (m.out, (m.answer.ans, (m.answer.den, tt))))))))))))))))) (hv ∙ sym hw))
+pub probe_probe_set_one : OneAnswer 7 probe-set-kinds.ps probe-set-kinds.r probe-set.Pre probe-set.Post
+probe_probe_set_one κs a p x y v w hv hw = (refl, ap (λ (m : Memory). (tt, (tt, (tt, (tt, (tt, (tt, (tt, (tt, (tt, (tt, (tt, (tt, (tt, (m.out, (m.answer.ans, (m.answer.den, tt))))))))))))))))) (hv ∙ sym hw))
 
-pub probe-probe-feed-one : OneAnswer 7 probe-feed-kinds.ps probe-feed-kinds.r probe-feed.Pre probe-feed.Post
-probe-probe-feed-one κs a p x y v w hv hw = (refl, ap (λ (m : Memory). (tt, (tt, (tt, (tt, (tt, (tt, (tt, (tt, (tt, (tt, (tt, (tt, (tt, (tt, (tt, (m.out, (m.answer.ans, (m.answer.den, tt))))))))))))))))))) (hv ∙ sym hw))
+pub probe_probe_feed_one : OneAnswer 7 probe-feed-kinds.ps probe-feed-kinds.r probe-feed.Pre probe-feed.Post
+probe_probe_feed_one κs a p x y v w hv hw = (refl, ap (λ (m : Memory). (tt, (tt, (tt, (tt, (tt, (tt, (tt, (tt, (tt, (tt, (tt, (tt, (tt, (tt, (tt, (m.out, (m.answer.ans, (m.answer.den, tt))))))))))))))))))) (hv ∙ sym hw))
 
-pub probe-probe-recover-one : OneAnswer 7 probe-recover-kinds.ps probe-recover-kinds.r probe-recover.Pre probe-recover.Post
-probe-probe-recover-one κs a p x y v w hv hw =
+pub probe_probe_recover_one : OneAnswer 7 probe-recover-kinds.ps probe-recover-kinds.r probe-recover.Pre probe-recover.Post
+probe_probe_recover_one κs a p x y v w hv hw =
     (refl, ap (λ (m : Memory). (tt, (tt, (tt, (tt, (tt, (tt, (tt, (tt, (tt, (tt, (tt, (tt, (m.out, (m.answer.ans, (m.answer.den, tt)))))))))))))))) (hv ∙ sym hw))
 
-pub probe-probe-recover-feed-one : OneAnswer 7 probe-recover-feed-kinds.ps probe-recover-feed-kinds.r probe-recover-feed.Pre probe-recover-feed.Post
-probe-probe-recover-feed-one κs a p x y v w hv hw =
+pub probe_probe_recover_feed_one : OneAnswer 7 probe-recover-feed-kinds.ps probe-recover-feed-kinds.r probe-recover-feed.Pre probe-recover-feed.Post
+probe_probe_recover_feed_one κs a p x y v w hv hw =
     (refl, ap (λ (m : Memory). (tt, (tt, (tt, (tt, (tt, (tt, (tt, (tt, (tt, (tt, (tt, (tt, (tt, (tt, (tt, (m.out, (m.answer.ans, (m.answer.den, tt))))))))))))))))))) (hv ∙ sym hw))
 
-pub probe-probe-program-one : OneAnswer 4 probe-program-kinds.ps probe-program-kinds.r probe-program.Pre probe-program.Post
-probe-probe-program-one κs a p x y v w hv hw = (refl, ap (λ (m : Memory). (tt, (m.out, (m.answer.ans, (m.answer.den, tt))))) (hv ∙ sym hw))
+pub probe_probe_program_one : OneAnswer 4 probe-program-kinds.ps probe-program-kinds.r probe-program.Pre probe-program.Post
+probe_probe_program_one κs a p x y v w hv hw = (refl, ap (λ (m : Memory). (tt, (m.out, (m.answer.ans, (m.answer.den, tt))))) (hv ∙ sym hw))

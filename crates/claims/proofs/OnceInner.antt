@@ -15,7 +15,7 @@ use Rattle.books.proofs.inner.self_bits.Reads as books-self-bits
 use Rattle.books.proofs.inner.rank_bits.Kinds as books-rank-bits-kinds
 use Rattle.books.proofs.inner.rank_bits.Reads as books-rank-bits
 use Rattle.books.specs.declared.inner.Gathered.{Gathered}
-use Rattle.books.proofs.GatherLaws.{parted-once}
+use Rattle.books.proofs.GatherLaws.{parted_once}
 use Rattle.books.proofs.inner.rank_bits_for_chunk.Kinds as books-gather-kinds
 use Rattle.books.proofs.inner.rank_bits_for_chunk.Reads as books-gather
 use Rattle.books.proofs.inner.into_window.Kinds as books-into-window-kinds
@@ -209,314 +209,314 @@ use Rattle.turns.proofs.inner.count_list_turns.Reads as count-list-turns
 use Rattle.turns.proofs.inner.write_list_turns.Kinds as write-list-turns-kinds
 use Rattle.turns.proofs.inner.write_list_turns.Reads as write-list-turns
 
-pub books-self-chunk-one : OneAnswer 1 books-self-chunk-kinds.ps books-self-chunk-kinds.r books-self-chunk.Pre books-self-chunk.Post
-books-self-chunk-one κs a p x y v w hv hw = (hv ∙ sym hw, refl)
+pub books_self_chunk_one : OneAnswer 1 books-self-chunk-kinds.ps books-self-chunk-kinds.r books-self-chunk.Pre books-self-chunk.Post
+books_self_chunk_one κs a p x y v w hv hw = (hv ∙ sym hw, refl)
 
-pub books-rank-chunk-one : OneAnswer 1 books-rank-chunk-kinds.ps books-rank-chunk-kinds.r books-rank-chunk.Pre books-rank-chunk.Post
-books-rank-chunk-one κs a p x y v w hv hw = (hv ∙ sym hw, refl)
+pub books_rank_chunk_one : OneAnswer 1 books-rank-chunk-kinds.ps books-rank-chunk-kinds.r books-rank-chunk.Pre books-rank-chunk.Post
+books_rank_chunk_one κs a p x y v w hv hw = (hv ∙ sym hw, refl)
 
-pub books-self-bits-one : OneAnswer 1 books-self-bits-kinds.ps books-self-bits-kinds.r books-self-bits.Pre books-self-bits.Post
-books-self-bits-one κs a p x y v w hv hw = (hv ∙ sym hw, refl)
+pub books_self_bits_one : OneAnswer 1 books-self-bits-kinds.ps books-self-bits-kinds.r books-self-bits.Pre books-self-bits.Post
+books_self_bits_one κs a p x y v w hv hw = (hv ∙ sym hw, refl)
 
-pub books-rank-bits-one : OneAnswer 1 books-rank-bits-kinds.ps books-rank-bits-kinds.r books-rank-bits.Pre books-rank-bits.Post
-books-rank-bits-one κs a p x y v w hv hw = (hv ∙ sym hw, refl)
+pub books_rank_bits_one : OneAnswer 1 books-rank-bits-kinds.ps books-rank-bits-kinds.r books-rank-bits.Pre books-rank-bits.Post
+books_rank_bits_one κs a p x y v w hv hw = (hv ∙ sym hw, refl)
 
-pub books-rank-bits-for-chunk-one : OneAnswer 1 books-gather-kinds.ps books-gather-kinds.r books-gather.Pre books-gather.Post
-books-rank-bits-for-chunk-one κs a p x y v w hv hw =
+pub books_rank_bits_for_chunk_one : OneAnswer 1 books-gather-kinds.ps books-gather-kinds.r books-gather.Pre books-gather.Post
+books_rank_bits_for_chunk_one κs a p x y v w hv hw =
     let make : ℕ → ℕ → Gathered = λ bits next. record { bits = bits; next = next } in
-    (ap₂ make (hv.is ∙ sym hw.is) (parted-once _ x.next y.next _ hv.parted hw.parted), refl)
+    (ap₂ make (hv.is ∙ sym hw.is) (parted_once _ x.next y.next _ hv.parted hw.parted), refl)
 
-pub books-into-window-one : OneAnswer 0 books-into-window-kinds.ps books-into-window-kinds.r books-into-window.Pre books-into-window.Post
-books-into-window-one κs a p x y v w hv hw = (hv ∙ sym hw, refl)
+pub books_into_window_one : OneAnswer 0 books-into-window-kinds.ps books-into-window-kinds.r books-into-window.Pre books-into-window.Post
+books_into_window_one κs a p x y v w hv hw = (hv ∙ sym hw, refl)
 
-pub books-run-bits-one : OneAnswer 1 books-run-bits-kinds.ps books-run-bits-kinds.r books-run-bits.Pre books-run-bits.Post
-books-run-bits-one κs a p x y v w hv hw =
-    let make : ℕ → ℕ → Gathered = λ bits next. record { bits = bits; next = next } in
-    (ap₂ make (hv.0 ∙ sym hw.0) (hv.2 ∙ sym hw.2), refl)
-
-pub books-run-bits-for-chunk-one : OneAnswer 1 books-run-bits-for-chunk-kinds.ps books-run-bits-for-chunk-kinds.r books-run-bits-for-chunk.Pre books-run-bits-for-chunk.Post
-books-run-bits-for-chunk-one κs a p x y v w hv hw =
+pub books_run_bits_one : OneAnswer 1 books-run-bits-kinds.ps books-run-bits-kinds.r books-run-bits.Pre books-run-bits.Post
+books_run_bits_one κs a p x y v w hv hw =
     let make : ℕ → ℕ → Gathered = λ bits next. record { bits = bits; next = next } in
     (ap₂ make (hv.0 ∙ sym hw.0) (hv.2 ∙ sym hw.2), refl)
 
-pub books-put-rows-one : OneAnswer 1 books-put-rows-kinds.ps books-put-rows-kinds.r books-put-rows.Pre books-put-rows.Post
-books-put-rows-one κs a p x y v w hv hw = (refl, ap (λ (l : List ℕ). (l, (tt, (tt, (tt, (tt, tt)))))) (hv ∙ sym hw))
+pub books_run_bits_for_chunk_one : OneAnswer 1 books-run-bits-for-chunk-kinds.ps books-run-bits-for-chunk-kinds.r books-run-bits-for-chunk.Pre books-run-bits-for-chunk.Post
+books_run_bits_for_chunk_one κs a p x y v w hv hw =
+    let make : ℕ → ℕ → Gathered = λ bits next. record { bits = bits; next = next } in
+    (ap₂ make (hv.0 ∙ sym hw.0) (hv.2 ∙ sym hw.2), refl)
 
-pub books-mark-row-one : OneAnswer 1 books-mark-row-kinds.ps books-mark-row-kinds.r books-mark-row.Pre books-mark-row.Post
-books-mark-row-one κs a p x y v w hv hw = (refl, ap (λ (l : List ℕ). (l, (tt, (tt, tt)))) (hv ∙ sym hw))
+pub books_put_rows_one : OneAnswer 1 books-put-rows-kinds.ps books-put-rows-kinds.r books-put-rows.Pre books-put-rows.Post
+books_put_rows_one κs a p x y v w hv hw = (refl, ap (λ (l : List ℕ). (l, (tt, (tt, (tt, (tt, tt)))))) (hv ∙ sym hw))
 
-pub host-boltamber-deposit-one : OneAnswer 0 host-boltamber-deposit-kinds.ps host-boltamber-deposit-kinds.r host-boltamber-deposit.Pre host-boltamber-deposit.Post
-host-boltamber-deposit-one κs a p x y v w hv hw = (hv ∙ sym hw, refl)
+pub books_mark_row_one : OneAnswer 1 books-mark-row-kinds.ps books-mark-row-kinds.r books-mark-row.Pre books-mark-row.Post
+books_mark_row_one κs a p x y v w hv hw = (refl, ap (λ (l : List ℕ). (l, (tt, (tt, tt)))) (hv ∙ sym hw))
 
-pub host-boltamber-select-one : OneAnswer 0 host-boltamber-select-kinds.ps host-boltamber-select-kinds.r host-boltamber-select.Pre host-boltamber-select.Post
-host-boltamber-select-one κs a p x y v w hv hw = (hv ∙ sym hw, refl)
+pub host_boltamber_deposit_one : OneAnswer 0 host-boltamber-deposit-kinds.ps host-boltamber-deposit-kinds.r host-boltamber-deposit.Pre host-boltamber-deposit.Post
+host_boltamber_deposit_one κs a p x y v w hv hw = (hv ∙ sym hw, refl)
 
-pub routes-few-one : OneAnswer 0 routes-few-kinds.ps routes-few-kinds.r routes-few.Pre routes-few.Post
-routes-few-one κs a p x y v w hv hw = (hv ∙ sym hw, refl)
+pub host_boltamber_select_one : OneAnswer 0 host-boltamber-select-kinds.ps host-boltamber-select-kinds.r host-boltamber-select.Pre host-boltamber-select.Post
+host_boltamber_select_one κs a p x y v w hv hw = (hv ∙ sym hw, refl)
 
-pub by-route-lay-by-route-one : OneAnswer 5 by-route-lay-by-route-kinds.ps by-route-lay-by-route-kinds.r by-route-lay-by-route.Pre by-route-lay-by-route.Post
-by-route-lay-by-route-one κs a p x y v w hv hw = (refl, ap (λ (l : List ℕ). (tt, (tt, (tt, (tt, (tt, (tt, (tt, (tt, (l, tt)))))))))) (hv ∙ sym hw))
+pub routes_few_one : OneAnswer 0 routes-few-kinds.ps routes-few-kinds.r routes-few.Pre routes-few.Post
+routes_few_one κs a p x y v w hv hw = (hv ∙ sym hw, refl)
 
-pub intersect-by-rank-lay-composition-one : OneAnswer 5 intersect-by-rank-lay-composition-kinds.ps intersect-by-rank-lay-composition-kinds.r intersect-by-rank-lay-composition.Pre intersect-by-rank-lay-composition.Post
-intersect-by-rank-lay-composition-one κs a p x y v w hv hw = (hv.0 ∙ sym hw.0, ap (λ (l : List ℕ). (tt, (tt, (tt, (tt, (tt, (tt, (tt, (tt, (l, tt)))))))))) (hv.1 ∙ sym hw.1))
+pub by_route_lay_by_route_one : OneAnswer 5 by-route-lay-by-route-kinds.ps by-route-lay-by-route-kinds.r by-route-lay-by-route.Pre by-route-lay-by-route.Post
+by_route_lay_by_route_one κs a p x y v w hv hw = (refl, ap (λ (l : List ℕ). (tt, (tt, (tt, (tt, (tt, (tt, (tt, (tt, (l, tt)))))))))) (hv ∙ sym hw))
 
-pub routes-document-factors-one : OneAnswer 0 routes-document-factors-kinds.ps routes-document-factors-kinds.r routes-document-factors.Pre routes-document-factors.Post
-routes-document-factors-one κs a p x y v w hv hw = (hv ∙ sym hw, refl)
+pub intersect_by_rank_lay_composition_one : OneAnswer 5 intersect-by-rank-lay-composition-kinds.ps intersect-by-rank-lay-composition-kinds.r intersect-by-rank-lay-composition.Pre intersect-by-rank-lay-composition.Post
+intersect_by_rank_lay_composition_one κs a p x y v w hv hw = (hv.0 ∙ sym hw.0, ap (λ (l : List ℕ). (tt, (tt, (tt, (tt, (tt, (tt, (tt, (tt, (l, tt)))))))))) (hv.1 ∙ sym hw.1))
 
-pub intersect-by-rank-judge-both-one : OneAnswer 4 intersect-by-rank-judge-both-kinds.ps intersect-by-rank-judge-both-kinds.r intersect-by-rank-judge-both.Pre intersect-by-rank-judge-both.Post
-intersect-by-rank-judge-both-one κs a p x y v w hv hw = (hv ∙ sym hw, refl)
+pub routes_document_factors_one : OneAnswer 0 routes-document-factors-kinds.ps routes-document-factors-kinds.r routes-document-factors.Pre routes-document-factors.Post
+routes_document_factors_one κs a p x y v w hv hw = (hv ∙ sym hw, refl)
 
-pub intersect-by-rank-compose-with-one : OneAnswer 5 intersect-by-rank-compose-with-kinds.ps intersect-by-rank-compose-with-kinds.r intersect-by-rank-compose-with.Pre intersect-by-rank-compose-with.Post
-intersect-by-rank-compose-with-one κs a p x y v w hv hw = (hv.0 ∙ sym hw.0, ap (λ (l : List ℕ). (tt, (tt, (tt, (tt, (tt, (tt, (tt, (l, tt))))))))) (hv.1 ∙ sym hw.1))
+pub intersect_by_rank_judge_both_one : OneAnswer 4 intersect-by-rank-judge-both-kinds.ps intersect-by-rank-judge-both-kinds.r intersect-by-rank-judge-both.Pre intersect-by-rank-judge-both.Post
+intersect_by_rank_judge_both_one κs a p x y v w hv hw = (hv ∙ sym hw, refl)
 
-pub marks-lay-entry-at-rank-one : OneAnswer 3 marks-lay-entry-at-rank-kinds.ps marks-lay-entry-at-rank-kinds.r marks-lay-entry-at-rank.Pre marks-lay-entry-at-rank.Post
-marks-lay-entry-at-rank-one κs a p x y v w hv hw = (refl, ap (λ (l : List ℕ). (tt, (tt, (tt, (tt, (tt, (l, tt))))))) (hv ∙ sym hw))
+pub intersect_by_rank_compose_with_one : OneAnswer 5 intersect-by-rank-compose-with-kinds.ps intersect-by-rank-compose-with-kinds.r intersect-by-rank-compose-with.Pre intersect-by-rank-compose-with.Post
+intersect_by_rank_compose_with_one κs a p x y v w hv hw = (hv.0 ∙ sym hw.0, ap (λ (l : List ℕ). (tt, (tt, (tt, (tt, (tt, (tt, (tt, (l, tt))))))))) (hv.1 ∙ sym hw.1))
 
-pub marks-lay-entry-if-set-one : OneAnswer 3 marks-lay-entry-if-set-kinds.ps marks-lay-entry-if-set-kinds.r marks-lay-entry-if-set.Pre marks-lay-entry-if-set.Post
-marks-lay-entry-if-set-one κs a p x y v w hv hw = (refl, ap (λ (l : List ℕ). (tt, (tt, (tt, (tt, (tt, (tt, (l, tt)))))))) (hv ∙ sym hw))
+pub marks_lay_entry_at_rank_one : OneAnswer 3 marks-lay-entry-at-rank-kinds.ps marks-lay-entry-at-rank-kinds.r marks-lay-entry-at-rank.Pre marks-lay-entry-at-rank.Post
+marks_lay_entry_at_rank_one κs a p x y v w hv hw = (refl, ap (λ (l : List ℕ). (tt, (tt, (tt, (tt, (tt, (l, tt))))))) (hv ∙ sym hw))
 
-pub marks-lay-driven-by-list-one : OneAnswer 3 marks-lay-driven-by-list-kinds.ps marks-lay-driven-by-list-kinds.r marks-lay-driven-by-list.Pre marks-lay-driven-by-list.Post
-marks-lay-driven-by-list-one κs a p x y v w hv hw = (refl, ap (λ (l : List ℕ). (tt, (tt, (tt, (tt, (tt, (l, tt))))))) (hv ∙ sym hw))
+pub marks_lay_entry_if_set_one : OneAnswer 3 marks-lay-entry-if-set-kinds.ps marks-lay-entry-if-set-kinds.r marks-lay-entry-if-set.Pre marks-lay-entry-if-set.Post
+marks_lay_entry_if_set_one κs a p x y v w hv hw = (refl, ap (λ (l : List ℕ). (tt, (tt, (tt, (tt, (tt, (tt, (l, tt)))))))) (hv ∙ sym hw))
 
-pub marks-lay-driven-by-words-one : OneAnswer 3 marks-lay-driven-by-words-kinds.ps marks-lay-driven-by-words-kinds.r marks-lay-driven-by-words.Pre marks-lay-driven-by-words.Post
-marks-lay-driven-by-words-one κs a p x y v w hv hw = (refl, ap (λ (l : List ℕ). (tt, (tt, (tt, (tt, (tt, (tt, (tt, (l, tt))))))))) (hv ∙ sym hw))
+pub marks_lay_driven_by_list_one : OneAnswer 3 marks-lay-driven-by-list-kinds.ps marks-lay-driven-by-list-kinds.r marks-lay-driven-by-list.Pre marks-lay-driven-by-list.Post
+marks_lay_driven_by_list_one κs a p x y v w hv hw = (refl, ap (λ (l : List ℕ). (tt, (tt, (tt, (tt, (tt, (l, tt))))))) (hv ∙ sym hw))
 
-pub deposits-intersect-bit-buffer-by-rank-indices-one : OneAnswer 3 deposits-intersect-bit-buffer-by-rank-indices-kinds.ps deposits-intersect-bit-buffer-by-rank-indices-kinds.r deposits-intersect-bit-buffer-by-rank-indices.Pre deposits-intersect-bit-buffer-by-rank-indices.Post
-deposits-intersect-bit-buffer-by-rank-indices-one κs a p x y v w hv hw = (refl, ap (λ (l : List ℕ). (tt, (tt, (tt, (tt, (tt, (tt, (l, tt)))))))) (hv ∙ sym hw))
+pub marks_lay_driven_by_words_one : OneAnswer 3 marks-lay-driven-by-words-kinds.ps marks-lay-driven-by-words-kinds.r marks-lay-driven-by-words.Pre marks-lay-driven-by-words.Post
+marks_lay_driven_by_words_one κs a p x y v w hv hw = (refl, ap (λ (l : List ℕ). (tt, (tt, (tt, (tt, (tt, (tt, (tt, (l, tt))))))))) (hv ∙ sym hw))
 
-pub deposits-intersect-bit-buffers-one : OneAnswer 3 deposits-intersect-bit-buffers-kinds.ps deposits-intersect-bit-buffers-kinds.r deposits-intersect-bit-buffers.Pre deposits-intersect-bit-buffers.Post
-deposits-intersect-bit-buffers-one κs a p x y v w hv hw = (refl, ap (λ (l : List ℕ). (tt, (tt, (tt, (tt, (tt, (tt, (tt, (l, tt))))))))) (hv ∙ sym hw))
+pub deposits_intersect_bit_buffer_by_rank_indices_one : OneAnswer 3 deposits-intersect-bit-buffer-by-rank-indices-kinds.ps deposits-intersect-bit-buffer-by-rank-indices-kinds.r deposits-intersect-bit-buffer-by-rank-indices.Pre deposits-intersect-bit-buffer-by-rank-indices.Post
+deposits_intersect_bit_buffer_by_rank_indices_one κs a p x y v w hv hw = (refl, ap (λ (l : List ℕ). (tt, (tt, (tt, (tt, (tt, (tt, (l, tt)))))))) (hv ∙ sym hw))
 
-pub lent-word-at-one : OneAnswer 1 lent-word-at-kinds.ps lent-word-at-kinds.r lent-word-at.Pre lent-word-at.Post
-lent-word-at-one κs a p x y v w hv hw = (hv ∙ sym hw, refl)
+pub deposits_intersect_bit_buffers_one : OneAnswer 3 deposits-intersect-bit-buffers-kinds.ps deposits-intersect-bit-buffers-kinds.r deposits-intersect-bit-buffers.Pre deposits-intersect-bit-buffers.Post
+deposits_intersect_bit_buffers_one κs a p x y v w hv hw = (refl, ap (λ (l : List ℕ). (tt, (tt, (tt, (tt, (tt, (tt, (tt, (l, tt))))))))) (hv ∙ sym hw))
 
-pub lent-joined-one : OneAnswer 0 lent-joined-kinds.ps lent-joined-kinds.r lent-joined.Pre lent-joined.Post
-lent-joined-one κs a p x y v w hv hw = (hv ∙ sym hw, refl)
+pub lent_word_at_one : OneAnswer 1 lent-word-at-kinds.ps lent-word-at-kinds.r lent-word-at.Pre lent-word-at.Post
+lent_word_at_one κs a p x y v w hv hw = (hv ∙ sym hw, refl)
 
-pub lent-read-one : OneAnswer 1 lent-read-kinds.ps lent-read-kinds.r lent-read.Pre lent-read.Post
-lent-read-one κs a p x y v w hv hw = (hv ∙ sym hw, refl)
+pub lent_joined_one : OneAnswer 0 lent-joined-kinds.ps lent-joined-kinds.r lent-joined.Pre lent-joined.Post
+lent_joined_one κs a p x y v w hv hw = (hv ∙ sym hw, refl)
 
-pub lent-whole-word-one : OneAnswer 1 lent-whole-word-kinds.ps lent-whole-word-kinds.r lent-whole-word.Pre lent-whole-word.Post
-lent-whole-word-one κs a p x y v w hv hw = (hv ∙ sym hw, refl)
+pub lent_read_one : OneAnswer 1 lent-read-kinds.ps lent-read-kinds.r lent-read.Pre lent-read.Post
+lent_read_one κs a p x y v w hv hw = (hv ∙ sym hw, refl)
 
-pub lent-ones-one : OneAnswer 0 lent-ones-kinds.ps lent-ones-kinds.r lent-ones.Pre lent-ones.Post
-lent-ones-one κs a p x y v w hv hw = (hv ∙ sym hw, refl)
+pub lent_whole_word_one : OneAnswer 1 lent-whole-word-kinds.ps lent-whole-word-kinds.r lent-whole-word.Pre lent-whole-word.Post
+lent_whole_word_one κs a p x y v w hv hw = (hv ∙ sym hw, refl)
 
-pub lent-chunk-one : OneAnswer 1 lent-chunk-kinds.ps lent-chunk-kinds.r lent-chunk.Pre lent-chunk.Post
-lent-chunk-one κs a p x y v w hv hw = (hv ∙ sym hw, refl)
+pub lent_ones_one : OneAnswer 0 lent-ones-kinds.ps lent-ones-kinds.r lent-ones.Pre lent-ones.Post
+lent_ones_one κs a p x y v w hv hw = (hv ∙ sym hw, refl)
 
-pub lent-chunk-len-one : OneAnswer 0 lent-chunk-len-kinds.ps lent-chunk-len-kinds.r lent-chunk-len.Pre lent-chunk-len.Post
-lent-chunk-len-one κs a p x y v w hv hw = (hv ∙ sym hw, refl)
+pub lent_chunk_one : OneAnswer 1 lent-chunk-kinds.ps lent-chunk-kinds.r lent-chunk.Pre lent-chunk.Post
+lent_chunk_one κs a p x y v w hv hw = (hv ∙ sym hw, refl)
 
-pub lent-has-count-one : OneAnswer 1 lent-has-count-kinds.ps lent-has-count-kinds.r lent-has-count.Pre lent-has-count.Post
-lent-has-count-one κs a p x y v w hv hw = (hv ∙ sym hw, refl)
+pub lent_chunk_len_one : OneAnswer 0 lent-chunk-len-kinds.ps lent-chunk-len-kinds.r lent-chunk-len.Pre lent-chunk-len.Post
+lent_chunk_len_one κs a p x y v w hv hw = (hv ∙ sym hw, refl)
 
-pub lent-count-view-one : OneAnswer 1 lent-count-view-kinds.ps lent-count-view-kinds.r lent-count-view.Pre lent-count-view.Post
-lent-count-view-one κs a p x y v w hv hw = (hv ∙ sym hw, refl)
+pub lent_has_count_one : OneAnswer 1 lent-has-count-kinds.ps lent-has-count-kinds.r lent-has-count.Pre lent-has-count.Post
+lent_has_count_one κs a p x y v w hv hw = (hv ∙ sym hw, refl)
 
-pub laid-put-one : OneAnswer 1 laid-put-kinds.ps laid-put-kinds.r laid-put.Pre laid-put.Post
-laid-put-one κs a p x y v w hv hw = (refl, ap (λ (l : List ℕ). (l, (tt, (tt, (tt, tt))))) (hv ∙ sym hw))
+pub lent_count_view_one : OneAnswer 1 lent-count-view-kinds.ps lent-count-view-kinds.r lent-count-view.Pre lent-count-view.Post
+lent_count_view_one κs a p x y v w hv hw = (hv ∙ sym hw, refl)
 
-pub laid-clear-one : OneAnswer 1 laid-clear-kinds.ps laid-clear-kinds.r laid-clear.Pre laid-clear.Post
-laid-clear-one κs a p x y v w hv hw = (refl, ap (λ (l : List ℕ). (l, (tt, (tt, tt)))) (hv ∙ sym hw))
+pub laid_put_one : OneAnswer 1 laid-put-kinds.ps laid-put-kinds.r laid-put.Pre laid-put.Post
+laid_put_one κs a p x y v w hv hw = (refl, ap (λ (l : List ℕ). (l, (tt, (tt, (tt, tt))))) (hv ∙ sym hw))
 
-pub laid-set-bit-one : OneAnswer 1 laid-set-bit-kinds.ps laid-set-bit-kinds.r laid-set-bit.Pre laid-set-bit.Post
-laid-set-bit-one κs a p x y v w hv hw = (refl, ap (λ (l : List ℕ). (l, (tt, tt))) (hv ∙ sym hw))
+pub laid_clear_one : OneAnswer 1 laid-clear-kinds.ps laid-clear-kinds.r laid-clear.Pre laid-clear.Post
+laid_clear_one κs a p x y v w hv hw = (refl, ap (λ (l : List ℕ). (l, (tt, (tt, tt)))) (hv ∙ sym hw))
 
-pub lent-words-for-one : OneAnswer 0 lent-words-for-kinds.ps lent-words-for-kinds.r lent-words-for.Pre lent-words-for.Post
-lent-words-for-one κs a p x y v w hv hw = (hv ∙ sym hw, refl)
+pub laid_set_bit_one : OneAnswer 1 laid-set-bit-kinds.ps laid-set-bit-kinds.r laid-set-bit.Pre laid-set-bit.Post
+laid_set_bit_one κs a p x y v w hv hw = (refl, ap (λ (l : List ℕ). (l, (tt, tt))) (hv ∙ sym hw))
 
-pub laid-clear-last-one : OneAnswer 1 laid-clear-last-kinds.ps laid-clear-last-kinds.r laid-clear-last.Pre laid-clear-last.Post
-laid-clear-last-one κs a p x y v w hv hw = (refl, ap (λ (l : List ℕ). (l, (tt, tt))) (hv ∙ sym hw))
+pub lent_words_for_one : OneAnswer 0 lent-words-for-kinds.ps lent-words-for-kinds.r lent-words-for.Pre lent-words-for.Post
+lent_words_for_one κs a p x y v w hv hw = (hv ∙ sym hw, refl)
 
-pub operand-check-one : OneAnswer 2 operand-check-kinds.ps operand-check-kinds.r operand-check.Pre operand-check.Post
-operand-check-one κs a p x y v w hv hw = (hv ∙ sym hw, refl)
+pub laid_clear_last_one : OneAnswer 1 laid-clear-last-kinds.ps laid-clear-last-kinds.r laid-clear-last.Pre laid-clear-last.Post
+laid_clear_last_one κs a p x y v w hv hw = (refl, ap (λ (l : List ℕ). (l, (tt, tt))) (hv ∙ sym hw))
 
-pub operand-check-set-one : OneAnswer 2 operand-check-set-kinds.ps operand-check-set-kinds.r operand-check-set.Pre operand-check-set.Post
-operand-check-set-one κs a p x y v w hv hw = (hv ∙ sym hw, refl)
+pub operand_check_one : OneAnswer 2 operand-check-kinds.ps operand-check-kinds.r operand-check.Pre operand-check.Post
+operand_check_one κs a p x y v w hv hw = (hv ∙ sym hw, refl)
 
-pub operand-length-of-one : OneAnswer 0 operand-length-of-kinds.ps operand-length-of-kinds.r operand-length-of.Pre operand-length-of.Post
-operand-length-of-one κs a p x y v w hv hw = (hv ∙ sym hw, refl)
+pub operand_check_set_one : OneAnswer 2 operand-check-set-kinds.ps operand-check-set-kinds.r operand-check-set.Pre operand-check-set.Post
+operand_check_set_one κs a p x y v w hv hw = (hv ∙ sym hw, refl)
 
-pub operand-start-of-one : OneAnswer 0 operand-start-of-kinds.ps operand-start-of-kinds.r operand-start-of.Pre operand-start-of.Post
-operand-start-of-one κs a p x y v w hv hw = (hv ∙ sym hw, refl)
+pub operand_length_of_one : OneAnswer 0 operand-length-of-kinds.ps operand-length-of-kinds.r operand-length-of.Pre operand-length-of.Post
+operand_length_of_one κs a p x y v w hv hw = (hv ∙ sym hw, refl)
 
-pub operand-is-empty-one : OneAnswer 0 operand-is-empty-kinds.ps operand-is-empty-kinds.r operand-is-empty.Pre operand-is-empty.Post
-operand-is-empty-one κs a p x y v w hv hw = (hv ∙ sym hw, refl)
+pub operand_start_of_one : OneAnswer 0 operand-start-of-kinds.ps operand-start-of-kinds.r operand-start-of.Pre operand-start-of.Post
+operand_start_of_one κs a p x y v w hv hw = (hv ∙ sym hw, refl)
 
-pub operand-is-full-one : OneAnswer 0 operand-is-full-kinds.ps operand-is-full-kinds.r operand-is-full.Pre operand-is-full.Post
-operand-is-full-one κs a p x y v w hv hw = (hv ∙ sym hw, refl)
+pub operand_is_empty_one : OneAnswer 0 operand-is-empty-kinds.ps operand-is-empty-kinds.r operand-is-empty.Pre operand-is-empty.Post
+operand_is_empty_one κs a p x y v w hv hw = (hv ∙ sym hw, refl)
 
-pub operand-chunk-of-one : OneAnswer 1 operand-chunk-of-kinds.ps operand-chunk-of-kinds.r operand-chunk-of.Pre operand-chunk-of.Post
-operand-chunk-of-one κs a p x y v w hv hw = (hv ∙ sym hw, refl)
+pub operand_is_full_one : OneAnswer 0 operand-is-full-kinds.ps operand-is-full-kinds.r operand-is-full.Pre operand-is-full.Post
+operand_is_full_one κs a p x y v w hv hw = (hv ∙ sym hw, refl)
 
-pub mask-lay-rows-one : OneAnswer 3 mask-lay-rows-kinds.ps mask-lay-rows-kinds.r mask-lay-rows.Pre mask-lay-rows.Post
-mask-lay-rows-one κs a p x y v w hv hw = (refl, ap (λ (l : List ℕ). (tt, (tt, (tt, (tt, (l, tt)))))) (hv ∙ sym hw))
+pub operand_chunk_of_one : OneAnswer 1 operand-chunk-of-kinds.ps operand-chunk-of-kinds.r operand-chunk-of.Pre operand-chunk-of.Post
+operand_chunk_of_one κs a p x y v w hv hw = (hv ∙ sym hw, refl)
 
-pub mask-write-rows-one : OneAnswer 3 mask-write-rows-kinds.ps mask-write-rows-kinds.r mask-write-rows.Pre mask-write-rows.Post
-mask-write-rows-one κs a p x y v w hv hw = (refl, ap (λ (l : List ℕ). (tt, (tt, (tt, (l, tt))))) (hv ∙ sym hw))
+pub mask_lay_rows_one : OneAnswer 3 mask-lay-rows-kinds.ps mask-lay-rows-kinds.r mask-lay-rows.Pre mask-lay-rows.Post
+mask_lay_rows_one κs a p x y v w hv hw = (refl, ap (λ (l : List ℕ). (tt, (tt, (tt, (tt, (l, tt)))))) (hv ∙ sym hw))
 
-pub operand-density-one : OneAnswer 0 operand-density-kinds.ps operand-density-kinds.r operand-density.Pre operand-density.Post
-operand-density-one κs a p x y v w hv hw = (hv ∙ sym hw, refl)
+pub mask_write_rows_one : OneAnswer 3 mask-write-rows-kinds.ps mask-write-rows-kinds.r mask-write-rows.Pre mask-write-rows.Post
+mask_write_rows_one κs a p x y v w hv hw = (refl, ap (λ (l : List ℕ). (tt, (tt, (tt, (l, tt))))) (hv ∙ sym hw))
 
-pub operand-accepted-one : OneAnswer 0 operand-accepted-kinds.ps operand-accepted-kinds.r operand-accepted.Pre operand-accepted.Post
-operand-accepted-one κs a p x y v w hv hw = (hv ∙ sym hw, refl)
+pub operand_density_one : OneAnswer 0 operand-density-kinds.ps operand-density-kinds.r operand-density.Pre operand-density.Post
+operand_density_one κs a p x y v w hv hw = (hv ∙ sym hw, refl)
 
-pub operand-refused-one : OneAnswer 0 operand-refused-kinds.ps operand-refused-kinds.r operand-refused.Pre operand-refused.Post
-operand-refused-one κs a p x y v w hv hw = (hv ∙ sym hw, refl)
+pub operand_accepted_one : OneAnswer 0 operand-accepted-kinds.ps operand-accepted-kinds.r operand-accepted.Pre operand-accepted.Post
+operand_accepted_one κs a p x y v w hv hw = (hv ∙ sym hw, refl)
 
-pub network-counts-of-bytes-one : OneAnswer 0 network-counts-of-bytes-kinds.ps network-counts-of-bytes-kinds.r network-counts-of-bytes.Pre network-counts-of-bytes.Post
-network-counts-of-bytes-one κs a p x y v w hv hw = (hv ∙ sym hw, refl)
+pub operand_refused_one : OneAnswer 0 operand-refused-kinds.ps operand-refused-kinds.r operand-refused.Pre operand-refused.Post
+operand_refused_one κs a p x y v w hv hw = (hv ∙ sym hw, refl)
 
-pub places-place-in-one : OneAnswer 0 places-place-in-kinds.ps places-place-in-kinds.r places-place-in.Pre places-place-in.Post
-places-place-in-one κs a p x y v w hv hw = (hv ∙ sym hw, refl)
+pub network_counts_of_bytes_one : OneAnswer 0 network-counts-of-bytes-kinds.ps network-counts-of-bytes-kinds.r network-counts-of-bytes.Pre network-counts-of-bytes.Post
+network_counts_of_bytes_one κs a p x y v w hv hw = (hv ∙ sym hw, refl)
 
-pub network-deposit-bytewise-one : OneAnswer 0 network-deposit-bytewise-kinds.ps network-deposit-bytewise-kinds.r network-deposit-bytewise.Pre network-deposit-bytewise.Post
-network-deposit-bytewise-one κs a p x y v w hv hw = (hv ∙ sym hw, refl)
+pub places_place_in_one : OneAnswer 0 places-place-in-kinds.ps places-place-in-kinds.r places-place-in.Pre places-place-in.Post
+places_place_in_one κs a p x y v w hv hw = (hv ∙ sym hw, refl)
 
-pub rowwise-answer-one : OneAnswer 3 rowwise-answer-kinds.ps rowwise-answer-kinds.r rowwise-answer.Pre rowwise-answer.Post
-rowwise-answer-one κs a p x y v w hv hw = (hv.0 ∙ sym hw.0, ap (λ (l : List ℕ). (tt, (tt, (tt, (tt, (tt, (l, tt))))))) (hv.1 ∙ sym hw.1))
+pub network_deposit_bytewise_one : OneAnswer 0 network-deposit-bytewise-kinds.ps network-deposit-bytewise-kinds.r network-deposit-bytewise.Pre network-deposit-bytewise.Post
+network_deposit_bytewise_one κs a p x y v w hv hw = (hv ∙ sym hw, refl)
 
-pub word-deposit-portable-one : OneAnswer 0 word-deposit-portable-kinds.ps word-deposit-portable-kinds.r word-deposit-portable.Pre word-deposit-portable.Post
-word-deposit-portable-one κs a p x y v w hv hw = (hv ∙ sym hw, refl)
+pub rowwise_answer_one : OneAnswer 3 rowwise-answer-kinds.ps rowwise-answer-kinds.r rowwise-answer.Pre rowwise-answer.Post
+rowwise_answer_one κs a p x y v w hv hw = (hv.0 ∙ sym hw.0, ap (λ (l : List ℕ). (tt, (tt, (tt, (tt, (tt, (l, tt))))))) (hv.1 ∙ sym hw.1))
 
-pub word-deposit-portable-loop-one : OneAnswer 0 word-deposit-portable-loop-kinds.ps word-deposit-portable-loop-kinds.r word-deposit-portable-loop.Pre word-deposit-portable-loop.Post
-word-deposit-portable-loop-one κs a p x y v w hv hw = (hv ∙ sym hw, refl)
+pub word_deposit_portable_one : OneAnswer 0 word-deposit-portable-kinds.ps word-deposit-portable-kinds.r word-deposit-portable.Pre word-deposit-portable.Post
+word_deposit_portable_one κs a p x y v w hv hw = (hv ∙ sym hw, refl)
 
-pub word-select-bit-position-one : OneAnswer 0 word-select-bit-position-kinds.ps word-select-bit-position-kinds.r word-select-bit-position.Pre word-select-bit-position.Post
-word-select-bit-position-one κs a p x y v w hv hw = (hv ∙ sym hw, refl)
+pub word_deposit_portable_loop_one : OneAnswer 0 word-deposit-portable-loop-kinds.ps word-deposit-portable-loop-kinds.r word-deposit-portable-loop.Pre word-deposit-portable-loop.Post
+word_deposit_portable_loop_one κs a p x y v w hv hw = (hv ∙ sym hw, refl)
 
-pub rows-refusal-one : OneAnswer 0 rows-refusal-kinds.ps rows-refusal-kinds.r rows-refusal.Pre rows-refusal.Post
-rows-refusal-one κs a p x y v w hv hw = (hv ∙ sym hw, refl)
+pub word_select_bit_position_one : OneAnswer 0 word-select-bit-position-kinds.ps word-select-bit-position-kinds.r word-select-bit-position.Pre word-select-bit-position.Post
+word_select_bit_position_one κs a p x y v w hv hw = (hv ∙ sym hw, refl)
 
-pub rows-no-refusal-one : OneAnswer 0 rows-no-refusal-kinds.ps rows-no-refusal-kinds.r rows-no-refusal.Pre rows-no-refusal.Post
-rows-no-refusal-one κs a p x y v w hv hw = (hv ∙ sym hw, refl)
+pub rows_refusal_one : OneAnswer 0 rows-refusal-kinds.ps rows-refusal-kinds.r rows-refusal.Pre rows-refusal.Post
+rows_refusal_one κs a p x y v w hv hw = (hv ∙ sym hw, refl)
 
-pub rows-refuse-one : OneAnswer 0 rows-refuse-kinds.ps rows-refuse-kinds.r rows-refuse.Pre rows-refuse.Post
-rows-refuse-one κs a p x y v w hv hw = (hv ∙ sym hw, refl)
+pub rows_no_refusal_one : OneAnswer 0 rows-no-refusal-kinds.ps rows-no-refusal-kinds.r rows-no-refusal.Pre rows-no-refusal.Post
+rows_no_refusal_one κs a p x y v w hv hw = (hv ∙ sym hw, refl)
 
-pub rows-at-most-one : OneAnswer 0 rows-at-most-kinds.ps rows-at-most-kinds.r rows-at-most.Pre rows-at-most.Post
-rows-at-most-one κs a p x y v w hv hw = (hv ∙ sym hw, refl)
+pub rows_refuse_one : OneAnswer 0 rows-refuse-kinds.ps rows-refuse-kinds.r rows-refuse.Pre rows-refuse.Post
+rows_refuse_one κs a p x y v w hv hw = (hv ∙ sym hw, refl)
 
-pub rows-has-room-one : OneAnswer 0 rows-has-room-kinds.ps rows-has-room-kinds.r rows-has-room.Pre rows-has-room.Post
-rows-has-room-one κs a p x y v w hv hw = (hv ∙ sym hw, refl)
+pub rows_at_most_one : OneAnswer 0 rows-at-most-kinds.ps rows-at-most-kinds.r rows-at-most.Pre rows-at-most.Post
+rows_at_most_one κs a p x y v w hv hw = (hv ∙ sym hw, refl)
 
-pub rows-equal-one : OneAnswer 0 rows-equal-kinds.ps rows-equal-kinds.r rows-equal.Pre rows-equal.Post
-rows-equal-one κs a p x y v w hv hw = (hv ∙ sym hw, refl)
+pub rows_has_room_one : OneAnswer 0 rows-has-room-kinds.ps rows-has-room-kinds.r rows-has-room.Pre rows-has-room.Post
+rows_has_room_one κs a p x y v w hv hw = (hv ∙ sym hw, refl)
 
-pub rows-then-one : OneAnswer 0 rows-then-kinds.ps rows-then-kinds.r rows_then.Pre rows_then.Post
-rows-then-one κs a p x y v w hv hw = (hv ∙ sym hw, refl)
+pub rows_equal_one : OneAnswer 0 rows-equal-kinds.ps rows-equal-kinds.r rows-equal.Pre rows-equal.Post
+rows_equal_one κs a p x y v w hv hw = (hv ∙ sym hw, refl)
 
-pub rows-deposit-answer-one : OneAnswer 0 rows-deposit-answer-kinds.ps rows-deposit-answer-kinds.r rows-deposit-answer.Pre rows-deposit-answer.Post
-rows-deposit-answer-one κs a p x y v w hv hw = (hv ∙ sym hw, refl)
+pub rows_then_one : OneAnswer 0 rows-then-kinds.ps rows-then-kinds.r rows_then.Pre rows_then.Post
+rows_then_one κs a p x y v w hv hw = (hv ∙ sym hw, refl)
 
-pub rows-select-answer-one : OneAnswer 0 rows-select-answer-kinds.ps rows-select-answer-kinds.r rows-select-answer.Pre rows-select-answer.Post
-rows-select-answer-one κs a p x y v w hv hw = (hv ∙ sym hw, refl)
+pub rows_deposit_answer_one : OneAnswer 0 rows-deposit-answer-kinds.ps rows-deposit-answer-kinds.r rows-deposit-answer.Pre rows-deposit-answer.Post
+rows_deposit_answer_one κs a p x y v w hv hw = (hv ∙ sym hw, refl)
 
-pub rows-read-answer-one : OneAnswer 0 rows-read-answer-kinds.ps rows-read-answer-kinds.r rows-read-answer.Pre rows-read-answer.Post
-rows-read-answer-one κs a p x y v w hv hw = (hv ∙ sym hw, refl)
+pub rows_select_answer_one : OneAnswer 0 rows-select-answer-kinds.ps rows-select-answer-kinds.r rows-select-answer.Pre rows-select-answer.Post
+rows_select_answer_one κs a p x y v w hv hw = (hv ∙ sym hw, refl)
 
-pub word-deposit-by-one : OneAnswer 0 word-deposit-by-kinds.ps word-deposit-by-kinds.r word-deposit-by.Pre word-deposit-by.Post
-word-deposit-by-one κs a p x y v w hv hw = (hv ∙ sym hw, refl)
+pub rows_read_answer_one : OneAnswer 0 rows-read-answer-kinds.ps rows-read-answer-kinds.r rows-read-answer.Pre rows-read-answer.Post
+rows_read_answer_one κs a p x y v w hv hw = (hv ∙ sym hw, refl)
 
-pub operand-counts-as-list-one : OneAnswer 0 operand-counts-as-list-kinds.ps operand-counts-as-list-kinds.r operand-counts-as-list.Pre operand-counts-as-list.Post
-operand-counts-as-list-one κs a p x y v w hv hw = (hv ∙ sym hw, refl)
+pub word_deposit_by_one : OneAnswer 0 word-deposit-by-kinds.ps word-deposit-by-kinds.r word-deposit-by.Pre word-deposit-by.Post
+word_deposit_by_one κs a p x y v w hv hw = (hv ∙ sym hw, refl)
 
-pub operand-has-row-numbers-one : OneAnswer 0 operand-has-row-numbers-kinds.ps operand-has-row-numbers-kinds.r operand-has-row-numbers.Pre operand-has-row-numbers.Post
-operand-has-row-numbers-one κs a p x y v w hv hw = (hv ∙ sym hw, refl)
+pub operand_counts_as_list_one : OneAnswer 0 operand-counts-as-list-kinds.ps operand-counts-as-list-kinds.r operand-counts-as-list.Pre operand-counts-as-list.Post
+operand_counts_as_list_one κs a p x y v w hv hw = (hv ∙ sym hw, refl)
 
-pub routes-number-one : OneAnswer 0 routes-number-kinds.ps routes-number-kinds.r routes-number.Pre routes-number.Post
-routes-number-one κs a p x y v w hv hw = (hv ∙ sym hw, refl)
+pub operand_has_row_numbers_one : OneAnswer 0 operand-has-row-numbers-kinds.ps operand-has-row-numbers-kinds.r operand-has-row-numbers.Pre operand-has-row-numbers.Post
+operand_has_row_numbers_one κs a p x y v w hv hw = (hv ∙ sym hw, refl)
 
-pub routes-choose-route-one : OneAnswer 0 routes-choose-route-kinds.ps routes-choose-route-kinds.r routes-choose-route.Pre routes-choose-route.Post
-routes-choose-route-one κs a p x y v w hv hw = (hv ∙ sym hw, refl)
+pub routes_number_one : OneAnswer 0 routes-number-kinds.ps routes-number-kinds.r routes-number.Pre routes-number.Post
+routes_number_one κs a p x y v w hv hw = (hv ∙ sym hw, refl)
 
-pub intersect-by-rank-judge-one : OneAnswer 4 intersect-by-rank-judge-kinds.ps intersect-by-rank-judge-kinds.r intersect-by-rank-judge.Pre intersect-by-rank-judge.Post
-intersect-by-rank-judge-one κs a p x y v w hv hw = (hv ∙ sym hw, refl)
+pub routes_choose_route_one : OneAnswer 0 routes-choose-route-kinds.ps routes-choose-route-kinds.r routes-choose-route.Pre routes-choose-route.Post
+routes_choose_route_one κs a p x y v w hv hw = (hv ∙ sym hw, refl)
 
-pub laid-copy-words-one : OneAnswer 2 laid-copy-words-kinds.ps laid-copy-words-kinds.r laid-copy-words.Pre laid-copy-words.Post
-laid-copy-words-one κs a p x y v w hv hw = (refl, ap (λ (l : List ℕ). (tt, (tt, (tt, (l, tt))))) (hv ∙ sym hw))
+pub intersect_by_rank_judge_one : OneAnswer 4 intersect-by-rank-judge-kinds.ps intersect-by-rank-judge-kinds.r intersect-by-rank-judge.Pre intersect-by-rank-judge.Post
+intersect_by_rank_judge_one κs a p x y v w hv hw = (hv ∙ sym hw, refl)
 
-pub books-clear-rows-one : OneAnswer 1 books-clear-rows-kinds.ps books-clear-rows-kinds.r books-clear-rows.Pre books-clear-rows.Post
-books-clear-rows-one κs a p x y v w hv hw = (refl, ap (λ (l : List ℕ). (l, (tt, (tt, (tt, tt))))) (hv ∙ sym hw))
+pub laid_copy_words_one : OneAnswer 2 laid-copy-words-kinds.ps laid-copy-words-kinds.r laid-copy-words.Pre laid-copy-words.Post
+laid_copy_words_one κs a p x y v w hv hw = (refl, ap (λ (l : List ℕ). (tt, (tt, (tt, (l, tt))))) (hv ∙ sym hw))
 
-pub fills-lay-runs-one : OneAnswer 2 fills-lay-runs-kinds.ps fills-lay-runs-kinds.r fills-lay-runs.Pre fills-lay-runs.Post
-fills-lay-runs-one κs a p x y v w hv hw = (refl, ap (λ (l : List ℕ). (tt, (tt, (tt, (l, tt))))) (hv ∙ sym hw))
+pub books_clear_rows_one : OneAnswer 1 books-clear-rows-kinds.ps books-clear-rows-kinds.r books-clear-rows.Pre books-clear-rows.Post
+books_clear_rows_one κs a p x y v w hv hw = (refl, ap (λ (l : List ℕ). (l, (tt, (tt, (tt, tt))))) (hv ∙ sym hw))
 
-pub fills-set-run-one : OneAnswer 1 fills-set-run-kinds.ps fills-set-run-kinds.r fills-set-run.Pre fills-set-run.Post
-fills-set-run-one κs a p x y v w hv hw = (refl, ap (λ (l : List ℕ). (l, (tt, (tt, (tt, tt))))) (hv ∙ sym hw))
+pub fills_lay_runs_one : OneAnswer 2 fills-lay-runs-kinds.ps fills-lay-runs-kinds.r fills-lay-runs.Pre fills-lay-runs.Post
+fills_lay_runs_one κs a p x y v w hv hw = (refl, ap (λ (l : List ℕ). (tt, (tt, (tt, (l, tt))))) (hv ∙ sym hw))
 
-pub fills-list-runs-one : OneAnswer 2 fills-list-runs-kinds.ps fills-list-runs-kinds.r fills-list-runs.Pre fills-list-runs.Post
-fills-list-runs-one κs a p x y v w hv hw = (refl, ap (λ (l : List ℕ). (tt, (tt, (l, tt)))) (hv ∙ sym hw))
+pub fills_set_run_one : OneAnswer 1 fills-set-run-kinds.ps fills-set-run-kinds.r fills-set-run.Pre fills-set-run.Post
+fills_set_run_one κs a p x y v w hv hw = (refl, ap (λ (l : List ℕ). (l, (tt, (tt, (tt, tt))))) (hv ∙ sym hw))
 
-pub under-lay-ranks-under-runs-one : OneAnswer 3 ranks-under-runs-kinds.ps ranks-under-runs-kinds.r ranks-under-runs.Pre ranks-under-runs.Post
-under-lay-ranks-under-runs-one κs a p x y v w hv hw = (hv.0 ∙ sym hw.0, ap (λ (l : List ℕ). (tt, (tt, (tt, (tt, (tt, (l, tt))))))) (hv.1 ∙ sym hw.1))
+pub fills_list_runs_one : OneAnswer 2 fills-list-runs-kinds.ps fills-list-runs-kinds.r fills-list-runs.Pre fills-list-runs.Post
+fills_list_runs_one κs a p x y v w hv hw = (refl, ap (λ (l : List ℕ). (tt, (tt, (l, tt)))) (hv ∙ sym hw))
 
-pub kept-keep-words-one : OneAnswer 3 kept-keep-words-kinds.ps kept-keep-words-kinds.r kept-keep-words.Pre kept-keep-words.Post
-kept-keep-words-one κs a p x y v w hv hw = (hv.0 ∙ sym hw.0, ap (λ (l : List ℕ). (tt, (tt, (tt, (tt, (tt, (l, tt))))))) (hv.1 ∙ sym hw.1))
+pub under_lay_ranks_under_runs_one : OneAnswer 3 ranks-under-runs-kinds.ps ranks-under-runs-kinds.r ranks-under-runs.Pre ranks-under-runs.Post
+under_lay_ranks_under_runs_one κs a p x y v w hv hw = (hv.0 ∙ sym hw.0, ap (λ (l : List ℕ). (tt, (tt, (tt, (tt, (tt, (l, tt))))))) (hv.1 ∙ sym hw.1))
 
-pub under-lay-runs-in-runs-one : OneAnswer 3 runs-in-runs-kinds.ps runs-in-runs-kinds.r runs-in-runs.Pre runs-in-runs.Post
-under-lay-runs-in-runs-one κs a p x y v w hv hw = (hv.0 ∙ sym hw.0, ap (λ (l : List ℕ). (tt, (tt, (tt, (tt, (l, tt)))))) (hv.1 ∙ sym hw.1))
+pub kept_keep_words_one : OneAnswer 3 kept-keep-words-kinds.ps kept-keep-words-kinds.r kept-keep-words.Pre kept-keep-words.Post
+kept_keep_words_one κs a p x y v w hv hw = (hv.0 ∙ sym hw.0, ap (λ (l : List ℕ). (tt, (tt, (tt, (tt, (tt, (l, tt))))))) (hv.1 ∙ sym hw.1))
 
-pub kept-lay-entries-by-runs-one : OneAnswer 3 entries-by-runs-kinds.ps entries-by-runs-kinds.r entries-by-runs.Pre entries-by-runs.Post
-kept-lay-entries-by-runs-one κs a p x y v w hv hw = (hv.0 ∙ sym hw.0, ap (λ (l : List ℕ). (tt, (tt, (tt, (tt, (tt, (l, tt))))))) (hv.1 ∙ sym hw.1))
+pub under_lay_runs_in_runs_one : OneAnswer 3 runs-in-runs-kinds.ps runs-in-runs-kinds.r runs-in-runs.Pre runs-in-runs.Post
+under_lay_runs_in_runs_one κs a p x y v w hv hw = (hv.0 ∙ sym hw.0, ap (λ (l : List ℕ). (tt, (tt, (tt, (tt, (l, tt)))))) (hv.1 ∙ sym hw.1))
 
-pub under-lay-entries-in-runs-one : OneAnswer 3 entries-in-runs-kinds.ps entries-in-runs-kinds.r entries-in-runs.Pre entries-in-runs.Post
-under-lay-entries-in-runs-one κs a p x y v w hv hw = (hv.0 ∙ sym hw.0, ap (λ (l : List ℕ). (tt, (tt, (tt, (tt, (tt, (l, tt))))))) (hv.1 ∙ sym hw.1))
+pub kept_lay_entries_by_runs_one : OneAnswer 3 entries-by-runs-kinds.ps entries-by-runs-kinds.r entries-by-runs.Pre entries-by-runs.Post
+kept_lay_entries_by_runs_one κs a p x y v w hv hw = (hv.0 ∙ sym hw.0, ap (λ (l : List ℕ). (tt, (tt, (tt, (tt, (tt, (l, tt))))))) (hv.1 ∙ sym hw.1))
 
-pub laid-lay-same-one : OneAnswer 1 laid-lay-same-kinds.ps laid-lay-same-kinds.r laid-lay-same.Pre laid-lay-same.Post
-laid-lay-same-one κs a p x y v w hv hw = (refl, ap (λ (l : List ℕ). (l, (tt, (tt, (tt, tt))))) (hv ∙ sym hw))
+pub under_lay_entries_in_runs_one : OneAnswer 3 entries-in-runs-kinds.ps entries-in-runs-kinds.r entries-in-runs.Pre entries-in-runs.Post
+under_lay_entries_in_runs_one κs a p x y v w hv hw = (hv.0 ∙ sym hw.0, ap (λ (l : List ℕ). (tt, (tt, (tt, (tt, (tt, (l, tt))))))) (hv.1 ∙ sym hw.1))
 
-pub laid-fill-one : OneAnswer 1 laid-fill-kinds.ps laid-fill-kinds.r laid-fill.Pre laid-fill.Post
-laid-fill-one κs a p x y v w hv hw = (refl, ap (λ (l : List ℕ). (l, (tt, (tt, tt)))) (hv ∙ sym hw))
+pub laid_lay_same_one : OneAnswer 1 laid-lay-same-kinds.ps laid-lay-same-kinds.r laid-lay-same.Pre laid-lay-same.Post
+laid_lay_same_one κs a p x y v w hv hw = (refl, ap (λ (l : List ℕ). (l, (tt, (tt, (tt, tt))))) (hv ∙ sym hw))
+
+pub laid_fill_one : OneAnswer 1 laid-fill-kinds.ps laid-fill-kinds.r laid-fill.Pre laid-fill.Post
+laid_fill_one κs a p x y v w hv hw = (refl, ap (λ (l : List ℕ). (l, (tt, (tt, tt)))) (hv ∙ sym hw))
 
 -- a row is its number
 abbrev row_of : ℕ → Row
 row_of n = record { 0 = n }
 
-pub marks-entry-at-one : OneAnswer 1 marks-entry-at-kinds.ps marks-entry-at-kinds.r marks-entry-at.Pre marks-entry-at.Post
-marks-entry-at-one κs a p x y v w hv hw = (ap row_of (hv ∙ sym hw), refl)
+pub marks_entry_at_one : OneAnswer 1 marks-entry-at-kinds.ps marks-entry-at-kinds.r marks-entry-at.Pre marks-entry-at.Post
+marks_entry_at_one κs a p x y v w hv hw = (ap row_of (hv ∙ sym hw), refl)
 
-pub operand-tell-one : OneAnswer 0 operand-tell-kinds.ps operand-tell-kinds.r operand-tell.Pre operand-tell.Post
-operand-tell-one κs a p x y v w hv hw = (hv ∙ sym hw, refl)
+pub operand_tell_one : OneAnswer 0 operand-tell-kinds.ps operand-tell-kinds.r operand-tell.Pre operand-tell.Post
+operand_tell_one κs a p x y v w hv hw = (hv ∙ sym hw, refl)
 
-pub operand-has-runs-one : OneAnswer 0 operand-has-runs-kinds.ps operand-has-runs-kinds.r operand-has-runs.Pre operand-has-runs.Post
-operand-has-runs-one κs a p x y v w hv hw = (hv ∙ sym hw, refl)
+pub operand_has_runs_one : OneAnswer 0 operand-has-runs-kinds.ps operand-has-runs-kinds.r operand-has-runs.Pre operand-has-runs.Post
+operand_has_runs_one κs a p x y v w hv hw = (hv ∙ sym hw, refl)
 
-pub turns-count-turns-one : OneAnswer 1 turns-count-turns-kinds.ps turns-count-turns-kinds.r turns-count-turns.Pre turns-count-turns.Post
-turns-count-turns-one κs a p x y v w hv hw = (hv ∙ sym hw, refl)
+pub turns_count_turns_one : OneAnswer 1 turns-count-turns-kinds.ps turns-count-turns-kinds.r turns-count-turns.Pre turns-count-turns.Post
+turns_count_turns_one κs a p x y v w hv hw = (hv ∙ sym hw, refl)
 
-pub turns-list-chunk-one : OneAnswer 1 turns-list-chunk-kinds.ps turns-list-chunk-kinds.r turns-list-chunk.Pre turns-list-chunk.Post
-turns-list-chunk-one κs a p x y v w hv hw = (hv.0 ∙ sym hw.0, ap (λ (l : List ℕ). (tt, (tt, (tt, (l, tt))))) (hv.1 ∙ sym hw.1))
+pub turns_list_chunk_one : OneAnswer 1 turns-list-chunk-kinds.ps turns-list-chunk-kinds.r turns-list-chunk.Pre turns-list-chunk.Post
+turns_list_chunk_one κs a p x y v w hv hw = (hv.0 ∙ sym hw.0, ap (λ (l : List ℕ). (tt, (tt, (tt, (l, tt))))) (hv.1 ∙ sym hw.1))
 
-pub turns-write-turns-one : OneAnswer 2 turns-write-turns-kinds.ps turns-write-turns-kinds.r turns-write-turns.Pre turns-write-turns.Post
-turns-write-turns-one κs a p x y v w hv hw = (refl, ap (λ (l : List ℕ). (tt, (tt, (tt, (l, tt))))) (hv ∙ sym hw))
+pub turns_write_turns_one : OneAnswer 2 turns-write-turns-kinds.ps turns-write-turns-kinds.r turns-write-turns.Pre turns-write-turns.Post
+turns_write_turns_one κs a p x y v w hv hw = (refl, ap (λ (l : List ℕ). (tt, (tt, (tt, (l, tt))))) (hv ∙ sym hw))
 
-pub turns-count-list-turns-one : OneAnswer 1 count-list-turns-kinds.ps count-list-turns-kinds.r count-list-turns.Pre count-list-turns.Post
-turns-count-list-turns-one κs a p x y v w hv hw = (hv ∙ sym hw, refl)
+pub turns_count_list_turns_one : OneAnswer 1 count-list-turns-kinds.ps count-list-turns-kinds.r count-list-turns.Pre count-list-turns.Post
+turns_count_list_turns_one κs a p x y v w hv hw = (hv ∙ sym hw, refl)
 
-pub turns-write-list-turns-one : OneAnswer 2 write-list-turns-kinds.ps write-list-turns-kinds.r write-list-turns.Pre write-list-turns.Post
-turns-write-list-turns-one κs a p x y v w hv hw = (refl, ap (λ (l : List ℕ). (tt, (tt, (l, tt)))) (hv ∙ sym hw))
+pub turns_write_list_turns_one : OneAnswer 2 write-list-turns-kinds.ps write-list-turns-kinds.r write-list-turns.Pre write-list-turns.Post
+turns_write_list_turns_one κs a p x y v w hv hw = (refl, ap (λ (l : List ℕ). (tt, (tt, (l, tt)))) (hv ∙ sym hw))
 
 -- ---- what the edge calls too
 
-pub fills-lay-run-one : OneAnswer 1 fills-lay-run-kinds.ps fills-lay-run-kinds.r fills-lay-run.Pre fills-lay-run.Post
-fills-lay-run-one κs a p x y v w hv hw = (refl, ap (λ (l : List ℕ). (tt, (tt, (tt, (tt, (l, tt)))))) (hv ∙ sym hw))
+pub fills_lay_run_one : OneAnswer 1 fills-lay-run-kinds.ps fills-lay-run-kinds.r fills-lay-run.Pre fills-lay-run.Post
+fills_lay_run_one κs a p x y v w hv hw = (refl, ap (λ (l : List ℕ). (tt, (tt, (tt, (tt, (l, tt)))))) (hv ∙ sym hw))
 
-pub mask-own-answer-one : OneAnswer 0 mask-own-answer-kinds.ps mask-own-answer-kinds.r mask-own-answer.Pre mask-own-answer.Post
-mask-own-answer-one κs a p x y v w hv hw = (hv ∙ sym hw, refl)
+pub mask_own_answer_one : OneAnswer 0 mask-own-answer-kinds.ps mask-own-answer-kinds.r mask-own-answer.Pre mask-own-answer.Post
+mask_own_answer_one κs a p x y v w hv hw = (hv ∙ sym hw, refl)
 
-pub mask-no-runs-one : OneAnswer 0 mask-no-runs-kinds.ps mask-no-runs-kinds.r mask-no-runs.Pre mask-no-runs.Post
-mask-no-runs-one κs a p x y v w hv hw = (hv ∙ sym hw, refl)
+pub mask_no_runs_one : OneAnswer 0 mask-no-runs-kinds.ps mask-no-runs-kinds.r mask-no-runs.Pre mask-no-runs.Post
+mask_no_runs_one κs a p x y v w hv hw = (hv ∙ sym hw, refl)
 
-pub mask-count-runs-one : OneAnswer 2 mask-count-runs-kinds.ps mask-count-runs-kinds.r mask-count-runs.Pre mask-count-runs.Post
-mask-count-runs-one κs a p x y v w hv hw = (hv ∙ sym hw, refl)
+pub mask_count_runs_one : OneAnswer 2 mask-count-runs-kinds.ps mask-count-runs-kinds.r mask-count-runs.Pre mask-count-runs.Post
+mask_count_runs_one κs a p x y v w hv hw = (hv ∙ sym hw, refl)
 
-pub mask-write-runs-one : OneAnswer 3 mask-write-runs-kinds.ps mask-write-runs-kinds.r mask-write-runs.Pre mask-write-runs.Post
-mask-write-runs-one κs a p x y v w hv hw = (refl, ap (λ (l : List ℕ). (tt, (tt, (tt, (l, tt))))) (hv ∙ sym hw))
+pub mask_write_runs_one : OneAnswer 3 mask-write-runs-kinds.ps mask-write-runs-kinds.r mask-write-runs.Pre mask-write-runs.Post
+mask_write_runs_one κs a p x y v w hv hw = (refl, ap (λ (l : List ℕ). (tt, (tt, (tt, (l, tt))))) (hv ∙ sym hw))
 
-pub operand-run-fits-one : OneAnswer 0 operand-run-fits-kinds.ps operand-run-fits-kinds.r operand-run-fits.Pre operand-run-fits.Post
-operand-run-fits-one κs a p x y v w hv hw = (hv ∙ sym hw, refl)
+pub operand_run_fits_one : OneAnswer 0 operand-run-fits-kinds.ps operand-run-fits-kinds.r operand-run-fits.Pre operand-run-fits.Post
+operand_run_fits_one κs a p x y v w hv hw = (hv ∙ sym hw, refl)
 
-pub turns-sum-runs-one : OneAnswer 1 turns-sum-runs-kinds.ps turns-sum-runs-kinds.r turns-sum-runs.Pre turns-sum-runs.Post
-turns-sum-runs-one κs a p x y v w hv hw = (hv ∙ sym hw, refl)
+pub turns_sum_runs_one : OneAnswer 1 turns-sum-runs-kinds.ps turns-sum-runs-kinds.r turns-sum-runs.Pre turns-sum-runs.Post
+turns_sum_runs_one κs a p x y v w hv hw = (hv ∙ sym hw, refl)

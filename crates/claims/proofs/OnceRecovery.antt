@@ -7,7 +7,7 @@ use Prim.Native.Nat.{ℕ}
 use Rattle.claims.specs.OneAnswer.{OneAnswer}
 use Rattle.rows.specs.declared.Row.{Row}
 use Rattle.books.specs.declared.inner.Gathered.{Gathered}
-use Rattle.books.proofs.GatherLaws.{parted-once}
+use Rattle.books.proofs.GatherLaws.{parted_once}
 use Rattle.recover.proofs.recover.Kinds as recover-kinds
 use Rattle.recover.proofs.recover.Reads as recover
 use Rattle.recoverer.proofs.Recoverer.fresh.Kinds as fresh-kinds
@@ -37,7 +37,7 @@ use Rattle.in_runs.proofs.inner.recover_runs.Reads as recover-runs
 use Rattle.laid.proofs.inner.copy_bits.Kinds as copy-bits-kinds
 use Rattle.laid.proofs.inner.copy_bits.Reads as copy-bits
 use Rattle.outside.proofs.inner.first_outside.Kinds as first-outside-kinds
-use Rattle.outside.proofs.inner.first_outside.Reads as first-outside
+use Rattle.outside.proofs.inner.first_outside.Reads as first_outside
 use Rattle.operand.proofs.inner.forms.has_words.Kinds as has-words-kinds
 use Rattle.operand.proofs.inner.forms.has_words.Reads as has_words
 use Rattle.books.proofs.inner.entry_bits.Kinds as entry-bits-kinds
@@ -53,75 +53,75 @@ use Rattle.network.proofs.inner.extract_bytewise.Reads as extract-bytewise
 
 -- ---- the entry points
 
-pub recover-recover-one : OneAnswer 5 recover-kinds.ps recover-kinds.r recover.Pre recover.Post
-recover-recover-one κs a p x y v w hv hw =
+pub recover_recover_one : OneAnswer 5 recover-kinds.ps recover-kinds.r recover.Pre recover.Post
+recover_recover_one κs a p x y v w hv hw =
     (hv.0 ∙ sym hw.0, ap (λ (l : List ℕ). (tt, (tt, (tt, (tt, (tt, (tt, (l, tt)))))))) (hv.1 ∙ sym hw.1))
 
-pub recoverer-fresh-one : OneAnswer 0 fresh-kinds.ps fresh-kinds.r fresh.Pre fresh.Post
-recoverer-fresh-one κs a p x y v w hv hw = (hv ∙ sym hw, refl)
+pub recoverer_fresh_one : OneAnswer 0 fresh-kinds.ps fresh-kinds.r fresh.Pre fresh.Post
+recoverer_fresh_one κs a p x y v w hv hw = (hv ∙ sym hw, refl)
 
-pub recoverer-feed-one : OneAnswer 5 feed-kinds.ps feed-kinds.r feed.Pre feed.Post
-recoverer-feed-one κs a p x y v w hv hw =
+pub recoverer_feed_one : OneAnswer 5 feed-kinds.ps feed-kinds.r feed.Pre feed.Post
+recoverer_feed_one κs a p x y v w hv hw =
     (hv.0 ∙ sym hw.0, ap (λ (l : List ℕ). (tt, (tt, (tt, (tt, (tt, (tt, (tt, (l, tt))))))))) (hv.1 ∙ sym hw.1))
 
 -- ---- what they call
 
-pub recover-judge-masks-one : OneAnswer 4 judge-masks-kinds.ps judge-masks-kinds.r judge-masks.Pre judge-masks.Post
-recover-judge-masks-one κs a p x y v w hv hw = (hv ∙ sym hw, refl)
+pub recover_judge_masks_one : OneAnswer 4 judge-masks-kinds.ps judge-masks-kinds.r judge-masks.Pre judge-masks.Post
+recover_judge_masks_one κs a p x y v w hv hw = (hv ∙ sym hw, refl)
 
-pub recover-judge-inside-one : OneAnswer 4 judge-inside-kinds.ps judge-inside-kinds.r judge-inside.Pre judge-inside.Post
-recover-judge-inside-one κs a p x y v w hv hw = (hv ∙ sym hw, refl)
+pub recover_judge_inside_one : OneAnswer 4 judge-inside-kinds.ps judge-inside-kinds.r judge-inside.Pre judge-inside.Post
+recover_judge_inside_one κs a p x y v w hv hw = (hv ∙ sym hw, refl)
 
-pub recover-judge-one : OneAnswer 4 judge-kinds.ps judge-kinds.r judge.Pre judge.Post
-recover-judge-one κs a p x y v w hv hw = (hv ∙ sym hw, refl)
+pub recover_judge_one : OneAnswer 4 judge-kinds.ps judge-kinds.r judge.Pre judge.Post
+recover_judge_one κs a p x y v w hv hw = (hv ∙ sym hw, refl)
 
-pub recover-lay-recovery-one : OneAnswer 5 lay-recovery-kinds.ps lay-recovery-kinds.r lay-recovery.Pre lay-recovery.Post
-recover-lay-recovery-one κs a p x y v w hv hw = (refl, ap (λ (l : List ℕ). (tt, (tt, (tt, (tt, (tt, (tt, (tt, (l, tt))))))))) (hv ∙ sym hw))
+pub recover_lay_recovery_one : OneAnswer 5 lay-recovery-kinds.ps lay-recovery-kinds.r lay-recovery.Pre lay-recovery.Post
+recover_lay_recovery_one κs a p x y v w hv hw = (refl, ap (λ (l : List ℕ). (tt, (tt, (tt, (tt, (tt, (tt, (tt, (l, tt))))))))) (hv ∙ sym hw))
 
-pub recover-tell-one : OneAnswer 0 tell-kinds.ps tell-kinds.r tell.Pre tell.Post
-recover-tell-one κs a p x y v w hv hw = (hv ∙ sym hw, refl)
+pub recover_tell_one : OneAnswer 0 tell-kinds.ps tell-kinds.r tell.Pre tell.Post
+recover_tell_one κs a p x y v w hv hw = (hv ∙ sym hw, refl)
 
-pub recover-recover-within-one : OneAnswer 5 recover-within-kinds.ps recover-within-kinds.r recover-within.Pre recover-within.Post
-recover-recover-within-one κs a p x y v w hv hw =
+pub recover_recover_within_one : OneAnswer 5 recover-within-kinds.ps recover-within-kinds.r recover-within.Pre recover-within.Post
+recover_recover_within_one κs a p x y v w hv hw =
     (hv.0 ∙ sym hw.0, ap (λ (l : List ℕ). (tt, (tt, (tt, (tt, (tt, (tt, (l, tt)))))))) (hv.1 ∙ sym hw.1))
 
-pub extracts-recover-words-one : OneAnswer 3 recover-words-kinds.ps recover-words-kinds.r recover-words.Pre recover-words.Post
-extracts-recover-words-one κs a p x y v w hv hw = (refl, ap (λ (l : List ℕ). (tt, (tt, (tt, (tt, (tt, (tt, (tt, (tt, (l, tt)))))))))) (hv ∙ sym hw))
+pub extracts_recover_words_one : OneAnswer 3 recover-words-kinds.ps recover-words-kinds.r recover-words.Pre recover-words.Post
+extracts_recover_words_one κs a p x y v w hv hw = (refl, ap (λ (l : List ℕ). (tt, (tt, (tt, (tt, (tt, (tt, (tt, (tt, (l, tt)))))))))) (hv ∙ sym hw))
 
-pub extracts-recover-chunks-one : OneAnswer 5 recover-chunks-kinds.ps recover-chunks-kinds.r recover-chunks.Pre recover-chunks.Post
-extracts-recover-chunks-one κs a p x y v w hv hw = (refl, ap (λ (l : List ℕ). (tt, (tt, (tt, (tt, (tt, (tt, (tt, (tt, (l, tt)))))))))) (hv ∙ sym hw))
+pub extracts_recover_chunks_one : OneAnswer 5 recover-chunks-kinds.ps recover-chunks-kinds.r recover-chunks.Pre recover-chunks.Post
+extracts_recover_chunks_one κs a p x y v w hv hw = (refl, ap (λ (l : List ℕ). (tt, (tt, (tt, (tt, (tt, (tt, (tt, (tt, (l, tt)))))))))) (hv ∙ sym hw))
 
-pub in-runs-recover-under-runs-one : OneAnswer 3 under-runs-kinds.ps under-runs-kinds.r under-runs.Pre under-runs.Post
-in-runs-recover-under-runs-one κs a p x y v w hv hw = (refl, ap (λ (l : List ℕ). (tt, (tt, (tt, (tt, (tt, (l, tt))))))) (hv ∙ sym hw))
+pub in_runs_recover_under_runs_one : OneAnswer 3 under-runs-kinds.ps under-runs-kinds.r under-runs.Pre under-runs.Post
+in_runs_recover_under_runs_one κs a p x y v w hv hw = (refl, ap (λ (l : List ℕ). (tt, (tt, (tt, (tt, (tt, (l, tt))))))) (hv ∙ sym hw))
 
-pub in-runs-recover-runs-one : OneAnswer 4 recover-runs-kinds.ps recover-runs-kinds.r recover-runs.Pre recover-runs.Post
-in-runs-recover-runs-one κs a p x y v w hv hw = (refl, ap (λ (l : List ℕ). (tt, (tt, (tt, (tt, (tt, (tt, (l, tt)))))))) (hv ∙ sym hw))
+pub in_runs_recover_runs_one : OneAnswer 4 recover-runs-kinds.ps recover-runs-kinds.r recover-runs.Pre recover-runs.Post
+in_runs_recover_runs_one κs a p x y v w hv hw = (refl, ap (λ (l : List ℕ). (tt, (tt, (tt, (tt, (tt, (tt, (l, tt)))))))) (hv ∙ sym hw))
 
-pub laid-copy-bits-one : OneAnswer 2 copy-bits-kinds.ps copy-bits-kinds.r copy-bits.Pre copy-bits.Post
-laid-copy-bits-one κs a p x y v w hv hw = (hv.0 ∙ sym hw.0, ap (λ (l : List ℕ). (tt, (tt, (tt, (tt, (l, tt)))))) (hv.1 ∙ sym hw.1))
+pub laid_copy_bits_one : OneAnswer 2 copy-bits-kinds.ps copy-bits-kinds.r copy-bits.Pre copy-bits.Post
+laid_copy_bits_one κs a p x y v w hv hw = (hv.0 ∙ sym hw.0, ap (λ (l : List ℕ). (tt, (tt, (tt, (tt, (l, tt)))))) (hv.1 ∙ sym hw.1))
 
 abbrev row_of : ℕ → Row
 row_of n = record { 0 = n }
 
-pub outside-first-outside-one : OneAnswer 4 first-outside-kinds.ps first-outside-kinds.r first-outside.Pre first-outside.Post
-outside-first-outside-one κs a p x y v w hv hw = (ap row_of (hv ∙ sym hw), refl)
+pub outside_first_outside_one : OneAnswer 4 first-outside-kinds.ps first-outside-kinds.r first_outside.Pre first_outside.Post
+outside_first_outside_one κs a p x y v w hv hw = (ap row_of (hv ∙ sym hw), refl)
 
-pub operand-has-words-one : OneAnswer 0 has-words-kinds.ps has-words-kinds.r has_words.Pre has_words.Post
-operand-has-words-one κs a p x y v w hv hw = (hv ∙ sym hw, refl)
+pub operand_has_words_one : OneAnswer 0 has-words-kinds.ps has-words-kinds.r has_words.Pre has_words.Post
+operand_has_words_one κs a p x y v w hv hw = (hv ∙ sym hw, refl)
 
-pub books-entry-bits-one : OneAnswer 1 entry-bits-kinds.ps entry-bits-kinds.r entry-bits.Pre entry-bits.Post
-books-entry-bits-one κs a p x y v w hv hw =
+pub books_entry_bits_one : OneAnswer 1 entry-bits-kinds.ps entry-bits-kinds.r entry-bits.Pre entry-bits.Post
+books_entry_bits_one κs a p x y v w hv hw =
     let make : ℕ → ℕ → Gathered = λ bits next. record { bits = bits; next = next } in
-    (ap₂ make (hv.is ∙ sym hw.is) (parted-once _ x.next y.next _ hv.parted hw.parted), refl)
+    (ap₂ make (hv.is ∙ sym hw.is) (parted_once _ x.next y.next _ hv.parted hw.parted), refl)
 
-pub books-put-ranks-one : OneAnswer 1 put-ranks-kinds.ps put-ranks-kinds.r put-ranks.Pre put-ranks.Post
-books-put-ranks-one κs a p x y v w hv hw = (refl, ap (λ (l : List ℕ). (l, (tt, (tt, (tt, (tt, tt)))))) (hv ∙ sym hw))
+pub books_put_ranks_one : OneAnswer 1 put-ranks-kinds.ps put-ranks-kinds.r put-ranks.Pre put-ranks.Post
+books_put_ranks_one κs a p x y v w hv hw = (refl, ap (λ (l : List ℕ). (l, (tt, (tt, (tt, (tt, tt)))))) (hv ∙ sym hw))
 
-pub word-extract-portable-one : OneAnswer 0 extract-portable-kinds.ps extract-portable-kinds.r extract-portable.Pre extract-portable.Post
-word-extract-portable-one κs a p x y v w hv hw = (hv ∙ sym hw, refl)
+pub word_extract_portable_one : OneAnswer 0 extract-portable-kinds.ps extract-portable-kinds.r extract-portable.Pre extract-portable.Post
+word_extract_portable_one κs a p x y v w hv hw = (hv ∙ sym hw, refl)
 
-pub word-extract-portable-loop-one : OneAnswer 0 extract-portable-loop-kinds.ps extract-portable-loop-kinds.r extract-portable-loop.Pre extract-portable-loop.Post
-word-extract-portable-loop-one κs a p x y v w hv hw = (hv ∙ sym hw, refl)
+pub word_extract_portable_loop_one : OneAnswer 0 extract-portable-loop-kinds.ps extract-portable-loop-kinds.r extract-portable-loop.Pre extract-portable-loop.Post
+word_extract_portable_loop_one κs a p x y v w hv hw = (hv ∙ sym hw, refl)
 
-pub network-extract-bytewise-one : OneAnswer 0 extract-bytewise-kinds.ps extract-bytewise-kinds.r extract-bytewise.Pre extract-bytewise.Post
-network-extract-bytewise-one κs a p x y v w hv hw = (hv ∙ sym hw, refl)
+pub network_extract_bytewise_one : OneAnswer 0 extract-bytewise-kinds.ps extract-bytewise-kinds.r extract-bytewise.Pre extract-bytewise.Post
+network_extract_bytewise_one κs a p x y v w hv hw = (hv ∙ sym hw, refl)

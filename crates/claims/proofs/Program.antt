@@ -21,10 +21,10 @@ use Rattle.rules.specs.declared.Answer.{Answer}
 use Rattle.rules.specs.Answer.{refused, answered}
 use Rattle.lines.specs.declared.Written.{Written}
 use Rattle.lines.specs.Parts.{begins}
-use Rattle.lines.specs.Text.{ascii, WellFormed, lines, answerFor, text_of, withText, writtenFor, textOut}
+use Rattle.lines.specs.Text.{ascii, WellFormed, lines, answer_for, text_of, with_text, written_for, text_out}
 use Rattle.lines.proofs.ToldLaws.{no_room}
-use Rattle.lines.proofs.AnswerLaws.{routeTaken}
-use Rattle.lines.proofs.Theorems.{only-these, eight-exactly, ill-formed-answered, ill-formed-told, paired-answered, paired-told, unpaired-answered, unpaired-told}
+use Rattle.lines.proofs.AnswerLaws.{route_taken}
+use Rattle.lines.proofs.Theorems.{only_these, eight_exactly, ill_formed_answered, ill_formed_told, paired_answered, paired_told, unpaired_answered, unpaired_told}
 use Rattle.text.proofs.answer.Kinds as kinds
 use Rattle.text.proofs.answer.Reads as reads
 
@@ -42,71 +42,71 @@ module _ (κs : Lfts 2) (a : Dens κs kinds.ps) (x : (res_t kinds.r κs).Denot) 
   after = v.1.0
 
   -- 8,228 bytes are room for every text
-  pub always-room : 8228 ≤ length out → length (text_of input) ≤ length out
-  always-room h = omega (arith, (only-these input).short)
+  pub always_room : 8228 ≤ length out → length (text_of input) ≤ length out
+  always_room h = omega (arith, (only_these input).short)
 
   -- the answer is the input's, and the bytes that it says it wrote are the text of it
   module _ (room : length (text_of input) ≤ length out) where
-    gives_whole : written ≡ withText (answerFor input) (text_of input)
-    unfolding writtenFor
+    gives_whole : written ≡ with_text (answer_for input) (text_of input)
+    unfolding written_for
     gives_whole = allowed.0 ∙ chosen (dec_le (length (text_of input)) (length out)) _ _ room
 
     leaves : after ≡ text_of input ++ drop (length (text_of input)) out
-    unfolding textOut
+    unfolding text_out
     leaves = allowed.1 ∙ chosen (dec_le (length (text_of input)) (length out)) _ _ room
 
-    text-long : written.len ≡ length (text_of input)
-    text-long = ap (λ (w : Written). w.len) gives_whole
+    text_long : written.len ≡ length (text_of input)
+    text_long = ap (λ (w : Written). w.len) gives_whole
 
-    writes-text : take written.len after ≡ text_of input
-    writes-text = rw (leaves, text-long) (take_at (text_of input) (drop (length (text_of input)) out) (length (text_of input)) refl)
+    writes_text : take written.len after ≡ text_of input
+    writes_text = rw (leaves, text_long) (take_at (text_of input) (drop (length (text_of input)) out) (length (text_of input)) refl)
 
     -- the bytes after the text stay
-    pub later-bytes-stay : drop written.len after ≡ drop written.len out
-    later-bytes-stay = rw (leaves, text-long) (drop_at (text_of input) (drop (length (text_of input)) out) (length (text_of input)) refl)
+    pub later_bytes_stay : drop written.len after ≡ drop written.len out
+    later_bytes_stay = rw (leaves, text_long) (drop_at (text_of input) (drop (length (text_of input)) out) (length (text_of input)) refl)
 
-    gives-answer : written.answer ≡ answerFor input
-    gives-answer = ap (λ (w : Written). w.answer) gives_whole
+    gives_answer : written.answer ≡ answer_for input
+    gives_answer = ap (λ (w : Written). w.answer) gives_whole
 
     -- two masks that go together: 0, the table's route, the count and the rows of their composition
-    pub pair-is-composed : (self rank : List Bool) → WellFormed input self rank → length rank ≡ count self
-        → (written.answer ≡ answered Fine (compose self rank) (routeTaken self rank)) × (take written.len after ≡ lines 0 (routeTaken self rank) (count rank) (compose self rank))
-    pair-is-composed self rank w e = (gives-answer ∙ paired-answered input self rank w e, writes-text ∙ paired-told input self rank w e)
+    pub pair_is_composed : (self rank : List Bool) → WellFormed input self rank → length rank ≡ count self
+        → (written.answer ≡ answered Fine (compose self rank) (route_taken self rank)) × (take written.len after ≡ lines 0 (route_taken self rank) (count rank) (compose self rank))
+    pair_is_composed self rank w e = (gives_answer ∙ paired_answered input self rank w e, writes_text ∙ paired_told input self rank w e)
 
     -- two masks that do not: 7
-    pub other-pair-is-7 : (self rank : List Bool) → WellFormed input self rank → length rank ≢ count self
+    pub other_pair_is_7 : (self rank : List Bool) → WellFormed input self rank → length rank ≢ count self
         → (written.answer ≡ refused (refusal 7 0)) × (take written.len after ≡ lines 7 0 0 [])
-    other-pair-is-7 self rank w h = (gives-answer ∙ unpaired-answered input self rank w h, writes-text ∙ unpaired-told input self rank w h)
+    other_pair_is_7 self rank w h = (gives_answer ∙ unpaired_answered input self rank w h, writes_text ∙ unpaired_told input self rank w h)
 
     -- anything else: 13
-    pub anything-else-is-13 : ((self rank : List Bool) → ¬ WellFormed input self rank) → (written.answer ≡ refused (refusal 13 0)) × (take written.len after ≡ lines 13 0 0 [])
-    anything-else-is-13 h = (gives-answer ∙ ill-formed-answered input h, writes-text ∙ ill-formed-told input h)
+    pub anything_else_is_13 : ((self rank : List Bool) → ¬ WellFormed input self rank) → (written.answer ≡ refused (refusal 13 0)) × (take written.len after ≡ lines 13 0 0 [])
+    anything_else_is_13 h = (gives_answer ∙ ill_formed_answered input h, writes_text ∙ ill_formed_told input h)
 
     -- the program takes exactly the well formed inputs: 13 where there are no such masks, and there alone
-    pub thirteen-exactly : (written.answer.refusal.number ≡ 13) ↔ ((self rank : List Bool) → ¬ WellFormed input self rank)
-    thirteen-exactly = (λ e self rank w. told e self rank w (ℕ_discrete (length rank) (count self)), λ h. ap number (anything-else-is-13 h).0)
+    pub thirteen_exactly : (written.answer.refusal.number ≡ 13) ↔ ((self rank : List Bool) → ¬ WellFormed input self rank)
+    thirteen_exactly = (λ e self rank w. told e self rank w (ℕ_discrete (length rank) (count self)), λ h. ap number (anything_else_is_13 h).0)
       where
         number : Answer → ℕ
         number x = x.refusal.number
 
         told : written.answer.refusal.number ≡ 13 → (self rank : List Bool) → WellFormed input self rank → Dec (length rank ≡ count self) → ⊥
-        told e self rank w (yes p) = omega (arith, e, ap number (pair-is-composed self rank w p).0)
-        told e self rank w (no h) = omega (arith, e, ap number (other-pair-is-7 self rank w h).0)
+        told e self rank w (yes p) = omega (arith, e, ap number (pair_is_composed self rank w p).0)
+        told e self rank w (no h) = omega (arith, e, ap number (other_pair_is_7 self rank w h).0)
 
     -- and tells nothing else than 0, 7 or 13: in the answer, and in the first line
-    pub only-these-numbers : (written.answer.refusal.number ≡ 0) ⊎ (written.answer.refusal.number ≡ 7) ⊎ (written.answer.refusal.number ≡ 13)
-    only-these-numbers = rw gives-answer (only-these input).number
+    pub only_these_numbers : (written.answer.refusal.number ≡ 0) ⊎ (written.answer.refusal.number ≡ 7) ⊎ (written.answer.refusal.number ≡ 13)
+    only_these_numbers = rw gives_answer (only_these input).number
 
-    pub only-these-lines : let text = take written.len after in
+    pub only_these_lines : let text = take written.len after in
         (begins (ascii "refusal=0\n") text ≡ true) ⊎ (begins (ascii "refusal=7\n") text ≡ true) ⊎ (begins (ascii "refusal=13\n") text ≡ true)
-    only-these-lines = rw writes-text (only-these input).first-line
+    only_these_lines = rw writes_text (only_these input).first_line
 
   -- an output that is shorter than the text, and no other: 8, no text, and the output as it was
-  pub shorter-is-8 : (written.answer.refusal.number ≡ 8) ↔ (length out < length (text_of input))
-  shorter-is-8 = (λ e. (eight-exactly input (length out)).0 (sym (ap eight allowed.0) ∙ e), λ h. ap eight allowed.0 ∙ (eight-exactly input (length out)).1 h)
+  pub shorter_is_8 : (written.answer.refusal.number ≡ 8) ↔ (length out < length (text_of input))
+  shorter_is_8 = (λ e. (eight_exactly input (length out)).0 (sym (ap eight allowed.0) ∙ e), λ h. ap eight allowed.0 ∙ (eight_exactly input (length out)).1 h)
     where
       eight : Written → ℕ
       eight w = w.answer.refusal.number
 
-  pub shorter-is-untouched : length out < length (text_of input) → (written ≡ withText (refused (refusal 8 0)) []) × (after ≡ out)
-  shorter-is-untouched h = let n = no_room input out h in (allowed.0 ∙ n.0, allowed.1 ∙ n.1)
+  pub shorter_is_untouched : length out < length (text_of input) → (written ≡ with_text (refused (refusal 8 0)) []) × (after ≡ out)
+  shorter_is_untouched h = let n = no_room input out h in (allowed.0 ∙ n.0, allowed.1 ∙ n.1)

@@ -12,7 +12,7 @@ use borrow.Fn.Kinds.{Dens, res_t, ended_of}
 use denote.Triple.Clauses.{Lasts, at_exit}
 use Rattle.rows.specs.declared.Refusal.{Refusal}
 use Rattle.rows.specs.Lists.{select}
-use Rattle.rows.specs.Laid.{wordsFor}
+use Rattle.rows.specs.Laid.{words_for}
 use Rattle.rows.specs.Table.{refusal}
 use Rattle.rows.proofs.RecoverLaws.{FirstOutside}
 use Rattle.rules.specs.declared.Answer.{Answer}
@@ -23,13 +23,13 @@ use Rattle.rules.proofs.AnswerLaws.{Bare}
 use Rattle.rules.proofs.Writes.{bit_at, row, Writes}
 use Rattle.rules.proofs.Densities.{Nearest}
 use Rattle.rules.proofs.Compositions.{Accepts as Composes}
-use Rattle.rules.proofs.Recoveries.{Refuses, Accepts, recovered-refuses, recovered-accepts, recovered-refused, recovered-writes, recovered-count, outside-else, outside-first}
-use Rattle.rules.proofs.ThereAndBack.{Gives, asWords, recovered-composes, composed-recovers}
+use Rattle.rules.proofs.Recoveries.{Refuses, Accepts, recovered_refuses, recovered_accepts, recovered_refused, recovered_writes, recovered_count, outside_else, outside_first}
+use Rattle.rules.proofs.ThereAndBack.{Gives, as_words, recovered_composes, composed_recovers}
 use Rattle.intersect_by_rank.proofs.intersect_by_rank.Kinds as compose-kinds
 use Rattle.intersect_by_rank.proofs.intersect_by_rank.Reads as compose-reads
 use Rattle.recover.proofs.recover.Kinds as kinds
 use Rattle.recover.proofs.recover.Reads as reads
-use Rattle.claims.proofs.Densities.{written-nearest}
+use Rattle.claims.proofs.Densities.{written_nearest}
 
 -- ---- one call
 
@@ -51,51 +51,51 @@ module _ (κs : Lfts 5) (a : Dens κs kinds.ps) where
     gave = x
 
     -- each refusal, its number and its operand, exactly when the documents say, in their order
-    pub recovery-refuses-exactly : (r : Refusal) → zero < r.number → (gave.answer.refusal ≡ r) ↔ Refuses self other (length out) r
-    recovery-refuses-exactly = rw allowed.0 (recovered-refuses self other out)
+    pub recovery_refuses_exactly : (r : Refusal) → zero < r.number → (gave.answer.refusal ≡ r) ↔ Refuses self other (length out) r
+    recovery_refuses_exactly = rw allowed.0 (recovered_refuses self other out)
 
     -- accepted exactly otherwise
-    pub recovery-accepts-exactly : (gave.answer.refusal.number ≡ 0) ↔ Accepts self other (length out)
-    recovery-accepts-exactly = rw allowed.0 (recovered-accepts self other out)
+    pub recovery_accepts_exactly : (gave.answer.refusal.number ≡ 0) ↔ Accepts self other (length out)
+    recovery_accepts_exactly = rw allowed.0 (recovered_accepts self other out)
 
     -- a refusal changes no lent word, and reports count 0, route 0 and density 0.0
-    pub refused-recovery-changes-nothing : gave.answer.refusal.number ≢ 0 → (left v ≡ out) × Bare gave.answer
-    refused-recovery-changes-nothing = rw (allowed.0, allowed.1) (recovered-refused self other out)
+    pub refused_recovery_changes_nothing : gave.answer.refusal.number ≢ 0 → (left v ≡ out) × Bare gave.answer
+    refused_recovery_changes_nothing = rw (allowed.0, allowed.1) (recovered_refused self other out)
 
     -- the row told with 17 is in the second mask and not in self, and no earlier row is; in every other answer it is 0
-    pub outside-row-first : gave.answer.refusal ≡ refusal 17 0 → FirstOutside (rows_of self) (rows_of other) gave.outside.0
-    outside-row-first = rw allowed.0 (outside-first self other out)
+    pub outside_row_first : gave.answer.refusal ≡ refusal 17 0 → FirstOutside (rows_of self) (rows_of other) gave.outside.0
+    outside_row_first = rw allowed.0 (outside_first self other out)
 
-    pub outside-row-else : gave.answer.refusal.number ≢ 17 → gave.outside.0 ≡ 0
-    outside-row-else = rw allowed.0 (outside-else self other out)
+    pub outside_row_else : gave.answer.refusal.number ≢ 17 → gave.outside.0 ≡ 0
+    outside_row_else = rw allowed.0 (outside_else self other out)
 
     -- accepted: rank r as the r-th set row of self is kept, the count of the ranks written, route 0, the density, the tail and the later words
-    pub accepted-recovery-writes : Accepts self other (length out) → Writes (count_of self) (λ r. row other (select (rows_of self) r)) 0 gave.answer (left v) out
-    accepted-recovery-writes = rw (allowed.0, allowed.1) (recovered-writes self other out)
+    pub accepted_recovery_writes : Accepts self other (length out) → Writes (count_of self) (λ r. row other (select (rows_of self) r)) 0 gave.answer (left v) out
+    accepted_recovery_writes = rw (allowed.0, allowed.1) (recovered_writes self other out)
 
     -- the count told is the second mask's
-    pub accepted-recovery-count : Accepts self other (length out) → gave.answer.summary.count ≡ count_of other
-    accepted-recovery-count = rw allowed.0 (recovered-count self other out)
+    pub accepted_recovery_count : Accepts self other (length out) → gave.answer.summary.count ≡ count_of other
+    accepted_recovery_count = rw allowed.0 (recovered_count self other out)
 
     -- the density told is the value of the format nearest to the told count over self's count
-    pub accepted-recovery-density : Accepts self other (length out) → 0 < count_of self
+    pub accepted_recovery_density : Accepts self other (length out) → 0 < count_of self
         → Nearest gave.answer.summary.count (count_of self) gave.answer.summary.density
-    accepted-recovery-density t = written-nearest (accepted-recovery-writes t)
+    accepted_recovery_density t = written_nearest (accepted_recovery_writes t)
 
 -- ---- a call of composition
 
 module _ (κs : Lfts 5) (a : Dens κs compose-kinds.ps) where
-  abbrev pub composed-self : Operand
-  composed-self = lent a.0 a.1.0.now a.1.1.0.now
+  abbrev pub composed_self : Operand
+  composed_self = lent a.0 a.1.0.now a.1.1.0.now
 
-  abbrev pub rank-mask : Operand
-  rank-mask = lent a.1.1.1.0 a.1.1.1.1.0.now a.1.1.1.1.1.0.now
+  abbrev pub rank_mask : Operand
+  rank_mask = lent a.1.1.1.0 a.1.1.1.1.0.now a.1.1.1.1.1.0.now
 
-  abbrev pub composed-out : List ℕ
-  composed-out = a.1.1.1.1.1.1.0.now
+  abbrev pub composed_out_lem : List ℕ
+  composed_out_lem = a.1.1.1.1.1.1.0.now
 
-  abbrev pub composed-left : Lasts (ended_of 5 compose-kinds.ps compose-kinds.r) κs a → List ℕ
-  composed-left v = v.1.1.1.1.1.1.0
+  abbrev pub composed_left : Lasts (ended_of 5 compose-kinds.ps compose-kinds.r) κs a → List ℕ
+  composed_left v = v.1.1.1.1.1.1.0
 
 -- ---- there and back: a call of each, the second given what the first left, in words from the start on with the count that it told
 
@@ -110,16 +110,16 @@ module _ (κs : Lfts 5) (a : Dens κs kinds.ps) (x : (res_t kinds.r κs).Denot) 
   composed = y
 
   -- composing self with what was recovered gives the second mask back
-  pub there_and_back : Accepts (self κs a) (other κs a) (length (out κs a)) → wordsFor (length_of (self κs a).form) ≤ length (composed-out κt b)
-      → composed-self κt b ≡ self κs a → rank-mask κt b ≡ asWords (count_of (self κs a)) recovered.answer (left κs a v)
-      → Gives (other κs a) (length_of (self κs a).form) composed (composed-left κt b w)
+  pub there_and_back : Accepts (self κs a) (other κs a) (length (out κs a)) → words_for (length_of (self κs a).form) ≤ length (composed_out_lem κt b)
+      → composed_self κt b ≡ self κs a → rank_mask κt b ≡ as_words (count_of (self κs a)) recovered.answer (left κs a v)
+      → Gives (other κs a) (length_of (self κs a).form) composed (composed_left κt b w)
   there_and_back t room same mask =
-      rw (composes.0, composes.1, same, mask, allowed.0, allowed.1) (recovered-composes (self κs a) (other κs a) (out κs a) t published (composed-out κt b) room)
+      rw (composes.0, composes.1, same, mask, allowed.0, allowed.1) (recovered_composes (self κs a) (other κs a) (out κs a) t published (composed_out_lem κt b) room)
 
   -- recovering from what was composed gives the rank mask back
-  pub back-and-there : Composes (composed-self κt b) (rank-mask κt b) (length (composed-out κt b)) → wordsFor (count_of (composed-self κt b)) ≤ length (out κs a)
-      → self κs a ≡ composed-self κt b → other κs a ≡ asWords (length_of (composed-self κt b).form) composed (composed-left κt b w)
-      → Gives (rank-mask κt b) (count_of (composed-self κt b)) recovered.answer (left κs a v)
-  back-and-there t room same mask =
+  pub back_and_there : Composes (composed_self κt b) (rank_mask κt b) (length (composed_out_lem κt b)) → words_for (count_of (composed_self κt b)) ≤ length (out κs a)
+      → self κs a ≡ composed_self κt b → other κs a ≡ as_words (length_of (composed_self κt b).form) composed (composed_left κt b w)
+      → Gives (rank_mask κt b) (count_of (composed_self κt b)) recovered.answer (left κs a v)
+  back_and_there t room same mask =
       rw (allowed.0, allowed.1, same, mask, composes.0, composes.1)
-      (composed-recovers (composed-self κt b) (rank-mask κt b) published (composed-out κt b) t (out κs a) room)
+      (composed_recovers (composed_self κt b) (rank_mask κt b) published (composed_out_lem κt b) t (out κs a) room)

@@ -14,12 +14,12 @@ use Rattle.rows.proofs.RecoverLaws.{FirstOutside}
 use Rattle.rules.specs.declared.RecoveryState.{RecoveryState}
 use Rattle.rules.specs.declared.RecoveryFed.{RecoveryFed}
 use Rattle.rules.specs.Operand.{lent, in_words, rows_of, Accepted}
-use Rattle.rules.specs.RecoverStream.{Masks, masksOf, fresh, fed, fedOut, Run, after, run}
+use Rattle.rules.specs.RecoverStream.{Masks, masks_of, fresh, fed, fed_out, Run, after, run}
 use Rattle.rules.specs.Demand3.{joined, AllAccepted, taken}
 use Rattle.rules.specs.RecoverCut.{once, Pieces, Joins, Whole}
 use Rattle.rules.proofs.AnswerLaws.{Bare}
-use Rattle.rules.proofs.RecoverFeeds.{Bounded, Accepts, Refuses, Feeds, fed-refuses, fed-accepts, fed-refused, fed-bounded, fed-outside-first, fed-outside-else, fed-feeds}
-use Rattle.rules.proofs.RecoverCut.{forward, converse, converse-in-words}
+use Rattle.rules.proofs.RecoverFeeds.{Bounded, Accepts, Refuses, Feeds, fed_refuses, fed_accepts, fed_refused, fed_bounded, fed_outside_first, fed_outside_else, fed_feeds}
+use Rattle.rules.proofs.RecoverCut.{forward, converse, converse_in_words}
 use Rattle.recoverer.proofs.feed.Kinds as kinds
 use Rattle.recoverer.proofs.feed.Reads as reads
 
@@ -30,7 +30,7 @@ module _ (κs : Lfts 5) (a : Dens κs kinds.ps) where
   state = a.0
 
   abbrev pub masks : Masks
-  masks = masksOf (lent a.1.0 a.1.1.0.now a.1.1.1.0.now) (lent a.1.1.1.1.0 a.1.1.1.1.1.0.now a.1.1.1.1.1.1.0.now)
+  masks = masks_of (lent a.1.0 a.1.1.0.now a.1.1.1.0.now) (lent a.1.1.1.1.0 a.1.1.1.1.1.0.now a.1.1.1.1.1.1.0.now)
 
   abbrev pub out : List ℕ
   out = a.1.1.1.1.1.1.1.0.now
@@ -43,31 +43,31 @@ module _ (κs : Lfts 5) (a : Dens κs kinds.ps) where
     gave = x
 
     -- 10, each operand's number, 7, 11, 17 and 8, each exactly when the documents say, in their order
-    pub recovery-feed-refuses-exactly : (r : Refusal) → zero < r.number → (gave.answer.refusal ≡ r) ↔ Refuses state masks (length out) r
-    recovery-feed-refuses-exactly = rw allowed.0 (fed-refuses state masks out)
+    pub recovery_feed_refuses_exactly : (r : Refusal) → zero < r.number → (gave.answer.refusal ≡ r) ↔ Refuses state masks (length out) r
+    recovery_feed_refuses_exactly = rw allowed.0 (fed_refuses state masks out)
 
     -- accepted exactly otherwise
-    pub recovery-feed-accepts-exactly : (gave.answer.refusal.number ≡ 0) ↔ Accepts state masks (length out)
-    recovery-feed-accepts-exactly = rw allowed.0 (fed-accepts state masks out)
+    pub recovery_feed_accepts_exactly : (gave.answer.refusal.number ≡ 0) ↔ Accepts state masks (length out)
+    recovery_feed_accepts_exactly = rw allowed.0 (fed_accepts state masks out)
 
     -- a refusal hands the state back as given, changes no lent word, and reports count 0, route 0 and density 0.0
-    pub refused-recovery-feed-changes-nothing : gave.answer.refusal.number ≢ 0 → (gave.state ≡ state) × (left v ≡ out) × Bare gave.answer
-    refused-recovery-feed-changes-nothing = rw (allowed.0, allowed.1) (fed-refused state masks out)
+    pub refused_recovery_feed_changes_nothing : gave.answer.refusal.number ≢ 0 → (gave.state ≡ state) × (left v ≡ out) × Bare gave.answer
+    refused_recovery_feed_changes_nothing = rw (allowed.0, allowed.1) (fed_refused state masks out)
 
     -- the row told with 17 is the first of the piece outside self's; in every other answer it is 0
-    pub feed-outside-first : gave.answer.refusal.number ≡ 17 → FirstOutside (rows_of masks.self) (rows_of masks.kept) gave.outside.0
-    feed-outside-first = rw allowed.0 (fed-outside-first state masks out)
+    pub feed_outside_first : gave.answer.refusal.number ≡ 17 → FirstOutside (rows_of masks.self) (rows_of masks.kept) gave.outside.0
+    feed_outside_first = rw allowed.0 (fed_outside_first state masks out)
 
-    pub feed-outside-else : gave.answer.refusal.number ≢ 17 → gave.outside.0 ≡ 0
-    feed-outside-else = rw allowed.0 (fed-outside-else state masks out)
+    pub feed_outside_else : gave.answer.refusal.number ≢ 17 → gave.outside.0 ≡ 0
+    feed_outside_else = rw allowed.0 (fed_outside_else state masks out)
 
     -- accepted: the piece's ranks from ranks on and no other bit, its count, route and density, and the state moved
-    pub accepted-recovery-feed-writes : Accepts state masks (length out) → Feeds state masks gave (left v) out
-    accepted-recovery-feed-writes = rw (allowed.0, allowed.1) (fed-feeds state masks out)
+    pub accepted_recovery_feed_writes : Accepts state masks (length out) → Feeds state masks gave (left v) out
+    accepted_recovery_feed_writes = rw (allowed.0, allowed.1) (fed_feeds state masks out)
 
     -- and the state is within refusal 10's bound again
-    pub recovery-feed-keeps-bound : Accepts state masks (length out) → Bounded gave.state
-    recovery-feed-keeps-bound = rw allowed.0 (fed-bounded state masks out)
+    pub recovery_feed_keeps_bound : Accepts state masks (length out) → Bounded gave.state
+    recovery_feed_keeps_bound = rw allowed.0 (fed_bounded state masks out)
 
 -- ---- calls one after the other
 
@@ -77,14 +77,14 @@ pub record Call (st : RecoveryState) (m : Masks) (before : List ℕ) (gave : Rec
   pub args : Dens κs kinds.ps
   pub lasts : Lasts (ended_of 5 kinds.ps kinds.r) κs args
   pub allowed : reads.Post κs args gave (at_exit (ended_of 5 kinds.ps kinds.r) κs args lasts)
-  pub handed-state : state κs args ≡ st
-  pub handed-masks : masks κs args ≡ m
+  pub handed_state : state κs args ≡ st
+  pub handed_masks : masks κs args ≡ m
   pub handed_out : out κs args ≡ before
   pub leaves : left κs args lasts ≡ after
 
-pub call-is : (st : RecoveryState) (m : Masks) (before : List ℕ) (gave : RecoveryFed) (after : List ℕ) → Call st m before gave after
-    → (gave ≡ fed st m before) × (after ≡ fedOut st m before)
-call-is st m before gave after c = rw (← c.handed-state, ← c.handed-masks, ← c.handed_out, ← c.leaves) c.allowed
+pub call_is : (st : RecoveryState) (m : Masks) (before : List ℕ) (gave : RecoveryFed) (after : List ℕ) → Call st m before gave after
+    → (gave ≡ fed st m before) × (after ≡ fed_out st m before)
+call_is st m before gave after c = rw (← c.handed_state, ← c.handed_masks, ← c.handed_out, ← c.leaves) c.allowed
 
 -- calls that the contract allows, each handed the state that the one before gave back and the output as it left it; t is what came of them
 pub data Calls : RecoveryState → List ℕ → List Masks → Run → Type 1 where
@@ -93,23 +93,23 @@ pub data Calls : RecoveryState → List ℕ → List Masks → Run → Type 1 wh
       → Calls gave.state left ms t → Calls st before (m ∷ ms) (after gave.answer t)
 
 -- they are the run that the cut rule speaks of
-pub calls-run : {st : RecoveryState} {before : List ℕ} {ms : List Masks} {t : Run} → Calls st before ms t → t ≡ run st before ms
-calls-run (none st before) = refl
-calls-run (next st m before gave left ms t c cs) =
-    let is = call-is st m before gave left c in
-    rw (calls-run cs, is.0, is.1) refl
+pub calls_run : {st : RecoveryState} {before : List ℕ} {ms : List Masks} {t : Run} → Calls st before ms t → t ≡ run st before ms
+calls_run (none st before) = refl
+calls_run (next st m before gave left ms t c cs) =
+    let is = call_is st m before gave left c in
+    rw (calls_run cs, is.0, is.1) refl
 
 -- the cut rule: every feed is accepted, and ranks, summed counts and end state are the whole's
-pub recovered-pieces-are-the-whole : (whole : Masks) (before : List ℕ) (ms : List Masks) (t : Run) → Calls fresh before ms t
+pub recovered_pieces_are_the_whole : (whole : Masks) (before : List ℕ) (ms : List Masks) (t : Run) → Calls fresh before ms t
     → (once whole before).refusal.number ≡ 0 → Pieces ms → Joins whole ms → AllAccepted t.answers × Whole whole before t
-recovered-pieces-are-the-whole whole before ms t cs = rw (calls-run cs) (forward whole before ms)
+recovered_pieces_are_the_whole whole before ms t cs = rw (calls_run cs) (forward whole before ms)
 
 -- conversely, any feeds so run, refused ones between: the accepted ones' pieces joined are the whole
-pub accepted-recoveries-are-a-whole : (whole : Masks) (before : List ℕ) (ms : List Masks) (t : Run) → Calls fresh before ms t
+pub accepted_recoveries_are_a_whole : (whole : Masks) (before : List ℕ) (ms : List Masks) (t : Run) → Calls fresh before ms t
     → Accepted whole.self → Accepted whole.kept → Joins whole (taken ms t.answers) → Whole whole before t
-accepted-recoveries-are-a-whole whole before ms t cs = rw (calls-run cs) (converse whole before ms)
+accepted_recoveries_are_a_whole whole before ms t cs = rw (calls_run cs) (converse whole before ms)
 
 -- and there is such a whole: the accepted pieces joined, in words
-pub accepted-recoveries-joined : (before : List ℕ) (ms : List Masks) (t : Run) → Calls fresh before ms t
-    → let qs = taken ms t.answers in Whole (masksOf (in_words (joined (λ m. m.self) qs)) (in_words (joined (λ m. m.kept) qs))) before t
-accepted-recoveries-joined before ms t cs = rw (calls-run cs) (converse-in-words before ms)
+pub accepted_recoveries_joined : (before : List ℕ) (ms : List Masks) (t : Run) → Calls fresh before ms t
+    → let qs = taken ms t.answers in Whole (masks_of (in_words (joined (λ m. m.self) qs)) (in_words (joined (λ m. m.kept) qs))) before t
+accepted_recoveries_joined before ms t cs = rw (calls_run cs) (converse_in_words before ms)

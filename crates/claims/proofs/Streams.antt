@@ -13,23 +13,23 @@ use borrow.Fn.Kinds.{Dens, res_t, ended_of}
 use denote.Triple.Clauses.{Lasts, at_exit}
 use Rattle.rows.specs.declared.Refusal.{Refusal}
 use Rattle.rows.specs.Rows.{rank_at}
-use Rattle.rows.specs.Words.{bitsOfAll}
+use Rattle.rows.specs.Words.{bits_of_all}
 use Rattle.rules.specs.declared.State.{State}
 use Rattle.rules.specs.declared.Fed.{Fed}
 use Rattle.rules.specs.Operand.{lent, in_words, rows_of, Accepted}
 use Rattle.rules.specs.Route.{published}
-use Rattle.rules.specs.Stream.{Pair, pair_of, long, fresh, fed, fedOut, Run, after, run}
-use Rattle.rules.specs.Demand3.{once, onceOut, Pieces, joined, Joins, AllAccepted, taken, Whole}
+use Rattle.rules.specs.Stream.{Pair, pair_of, long, fresh, fed, fed_out, Run, after, run}
+use Rattle.rules.specs.Demand3.{once, once_out, Pieces, joined, Joins, AllAccepted, taken, Whole}
 use Rattle.rules.proofs.AnswerLaws.{Bare}
 use Rattle.rules.proofs.Writes.{bit_at, row}
-use Rattle.rules.proofs.Compositions.{composed-accepts, composed-row}
+use Rattle.rules.proofs.Compositions.{composed_accepts, composed_row}
 use Rattle.rules.proofs.StreamLaws.{Within, Accepts}
-use Rattle.rules.proofs.Feeds.{Refuses, Feeds, fed-refuses, fed-accepts, fed-refused, fed-within, fed-feeds}
+use Rattle.rules.proofs.Feeds.{Refuses, Feeds, fed_refuses, fed_accepts, fed_refused, fed_within, fed_feeds}
 use Rattle.rules.proofs.Densities.{Nearest}
-use Rattle.rules.proofs.Demand3.{forward, converse, converse-in-words}
+use Rattle.rules.proofs.Demand3.{forward, converse, converse_in_words}
 use Rattle.composer.proofs.feed.Kinds as kinds
 use Rattle.composer.proofs.feed.Reads as reads
-use Rattle.claims.proofs.Densities.{fed-nearest}
+use Rattle.claims.proofs.Densities.{fed_nearest}
 
 -- ---- one call
 
@@ -51,28 +51,28 @@ module _ (κs : Lfts 5) (a : Dens κs kinds.ps) where
     gave = x
 
     -- 10, each operand's number, 7, 11 and 8, each with its operand exactly when document 01 says, in its order
-    pub feed-refuses-exactly : (x : Refusal) → zero < x.number → (gave.answer.refusal ≡ x) ↔ Refuses state pair (length out) x
-    feed-refuses-exactly = rw allowed.0 (fed-refuses state pair out)
+    pub feed_refuses_exactly : (x : Refusal) → zero < x.number → (gave.answer.refusal ≡ x) ↔ Refuses state pair (length out) x
+    feed_refuses_exactly = rw allowed.0 (fed_refuses state pair out)
 
     -- accepted exactly otherwise
-    pub feed-accepts-exactly : (gave.answer.refusal.number ≡ 0) ↔ Accepts state pair (length out)
-    feed-accepts-exactly = rw allowed.0 (fed-accepts state pair out)
+    pub feed_accepts_exactly : (gave.answer.refusal.number ≡ 0) ↔ Accepts state pair (length out)
+    feed_accepts_exactly = rw allowed.0 (fed_accepts state pair out)
 
     -- a refusal hands the state back as given, changes no lent word, and reports count 0, route 0 and density 0.0
-    pub refused-feed-changes-nothing : gave.answer.refusal.number ≢ 0 → (gave.state ≡ state) × (left v ≡ out) × Bare gave.answer
-    refused-feed-changes-nothing = rw (allowed.0, allowed.1) (fed-refused state pair out)
+    pub refused_feed_changes_nothing : gave.answer.refusal.number ≢ 0 → (gave.state ≡ state) × (left v ≡ out) × Bare gave.answer
+    refused_feed_changes_nothing = rw (allowed.0, allowed.1) (fed_refused state pair out)
 
     -- accepted: the piece's rows from done on and no other bit, its count, route and density, and the state moved
-    pub accepted-feed-writes : Accepts state pair (length out) → Feeds state pair gave (left v) out
-    accepted-feed-writes = rw (allowed.0, allowed.1) (fed-feeds state pair out)
+    pub accepted_feed_writes : Accepts state pair (length out) → Feeds state pair gave (left v) out
+    accepted_feed_writes = rw (allowed.0, allowed.1) (fed_feeds state pair out)
 
     -- the density told is the value of the format nearest to the told count over the piece's length
-    pub accepted-feed-density : Accepts state pair (length out) → 0 < long pair → Nearest gave.answer.summary.count (long pair) gave.answer.summary.density
-    accepted-feed-density t = fed-nearest t (accepted-feed-writes t)
+    pub accepted_feed_density : Accepts state pair (length out) → 0 < long pair → Nearest gave.answer.summary.count (long pair) gave.answer.summary.density
+    accepted_feed_density t = fed_nearest t (accepted_feed_writes t)
 
     -- and the state is within refusal 10's bound again
-    pub feed-keeps-bound : Accepts state pair (length out) → Within gave.state
-    feed-keeps-bound = rw allowed.0 (fed-within state pair out)
+    pub feed_keeps_bound : Accepts state pair (length out) → Within gave.state
+    feed_keeps_bound = rw allowed.0 (fed_within state pair out)
 
 -- ---- calls one after the other
 
@@ -82,13 +82,13 @@ pub record Call (st : State) (p : Pair) (before : List ℕ) (gave : Fed) (after 
   pub args : Dens κs kinds.ps
   pub lasts : Lasts (ended_of 5 kinds.ps kinds.r) κs args
   pub allowed : reads.Post κs args gave (at_exit (ended_of 5 kinds.ps kinds.r) κs args lasts)
-  pub handed-state : state κs args ≡ st
-  pub handed-pair : pair κs args ≡ p
+  pub handed_state : state κs args ≡ st
+  pub handed_pair : pair κs args ≡ p
   pub handed_out : out κs args ≡ before
   pub leaves : left κs args lasts ≡ after
 
-pub call-is : (st : State) (p : Pair) (before : List ℕ) (gave : Fed) (after : List ℕ) → Call st p before gave after → (gave ≡ fed st p before) × (after ≡ fedOut st p before)
-call-is st p before gave after c = rw (← c.handed-state, ← c.handed-pair, ← c.handed_out, ← c.leaves) c.allowed
+pub call_is : (st : State) (p : Pair) (before : List ℕ) (gave : Fed) (after : List ℕ) → Call st p before gave after → (gave ≡ fed st p before) × (after ≡ fed_out st p before)
+call_is st p before gave after c = rw (← c.handed_state, ← c.handed_pair, ← c.handed_out, ← c.leaves) c.allowed
 
 -- calls that the contract allows, each handed the state that the one before gave back and the output as it left it; t is what came of them
 pub data Calls : State → List ℕ → List Pair → Run → Type 1 where
@@ -97,31 +97,31 @@ pub data Calls : State → List ℕ → List Pair → Run → Type 1 where
       → Calls st before (p ∷ ps) (after gave.answer t)
 
 -- they are the run that demand 3 speaks of
-pub calls-run : {st : State} {before : List ℕ} {ps : List Pair} {t : Run} → Calls st before ps t → t ≡ run st before ps
-calls-run (none st before) = refl
-calls-run (next st p before gave left ps t c cs) =
-    let is = call-is st p before gave left c in
-    rw (calls-run cs, is.0, is.1) refl
+pub calls_run : {st : State} {before : List ℕ} {ps : List Pair} {t : Run} → Calls st before ps t → t ≡ run st before ps
+calls_run (none st before) = refl
+calls_run (next st p before gave left ps t c cs) =
+    let is = call_is st p before gave left c in
+    rw (calls_run cs, is.0, is.1) refl
 
 -- demand 3: every feed is accepted, and rows, summed counts and end state are demand 2's for the whole
-pub pieces-are-the-whole : (whole : Pair) (before : List ℕ) (ps : List Pair) (t : Run) → Calls fresh before ps t → (once whole before).refusal.number ≡ 0 → Pieces ps → Joins whole ps
+pub pieces_are_the_whole : (whole : Pair) (before : List ℕ) (ps : List Pair) (t : Run) → Calls fresh before ps t → (once whole before).refusal.number ≡ 0 → Pieces ps → Joins whole ps
     → AllAccepted t.answers × Whole whole before t
-pieces-are-the-whole whole before ps t cs = rw (calls-run cs) (forward whole before ps)
+pieces_are_the_whole whole before ps t cs = rw (calls_run cs) (forward whole before ps)
 
 -- conversely, any feeds so run, refused ones between: the accepted ones' pieces joined are the whole
-pub accepted-pieces-are-a-whole : (whole : Pair) (before : List ℕ) (ps : List Pair) (t : Run) → Calls fresh before ps t → Accepted whole.self → Accepted whole.rank → Joins whole (taken ps t.answers)
+pub accepted_pieces_are_a_whole : (whole : Pair) (before : List ℕ) (ps : List Pair) (t : Run) → Calls fresh before ps t → Accepted whole.self → Accepted whole.rank → Joins whole (taken ps t.answers)
     → Whole whole before t
-accepted-pieces-are-a-whole whole before ps t cs = rw (calls-run cs) (converse whole before ps)
+accepted_pieces_are_a_whole whole before ps t cs = rw (calls_run cs) (converse whole before ps)
 
 -- and there is such a whole: the accepted pieces joined, in words
-pub accepted-pieces-joined : (before : List ℕ) (ps : List Pair) (t : Run) → Calls fresh before ps t
+pub accepted_pieces_joined : (before : List ℕ) (ps : List Pair) (t : Run) → Calls fresh before ps t
     → let qs = taken ps t.answers in Whole (pair_of (in_words (joined (λ p. p.self) qs)) (in_words (joined (λ p. p.rank) qs))) before t
-accepted-pieces-joined before ps t cs = rw (calls-run cs) (converse-in-words before ps)
+accepted_pieces_joined before ps t cs = rw (calls_run cs) (converse_in_words before ps)
 
 -- demand 2's rows: row i is set exactly if self has i and the rank mask has i's rank
-pub whole-row-exactly : (whole : Pair) (before : List ℕ) (t : Run) → Whole whole before t → (i : ℕ) → i < long whole
+pub whole_row_exactly : (whole : Pair) (before : List ℕ) (t : Run) → Whole whole before t → (i : ℕ) → i < long whole
     → (bit_at t.out i ≡ true) ↔ ((row whole.self i ≡ true) × (row whole.rank (rank_at (rows_of whole.self) i) ≡ true))
-whole-row-exactly w before t q i h =
-    let a = (composed-accepts w.self w.rank published before).0 q.accepted in
-    let same = sym (get_or-take (long w) (bitsOfAll 64 t.out) i false h) ∙ ap (λ (l : List Bool). get_or l i false) q.rows ∙ get_or-take (long w) (bitsOfAll 64 (onceOut w before)) i false h in
-    rw same (composed-row w.self w.rank before a i h)
+whole_row_exactly w before t q i h =
+    let a = (composed_accepts w.self w.rank published before).0 q.accepted in
+    let same = sym (get_or-take (long w) (bits_of_all 64 t.out) i false h) ∙ ap (λ (l : List Bool). get_or l i false) q.rows ∙ get_or-take (long w) (bits_of_all 64 (once_out w before)) i false h in
+    rw same (composed_row w.self w.rank before a i h)

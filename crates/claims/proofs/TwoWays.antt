@@ -11,9 +11,9 @@ use Rattle.word.proofs.inner.deposit_portable_loop.Reads as loop
 
 -- whatever the contract of the network choice allows and whatever that of the loop form allows, at the same source, mask and
 -- count, are the same word
-pub two-ways-agree : (κs : Lfts 0) (a : Dens κs network-kinds.ps) (x y : (res_t network-kinds.r κs).Denot)
+pub two_ways_agree : (κs : Lfts 0) (a : Dens κs network-kinds.ps) (x y : (res_t network-kinds.r κs).Denot)
     (v : Lasts (ended_of 0 network-kinds.ps network-kinds.r) κs a) (w : Lasts (ended_of 0 loop-kinds.ps loop-kinds.r) κs a)
     → network.Post κs a x (at_exit (ended_of 0 network-kinds.ps network-kinds.r) κs a v)
     → loop.Post κs a y (at_exit (ended_of 0 loop-kinds.ps loop-kinds.r) κs a w)
     → x ≡ y
-two-ways-agree κs a x y v w hx hy = hx ∙ sym hy
+two_ways_agree κs a x y v w hx hy = hx ∙ sym hy

@@ -15,13 +15,13 @@ use Rattle.rows.specs.declared.Read.{Read}
 use Rattle.rows.specs.declared.Refusal.{Refusal}
 use Rattle.rows.specs.declared.Selected.{Selected}
 use Rattle.rows.specs.Rows.{count, compose}
-use Rattle.rows.specs.Word.{testBit, bits_of, word_of}
-use Rattle.rows.specs.Words.{bitsOfAll}
+use Rattle.rows.specs.Word.{test_bit, bits_of, word_of}
+use Rattle.rows.specs.Words.{bits_of_all}
 use Rattle.rows.specs.Pdep.{pdep}
-use Rattle.rows.specs.Table.{refusal, noRefusal}
-use Rattle.rows.specs.WordAnswer.{depositAnswer, selectAnswer, readAnswer}
-use Rattle.rows.proofs.PdepLaws.{pdep-is}
-use Rattle.rows.proofs.Theorems.{deposit-refuses, deposit-refused, deposit-answers, Position, select-refuses, select-refused, select-answers, read-refuses, read-refused, read-answers, read-bit}
+use Rattle.rows.specs.Table.{refusal, no_refusal}
+use Rattle.rows.specs.WordAnswer.{deposit_answer, select_answer, read_answer}
+use Rattle.rows.proofs.PdepLaws.{pdep_is}
+use Rattle.rows.proofs.Theorems.{deposit_refuses, deposit_refused, deposit_answers, Position, select_refuses, select_refused, select_answers, read_refuses, read_refused, read_answers, read_bit}
 use Rattle.word.proofs.deposit.Kinds as deposit-kinds
 use Rattle.word.proofs.deposit.Reads as deposit
 use Rattle.word.proofs.select.Kinds as select-kinds
@@ -46,18 +46,18 @@ module _ (κs : Lfts 0) (a : Dens κs deposit-kinds.ps) (x : (res_t deposit-kind
   answer = x
 
   -- 4, and no other, exactly where the claimed count differs from the set bits in the mask word; then the whole answer is 4 and word 0
-  pub deposit-refuses-exactly : (y : Refusal) → zero < y.number → (answer.refusal ≡ y) ↔ ((y ≡ refusal 4 0) × (claimed ≢ count (bits_of 64 mask)))
-  deposit-refuses-exactly = rw allowed (deposit-refuses source mask claimed)
+  pub deposit_refuses_exactly : (y : Refusal) → zero < y.number → (answer.refusal ≡ y) ↔ ((y ≡ refusal 4 0) × (claimed ≢ count (bits_of 64 mask)))
+  deposit_refuses_exactly = rw allowed (deposit_refuses source mask claimed)
 
-  pub refused-deposit : claimed ≢ count (bits_of 64 mask) → answer ≡ depositAnswer (refusal 4 0) 0
-  refused-deposit h = allowed ∙ deposit-refused source mask claimed h
+  pub refused_deposit : claimed ≢ count (bits_of 64 mask) → answer ≡ deposit_answer (refusal 4 0) 0
+  refused_deposit h = allowed ∙ deposit_refused source mask claimed h
 
   -- and otherwise the published PDEP, which is composition of the mask's bits and the source's
-  pub deposit-is-pdep : claimed ≡ count (bits_of 64 mask) → answer ≡ depositAnswer noRefusal (pdep 64 source mask)
-  deposit-is-pdep h = allowed ∙ deposit-answers source mask claimed h
+  pub deposit_is_pdep : claimed ≡ count (bits_of 64 mask) → answer ≡ deposit_answer no_refusal (pdep 64 source mask)
+  deposit_is_pdep h = allowed ∙ deposit_answers source mask claimed h
 
-  pub deposit-composes : claimed ≡ count (bits_of 64 mask) → answer ≡ depositAnswer noRefusal (word_of (compose (bits_of 64 mask) (bits_of 64 source)))
-  deposit-composes h = deposit-is-pdep h ∙ ap (depositAnswer noRefusal) (pdep-is 64 source mask)
+  pub deposit_composes : claimed ≡ count (bits_of 64 mask) → answer ≡ deposit_answer no_refusal (word_of (compose (bits_of 64 mask) (bits_of 64 source)))
+  deposit_composes h = deposit_is_pdep h ∙ ap (deposit_answer no_refusal) (pdep_is 64 source mask)
 
 -- ---- select
 
@@ -73,15 +73,15 @@ module _ (κs : Lfts 0) (a : Dens κs select-kinds.ps) (x : (res_t select-kinds.
   selected = x
 
   -- 9, and no other, exactly where the rank is not below the word's set bits; then the whole answer is 9 and position 0
-  pub select-refuses-exactly : (y : Refusal) → zero < y.number → (selected.refusal ≡ y) ↔ ((y ≡ refusal 9 0) × (¬ (rank < count (bits_of 64 word))))
-  select-refuses-exactly = rw allowed (select-refuses word rank)
+  pub select_refuses_exactly : (y : Refusal) → zero < y.number → (selected.refusal ≡ y) ↔ ((y ≡ refusal 9 0) × (¬ (rank < count (bits_of 64 word))))
+  select_refuses_exactly = rw allowed (select_refuses word rank)
 
-  pub refused-select : ¬ (rank < count (bits_of 64 word)) → selected ≡ selectAnswer (refusal 9 0) 0
-  refused-select h = allowed ∙ select-refused word rank h
+  pub refused_select : ¬ (rank < count (bits_of 64 word)) → selected ≡ select_answer (refusal 9 0) 0
+  refused_select h = allowed ∙ select_refused word rank h
 
   -- and otherwise the position is in range, its bit is set, and exactly `rank` set bits stand below it
-  pub select-finds : rank < count (bits_of 64 word) → (p : ℕ) × (selected ≡ selectAnswer noRefusal p) × Position word rank p
-  select-finds h = let s = select-answers word rank h in (s.0, allowed ∙ s.1, s.2)
+  pub select_finds : rank < count (bits_of 64 word) → (p : ℕ) × (selected ≡ select_answer no_refusal p) × Position word rank p
+  select_finds h = let s = select_answers word rank h in (s.0, allowed ∙ s.1, s.2)
 
 -- ---- rank read
 
@@ -100,14 +100,14 @@ module _ (κs : Lfts 1) (a : Dens κs read-kinds.ps) (x : (res_t read-kinds.r κ
   read_word = x
 
   -- 2, and no other, exactly where start is over 63; then the whole answer is 2 and word 0
-  pub read-refuses-exactly : (y : Refusal) → zero < y.number → (read_word.refusal ≡ y) ↔ ((y ≡ refusal 2 0) × (¬ (start ≤ 63)))
-  read-refuses-exactly = rw allowed (read-refuses words start offset)
+  pub read_refuses_exactly : (y : Refusal) → zero < y.number → (read_word.refusal ≡ y) ↔ ((y ≡ refusal 2 0) × (¬ (start ≤ 63)))
+  read_refuses_exactly = rw allowed (read_refuses words start offset)
 
-  pub refused-read : ¬ (start ≤ 63) → read_word ≡ readAnswer (refusal 2 0) 0
-  refused-read h = allowed ∙ read-refused words start offset h
+  pub refused_read : ¬ (start ≤ 63) → read_word ≡ read_answer (refusal 2 0) 0
+  refused_read h = allowed ∙ read_refused words start offset h
 
   -- and otherwise bit k of the word is bit start+offset+k of the lent words, 0 past their end
-  pub read-bits : start ≤ 63 → (read_word.refusal ≡ noRefusal) × ((k : ℕ) → k < 64 → testBit read_word.word k ≡ get_or (bitsOfAll 64 words) (start + offset + k) false)
-  read-bits h =
-      let e = allowed ∙ read-answers words start offset h in
-      (ap (λ (r : Read). r.refusal) e, λ k l. ap (λ (r : Read). testBit r.word k) e ∙ read-bit words (start + offset) k l)
+  pub read_bits : start ≤ 63 → (read_word.refusal ≡ no_refusal) × ((k : ℕ) → k < 64 → test_bit read_word.word k ≡ get_or (bits_of_all 64 words) (start + offset + k) false)
+  read_bits h =
+      let e = allowed ∙ read_answers words start offset h in
+      (ap (λ (r : Read). r.refusal) e, λ k l. ap (λ (r : Read). test_bit r.word k) e ∙ read_bit words (start + offset) k l)

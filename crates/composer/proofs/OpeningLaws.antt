@@ -5,58 +5,58 @@ use mathlib.Core.Path.{◌≡◌, sym, ap, ◌∙◌}
 use mathlib.Core.List.{List, [], ◌∷◌}
 use Rattle.rows.specs.declared.Verdict.{Verdict}
 use Rattle.rows.specs.declared.Verdict.TheVariants.{Fine}
-use Rattle.rows.specs.Table.{Line, first, ifFine}
-use Rattle.rows.proofs.TableLaws.{fine-exactly, parts_first, parts_last, then-fine, then-then}
+use Rattle.rows.specs.Table.{Line, first, if_fine}
+use Rattle.rows.proofs.TableLaws.{fine_exactly, parts_first, parts_last, then_fine, then_then}
 use Rattle.rules.specs.declared.State.{State}
 use Rattle.rules.specs.Operand.{limit, length_of, count_of}
-use Rattle.rules.specs.Compose.{bothChecks}
-use Rattle.rules.specs.Stream.{Pair, long, stateChecks, pieceChecks, judged}
-use Rattle.operand.specs.Counts.{checkedOf}
-use Rattle.intersect_by_rank.specs.Judged.{judgedBoth}
+use Rattle.rules.specs.Compose.{both_checks}
+use Rattle.rules.specs.Stream.{Pair, long, state_checks, piece_checks, judged}
+use Rattle.operand.specs.Counts.{checked_of}
+use Rattle.intersect_by_rank.specs.Judged.{judged_both}
 use Rattle.intersect_by_rank.proofs.JudgeLaws.{same_after}
-use Rattle.operand.proofs.PairLaws.{both-counts}
+use Rattle.operand.proofs.PairLaws.{both_counts}
 use Rattle.composer.specs.Opened.{thereafter}
-use Rattle.rules.proofs.OperandLaws.{accepted-limit}
-use Rattle.rules.proofs.ComposeLaws.{both-met}
+use Rattle.rules.proofs.OperandLaws.{accepted_limit}
+use Rattle.rules.proofs.ComposeLaws.{both_met}
 
 module _ (st : State) (p : Pair) where
   -- what the state and then the operands say
   abbrev pub opening : Verdict
-  opening = ifFine (first (stateChecks st)) (first (bothChecks p.self p.rank)) (first (stateChecks st))
+  opening = if_fine (first (state_checks st)) (first (both_checks p.self p.rank)) (first (state_checks st))
 
   -- and what the lengths say
   abbrev pub lengths : ℕ → List Line
-  lengths room = pieceChecks (length_of p.rank.form) (count_of p.self) (st.done.0 + long p) room
+  lengths room = piece_checks (length_of p.rank.form) (count_of p.self) (st.done.0 + long p) room
 
   -- with any count of self's set rows
   abbrev pieces : ℕ → ℕ → List Line
-  pieces n room = pieceChecks (length_of p.rank.form) n (st.done.0 + long p) room
+  pieces n room = piece_checks (length_of p.rank.form) n (st.done.0 + long p) room
 
-  judged-parts : (room : ℕ) → judged st p room ≡ ifFine opening (first (lengths room)) opening
+  judged_parts : (room : ℕ) → judged st p room ≡ if_fine opening (first (lengths room)) opening
   unfolding judged
-  judged-parts room =
-      let both = bothChecks p.self p.rank in
-      parts_first (stateChecks st) both (lengths room ∷ [])
-      ∙ ap (λ (v : Verdict). ifFine (first (stateChecks st)) v (first (stateChecks st))) (parts_first both (lengths room) [] ∙ ap (λ (v : Verdict). ifFine (first both) v (first both)) (parts_last (lengths room)))
-      ∙ then-then (first (stateChecks st)) (first both) (first (lengths room))
+  judged_parts room =
+      let both = both_checks p.self p.rank in
+      parts_first (state_checks st) both (lengths room ∷ [])
+      ∙ ap (λ (v : Verdict). if_fine (first (state_checks st)) v (first (state_checks st))) (parts_first both (lengths room) [] ∙ ap (λ (v : Verdict). if_fine (first both) v (first both)) (parts_last (lengths room)))
+      ∙ then_then (first (state_checks st)) (first both) (first (lengths room))
 
   -- the count that self's checks told serves as its own: it is asked for only where they refused nothing
-  pub judged-after : (room : ℕ) → thereafter st (judgedBoth p.self p.rank) (long p) (length_of p.rank.form) room ≡ judged st p room
-  judged-after room =
-      same_after opening (first (pieces (checkedOf 1 p.self).count room)) (first (lengths room))
-      (λ e. ap (λ (n : ℕ). first (pieces n room)) (both-counts p.self p.rank (then-fine (first (stateChecks st)) (first (bothChecks p.self p.rank)) e).1).0)
-      ∙ sym (judged-parts room)
+  pub judged_after : (room : ℕ) → thereafter st (judged_both p.self p.rank) (long p) (length_of p.rank.form) room ≡ judged st p room
+  judged_after room =
+      same_after opening (first (pieces (checked_of 1 p.self).count room)) (first (lengths room))
+      (λ e. ap (λ (n : ℕ). first (pieces n room)) (both_counts p.self p.rank (then_fine (first (state_checks st)) (first (both_checks p.self p.rank)) e).1).0)
+      ∙ sym (judged_parts room)
 
   -- a feed that is accepted has both pieces accepted
-  pub judged-counts : (room : ℕ) → judged st p room ≡ Fine → ((checkedOf 1 p.self).count ≡ count_of p.self) × ((checkedOf 2 p.rank).count ≡ count_of p.rank)
-  judged-counts room e =
-      let begun = (then-fine opening (first (lengths room)) (sym (judged-parts room) ∙ e)).0 in
-      both-counts p.self p.rank (then-fine (first (stateChecks st)) (first (bothChecks p.self p.rank)) begun).1
+  pub judged_counts : (room : ℕ) → judged st p room ≡ Fine → ((checked_of 1 p.self).count ≡ count_of p.self) × ((checked_of 2 p.rank).count ≡ count_of p.rank)
+  judged_counts room e =
+      let begun = (then_fine opening (first (lengths room)) (sym (judged_parts room) ∙ e)).0 in
+      both_counts p.self p.rank (then_fine (first (state_checks st)) (first (both_checks p.self p.rank)) begun).1
 
   -- an operand whose checks refused nothing is within the limit
-  pub fine-short : first (bothChecks p.self p.rank) ≡ Fine → long p ≤ limit
-  fine-short e = accepted-limit p.self ((both-met p.self p.rank).0 ((fine-exactly _).0 e)).0
+  pub fine_short : first (both_checks p.self p.rank) ≡ Fine → long p ≤ limit
+  fine_short e = accepted_limit p.self ((both_met p.self p.rank).0 ((fine_exactly _).0 e)).0
 
 -- a state that is refused nothing is within the limit
-pub state-short : (st : State) → first (stateChecks st) ≡ Fine → st.done.0 ≤ limit
-state-short st e = let m = (fine-exactly (stateChecks st)).0 e in m.1.1.0
+pub state_short : (st : State) → first (state_checks st) ≡ Fine → st.done.0 ≤ limit
+state_short st e = let m = (fine_exactly (state_checks st)).0 e in m.1.1.0

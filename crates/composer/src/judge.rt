@@ -3,8 +3,8 @@ ghost use Rattle.std.specs.Prelude.{◌≡◌, ◌≤◌};
 ghost use Rattle.rows.specs.declared.Verdict.TheVariants.{Fine};
 ghost use Rattle.rows.specs.Table.{first};
 ghost use Rattle.rules.specs.Operand.{lent, limit};
-ghost use Rattle.rules.specs.Stream.{pair_of, stateChecks, pieceChecks, judged};
-ghost use Rattle.intersect_by_rank.specs.Judged.{judgedBy};
+ghost use Rattle.rules.specs.Stream.{pair_of, state_checks, piece_checks, judged};
+ghost use Rattle.intersect_by_rank.specs.Judged.{judged_by};
 ghost use Rattle.composer.specs.Opened.{thereafter};
 
 use super::Composer;
@@ -17,7 +17,7 @@ use rules::{Form, State};
 
 // The state is within refusal 10's bound.
 fn judge_state(state: State) -> Verdict
-    ensures { result ≡ first (stateChecks state) }
+    ensures { result ≡ first (state_checks state) }
 {
     let kept = at_most(10, state.kept, state.ranks.0);
     let ranks = at_most(10, state.ranks.0, state.done.0);
@@ -27,7 +27,7 @@ fn judge_state(state: State) -> Verdict
 
 // The rank piece is as long as the self piece has set rows; and where the piece would end is within the limit, and within the output.
 fn judge_lengths(ranks: u64, set: u64, end: u64, room: u64) -> Verdict
-    ensures { result ≡ first (pieceChecks ranks set end room) }
+    ensures { result ≡ first (piece_checks ranks set end room) }
 {
     let matched = equal(ranks, set);
     let limit = at_most(11, end, Composer::ROW_LIMIT);
@@ -59,7 +59,7 @@ pub fn judge(
     rrows: &[u32],
     room: u64,
 ) -> Judged
-    ensures { result ≡ judgedBy (judged state (pair_of (lent s swords.now srows.now) (lent r rwords.now rrows.now)) room)
+    ensures { result ≡ judged_by (judged state (pair_of (lent s swords.now srows.now) (lent r rwords.now rrows.now)) room)
         (lent s swords.now srows.now) (lent r rwords.now rrows.now) }
 {
     let both = judge_both(s, swords, srows, r, rwords, rrows);

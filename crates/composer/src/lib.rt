@@ -1,7 +1,9 @@
 // The stream composer: self and the rank mask in pieces, laid back piece by piece onto one output. Document 01, part 9.
+#![tactic(auto)]
+
 ghost use Rattle.std.specs.Prelude.{◌≡◌};
 ghost use Rattle.rules.specs.Operand.{lent};
-ghost use Rattle.rules.specs.Stream.{pair_of, fresh, fed, fedOut};
+ghost use Rattle.rules.specs.Stream.{pair_of, fresh, fed, fed_out};
 
 use judge::judge;
 use operand::inner::answers::refused;
@@ -44,7 +46,7 @@ pub fn feed(
     out: &mut [u64],
 ) -> Fed
     ensures { (result ≡ fed state (pair_of (lent s swords.now srows.now) (lent r rwords.now rrows.now)) out.old)
-        × (out.new ≡ fedOut state (pair_of (lent s swords.now srows.now) (lent r rwords.now rrows.now)) out.old) }
+        × (out.new ≡ fed_out state (pair_of (lent s swords.now srows.now) (lent r rwords.now rrows.now)) out.old) }
 {
     let judged = judge(state, s, swords, srows, r, rwords, rrows, out.len() as u64);
     let verdict = judged.verdict;

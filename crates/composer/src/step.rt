@@ -3,7 +3,7 @@ ghost use Rattle.std.specs.Prelude.{◌≡◌, ◌+◌, ◌≤◌, length};
 ghost use Rattle.rows.specs.declared.Verdict.TheVariants.{Fine};
 ghost use Rattle.rules.specs.Operand.{lent, limit};
 ghost use Rattle.operand.specs.Counts.{Counts};
-ghost use Rattle.rules.specs.Stream.{pair_of, state_of, judged, fedBy, outBy};
+ghost use Rattle.rules.specs.Stream.{pair_of, state_of, judged, fed_by, out_by};
 
 use intersect_by_rank::inner::lay::lay_composition;
 use operand::inner::counts::Counted;
@@ -39,8 +39,8 @@ pub fn step(
 ) -> Fed
     requires { (judged state (pair_of (lent s.form swords.now srows.now) (lent r.form rwords.now rrows.now)) (length out.old) ≡ Fine)
         × Counts s swords.now srows.now × Counts r rwords.now rrows.now }
-    ensures { (result ≡ fedBy Fine state (pair_of (lent s.form swords.now srows.now) (lent r.form rwords.now rrows.now)))
-        × (out.new ≡ outBy Fine state (pair_of (lent s.form swords.now srows.now) (lent r.form rwords.now rrows.now)) out.old) }
+    ensures { (result ≡ fed_by Fine state (pair_of (lent s.form swords.now srows.now) (lent r.form rwords.now rrows.now)))
+        × (out.new ≡ out_by Fine state (pair_of (lent s.form swords.now srows.now) (lent r.form rwords.now rrows.now)) out.old) }
 {
     let at = state.done.0;
     let form = s.form;

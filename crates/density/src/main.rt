@@ -1,8 +1,10 @@
 // Holds the whole-number tests that choose a route to the tests on the density that answers carry: at every length up to
 // 65,536 and at the counts around the place where a test turns.
+#![tactic(auto)]
+
 ghost use Rattle.std.specs.Prelude.{◌≡◌, ◌+◌, ◌≤◌, ◌<◌};
 ghost use Rattle.std.specs.Float.Ieee.{lt};
-ghost use Rattle.rules.specs.Answer.{densityOf};
+ghost use Rattle.rules.specs.Answer.{density_of};
 
 use libc::STDOUT_FILENO;
 use routes::inner::few;
@@ -17,7 +19,7 @@ struct Tally {
 // What `few` tests, which a route rests on, on the density that an answer carries, as the Rust tests a sixteenth.
 fn thin(bound: f64, count: u64, length: u64) -> bool
     requires { (count ≤ 1048576) × (length ≤ 1048576) }
-    ensures { result ≡ lt (densityOf count length) bound }
+    ensures { result ≡ lt (density_of count length) bound }
 {
     operand::inner::answers::density(count, length) < bound
 }

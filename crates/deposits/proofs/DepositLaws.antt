@@ -12,38 +12,38 @@ use lib.Seq.{take-take}
 use lib.Count.{ones}
 use Rattle.rows.specs.Rows.{count, compose}
 use Rattle.rows.specs.Word.{bits_of, word_of}
-use Rattle.rows.specs.Words.{Below, fit, bitsOfAll, view}
+use Rattle.rows.specs.Words.{Below, fit, bits_of_all, view}
 use Rattle.rows.specs.Lists.{tab}
 use Rattle.rows.specs.Pdep.{pdep}
 use Rattle.rows.specs.Laid.{laid}
-use Rattle.rows.proofs.RowLaws.{count-append, count-le-length, compose-length}
-use Rattle.rows.proofs.WordLaws.{ones-word}
-use Rattle.rows.proofs.WordsLaws.{fit_length, fit_all, bitsOf-wordOf-fit, view-length}
-use Rattle.rows.proofs.FitLaws.{fit-is-take, take-fit, compose-split, compose-take, compose-fit, compose-cut, view-step}
-use Rattle.rows.proofs.PdepLaws.{pdep-is}
-use Rattle.rows.proofs.LaidLaws.{laid_nil, laid-length, laid-append}
-use Rattle.books.proofs.GatherLaws.{tab-part}
+use Rattle.rows.proofs.RowLaws.{count_append, count_le_length, compose_length}
+use Rattle.rows.proofs.WordLaws.{ones_word}
+use Rattle.rows.proofs.WordsLaws.{fit_length, fit_all, bits_of_word_of_fit, view_length}
+use Rattle.rows.proofs.FitLaws.{fit_is_take, take_fit, compose_split, compose_take, compose_fit, compose_cut, view_step}
+use Rattle.rows.proofs.PdepLaws.{pdep_is}
+use Rattle.rows.proofs.LaidLaws.{laid_nil, laid_length, laid_append}
+use Rattle.books.proofs.GatherLaws.{tab_part}
 
 -- t is a chunk of n rows, r the ranks from its first on, and the source has as many of them as t sets
-deposited-chunk : (n source : ℕ) (t r : List Bool) → length t ≡ n → n ≤ 64 → compose t (bits_of 64 source) ≡ compose t r → bits_of n (pdep 64 source (word_of t)) ≡ compose t r
-deposited-chunk n source t r long short same =
+deposited_chunk : (n source : ℕ) (t r : List Bool) → length t ≡ n → n ≤ 64 → compose t (bits_of 64 source) ≡ compose t r → bits_of n (pdep 64 source (word_of t)) ≡ compose t r
+deposited_chunk n source t r long short same =
     let c = compose (bits_of 64 (word_of t)) (bits_of 64 source) in
-    let size : length c ≡ 64 = compose-length (bits_of 64 (word_of t)) (bits_of 64 source) ∙ ap length (bitsOf-wordOf-fit 64 t) ∙ fit_length 64 t in
-    ap (bits_of n) (pdep-is 64 source (word_of t)) ∙ bitsOf-wordOf-fit n c ∙ fit-is-take n c (omega arith) ∙ compose-take n (bits_of 64 (word_of t)) (bits_of 64 source)
-    ∙ ap (λ (s : List Bool). compose s (bits_of 64 source)) (ap (take n) (bitsOf-wordOf-fit 64 t) ∙ take-fit n 64 t short ∙ fit_all n t long) ∙ same
+    let size : length c ≡ 64 = compose_length (bits_of 64 (word_of t)) (bits_of 64 source) ∙ ap length (bits_of_word_of_fit 64 t) ∙ fit_length 64 t in
+    ap (bits_of n) (pdep_is 64 source (word_of t)) ∙ bits_of_word_of_fit n c ∙ fit_is_take n c (omega arith) ∙ compose_take n (bits_of 64 (word_of t)) (bits_of 64 source)
+    ∙ ap (λ (s : List Bool). compose s (bits_of 64 source)) (ap (take n) (bits_of_word_of_fit 64 t) ∙ take_fit n 64 t short ∙ fit_all n t long) ∙ same
 
 -- rank bits read from a rank on
 pub read_same : (t r : List Bool) → length t ≤ 64 → compose t (bits_of 64 (word_of (fit 64 r))) ≡ compose t r
 read_same t r short =
-    ap (compose t) (bitsOf-wordOf-fit 64 (fit 64 r) ∙ fit_all 64 (fit 64 r) (fit_length 64 r)) ∙ compose-fit 64 t r (omega (arith, count-le-length t))
+    ap (compose t) (bits_of_word_of_fit 64 (fit 64 r) ∙ fit_all 64 (fit 64 r) (fit_length 64 r)) ∙ compose_fit 64 t r (omega (arith, count_le_length t))
 
 -- how many rows a chunk has, by the rows that are left
-pub chunk-sized : (n row len : ℕ) → row < len → n ≡ min 64 (len - row) → (0 < n) × (n ≤ 64) × (row + n ≤ len)
-chunk-sized n row len h e = (omega arith, omega arith, omega arith)
+pub chunk_sized : (n row len : ℕ) → row < len → n ≡ min 64 (len - row) → (0 < n) × (n ≤ 64) × (row + n ≤ len)
+chunk_sized n row len h e = (omega arith, omega arith, omega arith)
 
 -- a chunk has no more set rows than rows
-pub chunk-few : (n : ℕ) (bs : List Bool) → ones (word_of (fit n bs)) ≤ n
-chunk-few n bs = omega (arith, ones-word (fit n bs), count-le-length (fit n bs), fit_length n bs)
+pub chunk_few : (n : ℕ) (bs : List Bool) → ones (word_of (fit n bs)) ≤ n
+chunk_few n bs = omega (arith, ones_word (fit n bs), count_le_length (fit n bs), fit_length n bs)
 
 -- the rows before `row` are laid from a first rank on: the rank after them, and the words of the output
 pub record Deposited (start at first : ℕ) (ws out₀ : List ℕ) (r : List Bool) (row rank : ℕ) (out : List ℕ) : Type 0 where
@@ -52,8 +52,8 @@ pub record Deposited (start at first : ℕ) (ws out₀ : List ℕ) (r : List Boo
   pub long : length out ≡ length out₀
   pub composed : out ≡ laid at (compose (view start row ws) r) out₀
 
-pub deposited-none : (start at first : ℕ) (ws out : List ℕ) (r : List Bool) → Below (2 ^ 64) out → Deposited start at first ws out r 0 first out
-deposited-none start at first ws out r b =
+pub deposited_none : (start at first : ℕ) (ws out : List ℕ) (r : List Bool) → Below (2 ^ 64) out → Deposited start at first ws out r 0 first out
+deposited_none start at first ws out r b =
     record { few = omega arith; counted = sym (add-zero first); long = refl; composed = sym (laid_nil 64 at out b) }
 
 module _ (start row n at : ℕ) (ws out : List ℕ) (r : List Bool) (reach : start + row + n ≤ length ws * 64) where
@@ -61,54 +61,54 @@ module _ (start row n at : ℕ) (ws out : List ℕ) (r : List Bool) (reach : sta
   done = view start row ws
 
   abbrev next : List Bool
-  next = fit n (drop (start + row) (bitsOfAll 64 ws))
+  next = fit n (drop (start + row) (bits_of_all 64 ws))
 
   -- the rank after the chunk
-  pub rank-turn : count (view start (row + n) ws) ≡ count (view start row ws) + ones (word_of (fit n (drop (start + row) (bitsOfAll 64 ws))))
-  rank-turn = ap count (view-step start row n ws reach) ∙ count-append done next ∙ ap (λ (k : ℕ). count done + k) (sym (ones-word next))
+  pub rank_turn : count (view start (row + n) ws) ≡ count (view start row ws) + ones (word_of (fit n (drop (start + row) (bits_of_all 64 ws))))
+  rank_turn = ap count (view_step start row n ws reach) ∙ count_append done next ∙ ap (λ (k : ℕ). count done + k) (sym (ones_word next))
 
   -- the chunk laid after what was laid before
-  pub laid-turn : laid (at + row) (compose next (drop (count done) r)) (laid at (compose done r) out) ≡ laid at (compose (view start (row + n) ws) r) out
-  laid-turn =
-      laid-append 64 at (at + row) (compose done r) (compose next (drop (count done) r)) out
-      (ap (λ (k : ℕ). at + k) (sym (compose-length done r ∙ view-length start row ws (omega arith))))
-      ∙ ap (λ (l : List Bool). laid at l out) (sym (ap (λ (s : List Bool). compose s r) (view-step start row n ws reach) ∙ compose-split done next r))
+  pub laid_turn : laid (at + row) (compose next (drop (count done) r)) (laid at (compose done r) out) ≡ laid at (compose (view start (row + n) ws) r) out
+  laid_turn =
+      laid_append 64 at (at + row) (compose done r) (compose next (drop (count done) r)) out
+      (ap (λ (k : ℕ). at + k) (sym (compose_length done r ∙ view_length start row ws (omega arith))))
+      ∙ ap (λ (l : List Bool). laid at l out) (sym (ap (λ (s : List Bool). compose s r) (view_step start row n ws reach) ∙ compose_split done next r))
 
   -- its deposit, laid after what was laid before
-  pub chunk-turn : n ≤ 64 → (source : ℕ)
-      → compose (fit n (drop (start + row) (bitsOfAll 64 ws))) (bits_of 64 source) ≡ compose (fit n (drop (start + row) (bitsOfAll 64 ws))) (drop (count (view start row ws)) r)
-      → laid (at + row) (bits_of n (pdep 64 source (word_of (fit n (drop (start + row) (bitsOfAll 64 ws)))))) (laid at (compose (view start row ws) r) out)
+  pub chunk_turn : n ≤ 64 → (source : ℕ)
+      → compose (fit n (drop (start + row) (bits_of_all 64 ws))) (bits_of 64 source) ≡ compose (fit n (drop (start + row) (bits_of_all 64 ws))) (drop (count (view start row ws)) r)
+      → laid (at + row) (bits_of n (pdep 64 source (word_of (fit n (drop (start + row) (bits_of_all 64 ws)))))) (laid at (compose (view start row ws) r) out)
       ≡ laid at (compose (view start (row + n) ws) r) out
-  chunk-turn short source same =
-      ap (λ (l : List Bool). laid (at + row) l (laid at (compose done r) out)) (deposited-chunk n source next (drop (count done) r) (fit_length n (drop (start + row) (bitsOfAll 64 ws))) short same)
-      ∙ laid-turn
+  chunk_turn short source same =
+      ap (λ (l : List Bool). laid (at + row) l (laid at (compose done r) out)) (deposited_chunk n source next (drop (count done) r) (fit_length n (drop (start + row) (bits_of_all 64 ws))) short same)
+      ∙ laid_turn
 
   -- one chunk more
-  pub deposited-turn : n ≤ 64 → (first rank mask source : ℕ) (o then : List ℕ) → Deposited start at first ws out r row rank o
+  pub deposited_turn : n ≤ 64 → (first rank mask source : ℕ) (o then : List ℕ) → Deposited start at first ws out r row rank o
       → mask ≡ word_of next
       → compose next (bits_of 64 source) ≡ compose next (drop (count done) r)
       → then ≡ laid (at + row) (bits_of n (pdep 64 source mask)) o → Deposited start at first ws out r (row + n) (rank + ones mask) then
-  deposited-turn short first rank mask source o then d m same e =
+  deposited_turn short first rank mask source o then d m same e =
       let on : then ≡ laid at (compose (view start (row + n) ws) r) out =
-      e ∙ ap₂ (λ (x : ℕ) (l : List ℕ). laid (at + row) (bits_of n (pdep 64 source x)) l) m d.composed ∙ chunk-turn short source same in
+      e ∙ ap₂ (λ (x : ℕ) (l : List ℕ). laid (at + row) (bits_of n (pdep 64 source x)) l) m d.composed ∙ chunk_turn short source same in
       record {
-        few = omega (arith, d.few, ap ones m, chunk-few n (drop (start + row) (bitsOfAll 64 ws)));
+        few = omega (arith, d.few, ap ones m, chunk_few n (drop (start + row) (bits_of_all 64 ws)));
         counted = ap₂ (λ (x y : ℕ). x + ones y) d.counted m ∙ add_assoc first (count done) (ones (word_of next))
-            ∙ ap (λ (k : ℕ). first + k) (sym rank-turn);
-        long = ap length on ∙ laid-length 64 at (compose (view start (row + n) ws) r) out;
+            ∙ ap (λ (k : ℕ). first + k) (sym rank_turn);
+        long = ap length on ∙ laid_length 64 at (compose (view start (row + n) ws) r) out;
         composed = on;
       }
 
 -- rank bits gathered from a list or from runs: those of a part of the ranks, as many as the chunk sets
-pub gathered-same : (t : List Bool) (rank len : ℕ) (f : ℕ → Bool) → length t ≤ 64 → rank + count t ≤ len
+pub gathered_same : (t : List Bool) (rank len : ℕ) (f : ℕ → Bool) → length t ≤ 64 → rank + count t ≤ len
     → compose t (bits_of 64 (word_of (tab rank (count t) f))) ≡ compose t (drop rank (tab 0 len f))
-gathered-same t rank len f short room =
+gathered_same t rank len f short room =
     let part = take (count t) (drop rank (tab 0 len f)) in
-    ap (λ (l : List Bool). compose t (bits_of 64 (word_of l))) (sym (tab-part 0 len rank (count t) f room ∙ ap (λ (k : ℕ). tab k (count t) f) (zero-add rank)))
-    ∙ ap (compose t) (bitsOf-wordOf-fit 64 part) ∙ compose-fit 64 t part (omega (arith, count-le-length t)) ∙ compose-cut (count t) t (drop rank (tab 0 len f)) (omega arith)
+    ap (λ (l : List Bool). compose t (bits_of 64 (word_of l))) (sym (tab_part 0 len rank (count t) f room ∙ ap (λ (k : ℕ). tab k (count t) f) (zero-add rank)))
+    ∙ ap (compose t) (bits_of_word_of_fit 64 part) ∙ compose_fit 64 t part (omega (arith, count_le_length t)) ∙ compose_cut (count t) t (drop rank (tab 0 len f)) (omega arith)
 
 -- what is passed has no more set rows than all
-pub rank-within : (start row len : ℕ) (ws : List ℕ) → row ≤ len → count (view start row ws) ≤ count (view start len ws)
-rank-within start row len ws h =
-    let bs = drop start (bitsOfAll 64 ws) in
-    omega (arith, ap count (sym (take-take row len bs h)), count-append (take row (take len bs)) (drop row (take len bs)), ap count (take-append-drop row (take len bs)))
+pub rank_within : (start row len : ℕ) (ws : List ℕ) → row ≤ len → count (view start row ws) ≤ count (view start len ws)
+rank_within start row len ws h =
+    let bs = drop start (bits_of_all 64 ws) in
+    omega (arith, ap count (sym (take-take row len bs h)), count_append (take row (take len bs)) (drop row (take len bs)), ap count (take-append-drop row (take len bs)))

@@ -4,7 +4,7 @@ ghost use Rattle.std.specs.Prelude.{◌≡◌, ◌+◌, ◌*◌, ◌^◌, ◌≤
 ghost use Rattle.std.specs.Int.Count.{ones};
 ghost use Rattle.rows.specs.Rows.{count, compose};
 ghost use Rattle.rows.specs.Word.{bits_of};
-ghost use Rattle.rows.specs.Words.{bitsOfAll, view};
+ghost use Rattle.rows.specs.Words.{bits_of_all, view};
 ghost use Rattle.rows.specs.Lists.{listed};
 ghost use Rattle.rows.specs.Pdep.{pdep};
 ghost use Rattle.rows.specs.Laid.{laid};
@@ -56,7 +56,7 @@ pub fn read_chunks(
     out: &mut [u64],
 )
     requires { (len ≤ 1048576) × (start + len ≤ length words.now * 64) × (from + first.0 ≤ 1048639) × Room at len out.old }
-    ensures { out.new ≡ laid at (compose (view start len words.now) (drop first.0 (drop from (bitsOfAll 64 ranks.now)))) out.old }
+    ensures { out.new ≡ laid at (compose (view start len words.now) (drop first.0 (drop from (bits_of_all 64 ranks.now)))) out.old }
 {
     let mut row = Row(0);
     let mut rank = first;

@@ -1,7 +1,7 @@
 // The kernels of routes 7 to 10, with one promise: the composition is laid from bit at on.
 ghost use Rattle.std.specs.Prelude.{◌≡◌, ◌≤◌, drop};
 ghost use Rattle.rows.specs.Rows.{count, compose};
-ghost use Rattle.rows.specs.Words.{bitsOfAll, view};
+ghost use Rattle.rows.specs.Words.{bits_of_all, view};
 ghost use Rattle.rows.specs.Lists.{listed, Ascending};
 ghost use Rattle.rows.specs.Laid.{laid};
 ghost use Rattle.rows.specs.Asks.{Room, InView};
@@ -58,7 +58,7 @@ pub fn intersect_bit_buffers(
     out: &mut [u64],
 )
     requires { InView start len words.now × (from ≤ 63) × Room at len out.old }
-    ensures { out.new ≡ laid at (compose (view start len words.now) (drop from (bitsOfAll 64 ranks.now))) out.old }
+    ensures { out.new ≡ laid at (compose (view start len words.now) (drop from (bits_of_all 64 ranks.now))) out.old }
 {
     if at % 64 != 0 {
         read_chunks(way, words, start, len, ranks, from, Rank(0), at, out);

@@ -2,7 +2,7 @@
 // left for the chunk loops.
 ghost use Rattle.std.specs.Prelude.{◌≡◌, ◌+◌, ◌*◌, ◌≤◌, length, drop};
 ghost use Rattle.rows.specs.Rows.{count, compose};
-ghost use Rattle.rows.specs.Words.{bitsOfAll, view};
+ghost use Rattle.rows.specs.Words.{bits_of_all, view};
 ghost use Rattle.rows.specs.Lists.{listed};
 ghost use Rattle.rows.specs.Laid.{laid};
 ghost use Rattle.rows.specs.Asks.{InView};
@@ -26,7 +26,7 @@ pub fn read_words(
 ) -> Rank
     requires { InView start (n * 64) words.now × (from ≤ 63) × (to + n ≤ length out.old) }
     ensures { (result.0 ≡ count (view start (n * 64) words.now))
-        × (out.new ≡ laid (to * 64) (compose (view start (n * 64) words.now) (drop from (bitsOfAll 64 ranks.now))) out.old) }
+        × (out.new ≡ laid (to * 64) (compose (view start (n * 64) words.now) (drop from (bits_of_all 64 ranks.now))) out.old) }
 {
     let mut i: usize = 0;
     let mut rank = Rank(0);

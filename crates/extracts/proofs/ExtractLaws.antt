@@ -13,20 +13,20 @@ use Rattle.rows.specs.Word.{bits_of, word_of}
 use Rattle.rows.specs.Words.{Below, fit}
 use Rattle.rows.specs.Pdep.{pext}
 use Rattle.rows.specs.Laid.{laid}
-use Rattle.rows.proofs.RowLaws.{count-append, count-split}
-use Rattle.rows.proofs.WordLaws.{bitsOf-length, bitsOf-add, bitsOf-wordOf-at, ones-word}
-use Rattle.rows.proofs.WordsLaws.{bitsOf-wordOf-fit}
+use Rattle.rows.proofs.RowLaws.{count_append, count_split}
+use Rattle.rows.proofs.WordLaws.{bits_of_length, bits_of_add, bits_of_word_of_at, ones_word}
+use Rattle.rows.proofs.WordsLaws.{bits_of_word_of_fit}
 use Rattle.rows.proofs.FitLaws.{fit_append}
-use Rattle.rows.proofs.PdepLaws.{pext-is}
-use Rattle.rows.proofs.RecoverLaws.{recover-length, recover-append}
+use Rattle.rows.proofs.PdepLaws.{pext_is}
+use Rattle.rows.proofs.RecoverLaws.{recover_length, recover_append}
 use Rattle.extracts.specs.Stored.{Stored}
-use Rattle.extracts.proofs.OpenLaws.{Open, open_none, open-part, open-as, open-end}
+use Rattle.extracts.proofs.OpenLaws.{Open, open_none, open_part, open_as, open_end}
 
 -- a word has its rows, and unset ones above them
 padded : (w : ℕ) (s : List Bool) → length s ≤ w → bits_of w (word_of s) ≡ s ++ fit (w - length s) []
 padded w s h =
     let e : length s + (w - length s) ≡ w = omega arith in
-    bitsOf-wordOf-fit w s ∙ ap₂ fit (sym e) (sym (append-nil s)) ∙ fit_append s [] (w - length s)
+    bits_of_word_of_fit w s ∙ ap₂ fit (sym e) (sym (append-nil s)) ∙ fit_append s [] (w - length s)
 
 nothing : (n : ℕ) (k : List Bool) → recover (fit n []) k ≡ []
 nothing zero k = refl
@@ -34,17 +34,17 @@ nothing (suc n) [] = nothing n []
 nothing (suc n) (x ∷ k) = nothing n k
 
 -- the extracted word of a chunk is its ranks
-pub chunk-ranks : (s k : List Bool) → length k ≡ length s → length s ≤ 64 → bits_of (ones (word_of s)) (pext 64 (word_of k) (word_of s)) ≡ recover s k
-chunk-ranks s k e h =
+pub chunk_ranks : (s k : List Bool) → length k ≡ length s → length s ≤ 64 → bits_of (ones (word_of s)) (pext 64 (word_of k) (word_of s)) ≡ recover s k
+chunk_ranks s k e h =
     let above = fit (64 - length s) [] in
     let is : pext 64 (word_of k) (word_of s) ≡ word_of (recover s k) =
-    pext-is 64 (word_of k) (word_of s)
+    pext_is 64 (word_of k) (word_of s)
     ∙ ap word_of
     (ap₂ recover (padded 64 s h) (padded 64 k (omega arith))
-    ∙ recover-append s above k (fit (64 - length k) []) e
+    ∙ recover_append s above k (fit (64 - length k) []) e
     ∙ ap (λ (l : List Bool). recover s k ++ l) (nothing (64 - length s) (fit (64 - length k) []))
     ∙ append-nil (recover s k)) in
-    ap₂ bits_of (ones-word s) is ∙ bitsOf-wordOf-at (count s) (recover s k) (recover-length s k)
+    ap₂ bits_of (ones_word s) is ∙ bits_of_word_of_at (count s) (recover s k) (recover_length s k)
 
 -- ---- what a loop keeps that lays the ranks of the rows before `row`
 
@@ -53,17 +53,17 @@ module _ (s k : List Bool) (at : ℕ) where
     pub ranked : rank ≡ rank_at s row
     pub progress : Open (recover s k) at rank (recover (drop row s) (drop row k)) out₀ out
 
-  pub extracting-none : (out : List ℕ) → Below (2 ^ 64) out → at + count s ≤ length out * 64 → Extracting 0 0 out out
-  extracting-none out small room =
-      record { ranked = refl; progress = open_none (recover s k) at out small (omega (arith, recover-length s k, room)) }
+  pub extracting_none : (out : List ℕ) → Below (2 ^ 64) out → at + count s ≤ length out * 64 → Extracting 0 0 out out
+  extracting_none out small room =
+      record { ranked = refl; progress = open_none (recover s k) at out small (omega (arith, recover_length s k, room)) }
 
   module _ (same : length k ≡ length s) (row rank : ℕ) (out₀ out : List ℕ) (r : Extracting row rank out₀ out) where
     -- what is known of the output's room
-    pub extracting-room : (n : ℕ) → rank + count (take n (drop row s)) ≤ count s
-    extracting-room n =
+    pub extracting_room : (n : ℕ) → rank + count (take n (drop row s)) ≤ count s
+    extracting_room n =
         let all : count s ≡ count (take (row + n) s) + count (drop (row + n) s) =
-        ap count (sym (take-append-drop (row + n) s)) ∙ count-append (take (row + n) s) (drop (row + n) s) in
-        omega (arith, all, count-split row n s, r.ranked)
+        ap count (sym (take-append-drop (row + n) s)) ∙ count_append (take (row + n) s) (drop (row + n) s) in
+        omega (arith, all, count_split row n s, r.ranked)
 
     -- n rows more, or as many as there are: their ranks are stored
     module _ (n : ℕ) (few : n ≤ 64) (end mask source : ℕ) (then : List ℕ) (last : end ≡ at + count s) (m : mask ≡ word_of (take n (drop row s)))
@@ -84,14 +84,14 @@ module _ (s k : List Bool) (at : ℕ) where
       cut l = sym (take-append-drop n (drop row l)) ∙ ap (λ (t : List Bool). take n (drop row l) ++ t) (drop-drop n row l)
 
       parts : recover (drop row s) (drop row k) ≡ recover s₁ k₁ ++ left
-      parts = ap₂ recover (cut s) (cut k) ∙ recover-append s₁ (drop (row + n) s) k₁ (drop (row + n) k) long
+      parts = ap₂ recover (cut s) (cut k) ∙ recover_append s₁ (drop (row + n) s) k₁ (drop (row + n) k) long
 
       -- how many they are
       set : ones mask ≡ count s₁
-      set = ap ones m ∙ ones-word s₁
+      set = ap ones m ∙ ones_word s₁
 
       own : bits_of (ones mask) (pext 64 source mask) ≡ recover s₁ k₁
-      own = ap₂ (λ (x y : ℕ). bits_of (ones x) (pext 64 y x)) m q ∙ chunk-ranks s₁ k₁ long (omega (arith, length-take n (drop row s)))
+      own = ap₂ (λ (x y : ℕ). bits_of (ones x) (pext 64 y x)) m q ∙ chunk_ranks s₁ k₁ long (omega (arith, length-take n (drop row s)))
 
       -- the bits stored are theirs, and what the rest will be laid over
       abbrev more : List Bool
@@ -100,7 +100,7 @@ module _ (s k : List Bool) (at : ℕ) where
       bits : bits_of stored.many (pext 64 source mask) ≡ recover s₁ k₁ ++ more
       bits =
           let all : stored.many ≡ ones mask + (stored.many - ones mask) = omega (arith, stored.enough) in
-          ap (λ (x : ℕ). bits_of x (pext 64 source mask)) all ∙ bitsOf-add (ones mask) (stored.many - ones mask) (pext 64 source mask)
+          ap (λ (x : ℕ). bits_of x (pext 64 source mask)) all ∙ bits_of_add (ones mask) (stored.many - ones mask) (pext 64 source mask)
           ∙ ap (λ (l : List Bool). l ++ more) own
 
       room : length (recover s₁ k₁) + length more ≤ length (recover s₁ k₁) + length left
@@ -112,25 +112,25 @@ module _ (s k : List Bool) (at : ℕ) where
             whole,
             split,
             r.progress.passed,
-            recover-length s k,
-            recover-length s₁ k₁,
+            recover_length s k,
+            recover_length s₁ k₁,
             set,
             stored.within,
             stored.enough,
-            bitsOf-length (stored.many - ones mask) (pext 64 source mask / 2 ^ ones mask),
+            bits_of_length (stored.many - ones mask) (pext 64 source mask / 2 ^ ones mask),
           )
 
-      pub extracting-chunk : (past : ℕ) → past ≡ rank + ones mask → Extracting (row + n) past out₀ then
-      extracting-chunk past e = record {
-        ranked = e ∙ ap₂ (λ (x y : ℕ). x + y) r.ranked set ∙ sym (count-split row n s);
+      pub extracting_chunk : (past : ℕ) → past ≡ rank + ones mask → Extracting (row + n) past out₀ then
+      extracting_chunk past e = record {
+        ranked = e ∙ ap₂ (λ (x y : ℕ). x + y) r.ranked set ∙ sym (count_split row n s);
         progress =
-            open-part (recover s k) (recover s₁ k₁) left more at rank past out₀ out then
-            (e ∙ ap (λ (x : ℕ). rank + x) (set ∙ sym (recover-length s₁ k₁))) room (stored.lies ∙ ap (λ (l : List Bool). laid (at + rank) l out) bits)
-            (open-as (recover s k) (recover (drop row s) (drop row k)) (recover s₁ k₁ ++ left) at rank out₀ out parts r.progress);
+            open_part (recover s k) (recover s₁ k₁) left more at rank past out₀ out then
+            (e ∙ ap (λ (x : ℕ). rank + x) (set ∙ sym (recover_length s₁ k₁))) room (stored.lies ∙ ap (λ (l : List Bool). laid (at + rank) l out) bits)
+            (open_as (recover s k) (recover (drop row s) (drop row k)) (recover s₁ k₁ ++ left) at rank out₀ out parts r.progress);
       }
 
     -- no row is left
-    pub extracting-end : length s ≤ row → out ≡ laid at (recover s k) out₀
-    extracting-end h =
+    pub extracting_end : length s ≤ row → out ≡ laid at (recover s k) out₀
+    extracting_end h =
         let none : recover (drop row s) (drop row k) ≡ [] = ap (λ (l : List Bool). recover l (drop row k)) (drop_of_length-le s {i = row} h) in
-        open-end (recover s k) at rank out₀ out (open-as (recover s k) (recover (drop row s) (drop row k)) [] at rank out₀ out none r.progress)
+        open_end (recover s k) at rank out₀ out (open_as (recover s k) (recover (drop row s) (drop row k)) [] at rank out₀ out none r.progress)

@@ -1,2 +1,4 @@
 // Runs of rows, laid over lent words or listed.
+#![tactic(auto)]
+
 pub mod inner;

@@ -1,4 +1,6 @@
 // What the query daemon links, as a C library: numbers only. include/boltamber.h declares both functions.
+#![tactic(auto)]
+
 ghost use Rattle.std.specs.Prelude.{◌≡◌};
 ghost use Rattle.rows.specs.Word.{bits_of};
 ghost use Rattle.rows.specs.Lists.{select};

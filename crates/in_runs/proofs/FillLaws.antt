@@ -10,64 +10,64 @@ use native.Mathlib.Omega.{arith}
 use lib.ListN.{length, take, drop, get_or, replicate, length-take, length-drop, length-replicate, take-append-drop}
 use Rattle.rows.specs.Rows.{count, recover, outside}
 use Rattle.rows.specs.Words.{Below}
-use Rattle.rows.specs.Runs.{held, inRuns, Apart}
+use Rattle.rows.specs.Runs.{held, in_runs, Apart}
 use Rattle.rows.specs.Laid.{laid}
-use Rattle.rows.proofs.RowLaws.{count-append}
-use Rattle.rows.proofs.ListLaws.{tab-length}
+use Rattle.rows.proofs.RowLaws.{count_append}
+use Rattle.rows.proofs.ListLaws.{tab_length}
 use Rattle.rows.proofs.RunTurnLaws.{NextRun}
-use Rattle.rows.proofs.RecoverLaws.{recover-append, recover-none, recover-all, inside-append}
-use Rattle.rows.proofs.ProgressLaws.{progress-as, progress-last}
-use Rattle.in_runs.proofs.RecoveringLaws.{Recovering, recovering-none, recovering-chunk, recovering-room}
-use Rattle.in_runs.proofs.PassLaws.{take-both, Passed, passed_none, passed-next, passed-end, passed-gap, passed-held, passed-run}
+use Rattle.rows.proofs.RecoverLaws.{recover_append, recover_none, recover_all, inside_append}
+use Rattle.rows.proofs.ProgressLaws.{progress_as, progress_last}
+use Rattle.in_runs.proofs.RecoveringLaws.{Recovering, recovering_none, recovering_chunk, recovering_room}
+use Rattle.in_runs.proofs.PassLaws.{take_both, Passed, passed_none, passed_next, passed_end, passed_gap, passed_held, passed_run}
 
 -- the rows kept that are not in s, before a row and from it on
-inside-cut : (m : ℕ) (s k : List Bool) → length k ≡ length s
+inside_cut : (m : ℕ) (s k : List Bool) → length k ≡ length s
     → count (outside s k) ≡ count (outside (take m s) (take m k)) + count (outside (drop m s) (drop m k))
-inside-cut m s k e =
+inside_cut m s k e =
     ap₂ (λ (x y : List Bool). count (outside x y)) (sym (take-append-drop m s)) (sym (take-append-drop m k))
-    ∙ inside-append (take m s) (drop m s) (take m k) (drop m k) (omega (arith, length-take m s, length-take m k))
+    ∙ inside_append (take m s) (drop m s) (take m k) (drop m k) (omega (arith, length-take m s, length-take m k))
 
 -- where every row kept lies in s, so do those of a part
-inside-part : (s k : List Bool) (row n : ℕ) → length k ≡ length s → count (outside s k) ≡ 0
+inside_part : (s k : List Bool) (row n : ℕ) → length k ≡ length s → count (outside s k) ≡ 0
     → count (outside (take n (drop row s)) (take n (drop row k))) ≡ 0
-inside-part s k row n e i =
+inside_part s k row n e i =
     let behind : length (drop row k) ≡ length (drop row s) = omega (arith, length-drop row k, length-drop row s) in
-    omega (arith, i, inside-cut row s k e, inside-cut n (drop row s) (drop row k) behind)
+    omega (arith, i, inside_cut row s k e, inside_cut n (drop row s) (drop row k) behind)
 
 -- and where all are kept, s is full
-all-inside : (s : List Bool) (n : ℕ) → length s ≡ n → count (outside s (replicate n true)) ≡ 0 → count s ≡ n
-all-inside [] zero e i = refl
-all-inside [] (suc n) e i = absurd (omega arith)
-all-inside (x ∷ s) zero e i = absurd (omega arith)
-all-inside (false ∷ s) (suc n) e i = absurd (omega arith)
-all-inside (true ∷ s) (suc n) e i = ap suc (all-inside s n (suc_inj e) i)
+all_inside : (s : List Bool) (n : ℕ) → length s ≡ n → count (outside s (replicate n true)) ≡ 0 → count s ≡ n
+all_inside [] zero e i = refl
+all_inside [] (suc n) e i = absurd (omega arith)
+all_inside (x ∷ s) zero e i = absurd (omega arith)
+all_inside (false ∷ s) (suc n) e i = absurd (omega arith)
+all_inside (true ∷ s) (suc n) e i = ap suc (all_inside s n (suc_inj e) i)
 
 module _ (s : List Bool) (runs : List ℕ) (len at : ℕ) where
   abbrev k : List Bool
-  k = inRuns len runs
+  k = in_runs len runs
 
   pub record Filling (row i rank : ℕ) (out₀ out : List ℕ) : Type 0 where
     pub passed : Passed len runs row i
     pub recovering : Recovering s k at row rank out₀ out
 
-  pub filling-none : (out : List ℕ) → Apart 0 len runs → Below (2 ^ 64) out → Filling 0 0 0 out out
-  filling-none out a small = record { passed = passed_none len runs a; recovering = recovering-none s k at out small }
+  pub filling_none : (out : List ℕ) → Apart 0 len runs → Below (2 ^ 64) out → Filling 0 0 0 out out
+  filling_none out a small = record { passed = passed_none len runs a; recovering = recovering_none s k at out small }
 
   module _ (long : length s ≡ len) (row i rank : ℕ) (out₀ out : List ℕ) (f : Filling row i rank out₀ out) where
     same : length k ≡ length s
-    same = tab-length 0 len (λ j. held j runs) ∙ sym long
+    same = tab_length 0 len (λ j. held j runs) ∙ sym long
 
     -- the ranks that are laid are those of the rows before `row`
     left : rank + count (drop row s) ≡ count s
-    left = omega (arith, f.recovering.ranked, count-append (take row s) (drop row s), ap count (take-append-drop row s))
+    left = omega (arith, f.recovering.ranked, count_append (take row s) (drop row s), ap count (take-append-drop row s))
 
-    pub filling-few : rank ≤ count s
-    filling-few = omega (arith, left)
+    pub filling_few : rank ≤ count s
+    filling_few = omega (arith, left)
 
-    pub filling-next : i < length runs → NextRun row len i runs
-    filling-next h = passed-next len runs row i f.passed h
+    pub filling_next : i < length runs → NextRun row len i runs
+    filling_next h = passed_next len runs row i f.passed h
 
-    module _ (inside : count (outside s (inRuns len runs)) ≡ 0) (h : i < length runs) where
+    module _ (inside : count (outside s (in_runs len runs)) ≡ 0) (h : i < length runs) where
       abbrev first : ℕ
       first = get_or runs i 0
 
@@ -81,55 +81,55 @@ module _ (s : List Bool) (runs : List ℕ) (len at : ℕ) where
       run = take (past - first) (drop first s)
 
       run_long : length run ≡ past - first
-      run_long = omega (arith, length-take (past - first) (drop first s), length-drop first s, long, (filling-next h).some, (filling-next h).within)
+      run_long = omega (arith, length-take (past - first) (drop first s), length-drop first s, long, (filling_next h).some, (filling_next h).within)
 
       -- the run lies in self
-      pub run-full : count (take (past - first) (drop first s)) ≡ past - first
-      run-full =
-          all-inside run (past - first) run_long
-          (sym (ap (λ (l : List Bool). count (outside run l)) (passed-held len runs row i f.passed h)) ∙ inside-part s k first (past - first) same inside)
+      pub run_full : count (take (past - first) (drop first s)) ≡ past - first
+      run_full =
+          all_inside run (past - first) run_long
+          (sym (ap (λ (l : List Bool). count (outside run l)) (passed_held len runs row i f.passed h)) ∙ inside_part s k first (past - first) same inside)
 
       -- both parts, of either mask
       cut : (l : List Bool) → take (past - row) (drop row l) ≡ take (first - row) (drop row l) ++ take (past - first) (drop first l)
-      cut l = take-both row first past l (filling-next h).from (omega (arith, (filling-next h).some))
+      cut l = take_both row first past l (filling_next h).from (omega (arith, (filling_next h).some))
 
       part : recover (take (past - row) (drop row s)) (take (past - row) (drop row k)) ≡ replicate (count gap) false ++ replicate (past - first) true
       part =
-          let r = filling-next h in
+          let r = filling_next h in
           let unset = replicate (first - row) false in
           let gap-long : length unset ≡ length gap =
           omega (arith, length-replicate (first - row) false, length-take (first - row) (drop row s), length-drop row s, long, r.from, r.some, r.within) in
           ap₂ recover (cut s)
-          (cut k ∙ ap₂ (λ (x y : List Bool). x ++ y) (passed-gap len runs row i f.passed h) (passed-held len runs row i f.passed h))
-          ∙ recover-append gap run unset (replicate (past - first) true) gap-long
-          ∙ ap₂ (λ (x y : List Bool). x ++ y) (recover-none gap (first - row))
-          (ap (λ (n : ℕ). recover run (replicate n true)) (sym run_long) ∙ recover-all run ∙ ap (λ (n : ℕ). replicate n true) run-full)
+          (cut k ∙ ap₂ (λ (x y : List Bool). x ++ y) (passed_gap len runs row i f.passed h) (passed_held len runs row i f.passed h))
+          ∙ recover_append gap run unset (replicate (past - first) true) gap-long
+          ∙ ap₂ (λ (x y : List Bool). x ++ y) (recover_none gap (first - row))
+          (ap (λ (n : ℕ). recover run (replicate n true)) (sym run_long) ∙ recover_all run ∙ ap (λ (n : ℕ). replicate n true) run_full)
 
       both : count (take (past - row) (drop row s)) ≡ count gap + (past - first)
-      both = ap count (cut s) ∙ count-append gap run ∙ ap (λ (n : ℕ). count gap + n) run-full
+      both = ap count (cut s) ∙ count_append gap run ∙ ap (λ (n : ℕ). count gap + n) run_full
 
-      pub filling-room : (set : ℕ) → set ≡ count (take (first - row) (drop row s)) → rank + set + (past - first) ≤ count s
-      filling-room set e = omega (arith, e, both, recovering-room s k at same row rank out₀ out f.recovering (past - row))
+      pub filling_room : (set : ℕ) → set ≡ count (take (first - row) (drop row s)) → rank + set + (past - first) ≤ count s
+      filling_room set e = omega (arith, e, both, recovering_room s k at same row rank out₀ out f.recovering (past - row))
 
-      pub filling-run : (set below : ℕ) (then : List ℕ) → set ≡ count (take (first - row) (drop row s)) → below ≡ rank + set + (past - first)
+      pub filling_run : (set below : ℕ) (then : List ℕ) → set ≡ count (take (first - row) (drop row s)) → below ≡ rank + set + (past - first)
           → then ≡ laid (at + rank) (replicate set false ++ replicate (past - first) true) out → Filling past (i + 2) below out₀ then
-      filling-run set below then e b t =
-          let r = filling-next h in
+      filling_run set below then e b t =
+          let r = filling_next h in
           let place : row + (past - row) ≡ past = omega (arith, r.from, r.some) in
           let more : Recovering s k at (row + (past - row)) below out₀ then =
-          recovering-chunk s k at same row rank out₀ out f.recovering (past - row) below then (omega (arith, both, e, b))
+          recovering_chunk s k at same row rank out₀ out f.recovering (past - row) below then (omega (arith, both, e, b))
           (t ∙ ap (λ (n : ℕ). laid (at + rank) (replicate n false ++ replicate (past - first) true) out) e
           ∙ ap (λ (l : List Bool). laid (at + rank) l out) (sym part)) in
-          record { passed = passed-run len runs row i f.passed h; recovering = rw place at more }
+          record { passed = passed_run len runs row i f.passed h; recovering = rw place at more }
 
     -- no run is left: no rank that is left is kept
-    pub filling-end : (total : ℕ) (then : List ℕ) → length runs ≤ i → total ≡ count s → then ≡ laid (at + rank) (replicate (total - rank) false) out
-        → then ≡ laid at (recover s (inRuns len runs)) out₀
-    filling-end total then h e t =
+    pub filling_end : (total : ℕ) (then : List ℕ) → length runs ≤ i → total ≡ count s → then ≡ laid (at + rank) (replicate (total - rank) false) out
+        → then ≡ laid at (recover s (in_runs len runs)) out₀
+    filling_end total then h e t =
         let many : total - rank ≡ count (drop row s) = omega (arith, e, left) in
         let rest = recover (drop row s) (drop row k) in
         let none : rest ≡ replicate (total - rank) false =
-        ap (recover (drop row s)) (passed-end len runs row i f.passed h) ∙ recover-none (drop row s) (len - row)
+        ap (recover (drop row s)) (passed_end len runs row i f.passed h) ∙ recover_none (drop row s) (len - row)
         ∙ ap (λ (n : ℕ). replicate n false) (sym many) in
-        progress-last (recover s k) (replicate (total - rank) false) at rank out₀ out then t
-        (progress-as (recover s k) rest (replicate (total - rank) false) at rank out₀ out none f.recovering.progress)
+        progress_last (recover s k) (replicate (total - rank) false) at rank out₀ out then t
+        (progress_as (recover s k) rest (replicate (total - rank) false) at rank out₀ out none f.recovering.progress)

@@ -8,14 +8,14 @@ use mathlib.Core.List.{List, ◌++◌}
 use native.Mathlib.Omega.{arith}
 use lib.ListN.{length, take, drop, get_or, replicate, length-replicate}
 use lib.Seq.{take-add, take_at, drop_at, drop-drop}
-use Rattle.rows.specs.Runs.{inRuns, Apart}
-use Rattle.rows.proofs.RunLaws.{runRows, in-runs}
-use Rattle.rows.proofs.RunTurnLaws.{NextRun, next-run, rows_next, rows_none}
+use Rattle.rows.specs.Runs.{in_runs, Apart}
+use Rattle.rows.proofs.RunLaws.{run_rows, in_runs_lem}
+use Rattle.rows.proofs.RunTurnLaws.{NextRun, next_run, rows_next, rows_none}
 
 -- the rows up to a run's last are those before it and its own
-pub take-both : (row first past : ℕ) (l : List Bool) → row ≤ first → first ≤ past
+pub take_both : (row first past : ℕ) (l : List Bool) → row ≤ first → first ≤ past
     → take (past - row) (drop row l) ≡ take (first - row) (drop row l) ++ take (past - first) (drop first l)
-take-both row first past l h k =
+take_both row first past l h k =
     let parts : past - row ≡ (first - row) + (past - first) = omega arith in
     let place : row + (first - row) ≡ first = omega arith in
     ap (λ (n : ℕ). take n (drop row l)) parts ∙ take-add (first - row) (past - first) (drop row l)
@@ -23,23 +23,23 @@ take-both row first past l h k =
 
 module _ (len : ℕ) (runs : List ℕ) where
   abbrev rows : List Bool
-  rows = inRuns len runs
+  rows = in_runs len runs
 
   pub record Passed (row i : ℕ) : Type 0 where
     pub within : row ≤ len
     pub ahead : Apart row len (drop i runs)
-    pub rest : drop row rows ≡ runRows row len (drop i runs)
+    pub rest : drop row rows ≡ run_rows row len (drop i runs)
 
   pub passed_none : Apart 0 len runs → Passed 0 0
-  passed_none a = record { within = omega arith; ahead = a; rest = in-runs len runs a }
+  passed_none a = record { within = omega arith; ahead = a; rest = in_runs_lem len runs a }
 
   module _ (row i : ℕ) (p : Passed row i) where
-    pub passed-next : i < length runs → NextRun row len i runs
-    passed-next h = next-run row len i runs h p.ahead
+    pub passed_next : i < length runs → NextRun row len i runs
+    passed_next h = next_run row len i runs h p.ahead
 
     -- no run is left
-    pub passed-end : length runs ≤ i → drop row (inRuns len runs) ≡ replicate (len - row) false
-    passed-end h = p.rest ∙ rows_none row len i runs h
+    pub passed_end : length runs ≤ i → drop row (in_runs len runs) ≡ replicate (len - row) false
+    passed_end h = p.rest ∙ rows_none row len i runs h
 
     module _ (h : i < length runs) where
       abbrev first : ℕ
@@ -55,37 +55,37 @@ module _ (len : ℕ) (runs : List ℕ) where
       run = replicate (past - first) true
 
       abbrev left : List Bool
-      left = runRows past len (drop (i + 2) runs)
+      left = run_rows past len (drop (i + 2) runs)
 
       from_row : drop row rows ≡ gap ++ (run ++ left)
-      from_row = p.rest ∙ rows_next row len i runs (passed-next h)
+      from_row = p.rest ∙ rows_next row len i runs (passed_next h)
 
       from_first : drop first rows ≡ run ++ left
       from_first =
-          let place : row + (first - row) ≡ first = omega (arith, (passed-next h).from) in
+          let place : row + (first - row) ≡ first = omega (arith, (passed_next h).from) in
           ap (λ (k : ℕ). drop k rows) (sym place) ∙ sym (drop-drop (first - row) row rows) ∙ ap (drop (first - row)) from_row
           ∙ drop_at gap (run ++ left) (first - row) (length-replicate (first - row) false)
 
       from_past : drop past rows ≡ left
       from_past =
-          let place : first + (past - first) ≡ past = omega (arith, (passed-next h).some) in
+          let place : first + (past - first) ≡ past = omega (arith, (passed_next h).some) in
           ap (λ (k : ℕ). drop k rows) (sym place) ∙ sym (drop-drop (past - first) first rows) ∙ ap (drop (past - first)) from_first
           ∙ drop_at run left (past - first) (length-replicate (past - first) true)
 
       -- the rows before the run, and the run's
-      pub passed-gap : take (first - row) (drop row (inRuns len runs)) ≡ replicate (first - row) false
-      passed-gap = ap (take (first - row)) from_row ∙ take_at gap (run ++ left) (first - row) (length-replicate (first - row) false)
+      pub passed_gap : take (first - row) (drop row (in_runs len runs)) ≡ replicate (first - row) false
+      passed_gap = ap (take (first - row)) from_row ∙ take_at gap (run ++ left) (first - row) (length-replicate (first - row) false)
 
-      pub passed-held : take (past - first) (drop first (inRuns len runs)) ≡ replicate (past - first) true
-      passed-held = ap (take (past - first)) from_first ∙ take_at run left (past - first) (length-replicate (past - first) true)
+      pub passed_held : take (past - first) (drop first (in_runs len runs)) ≡ replicate (past - first) true
+      passed_held = ap (take (past - first)) from_first ∙ take_at run left (past - first) (length-replicate (past - first) true)
 
       -- both
-      pub passed-both : take (past - row) (drop row (inRuns len runs)) ≡ replicate (first - row) false ++ replicate (past - first) true
-      passed-both =
-          let r = passed-next h in
-          take-both row first past rows r.from (omega (arith, r.some)) ∙ ap₂ (λ (l m : List Bool). l ++ m) passed-gap passed-held
+      pub passed_both : take (past - row) (drop row (in_runs len runs)) ≡ replicate (first - row) false ++ replicate (past - first) true
+      passed_both =
+          let r = passed_next h in
+          take_both row first past rows r.from (omega (arith, r.some)) ∙ ap₂ (λ (l m : List Bool). l ++ m) passed_gap passed_held
 
-      pub passed-run : Passed past (i + 2)
-      passed-run =
-          let r = passed-next h in
+      pub passed_run : Passed past (i + 2)
+      passed_run =
+          let r = passed_next h in
           record { within = r.within; ahead = r.left; rest = from_past }

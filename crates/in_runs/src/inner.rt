@@ -2,7 +2,7 @@
 ghost use Rattle.std.specs.Prelude.{◌≡◌, true, false, ◌++◌, ◌+◌, ◌*◌, ◌≤◌, length, replicate};
 ghost use Rattle.rows.specs.Rows.{count, recover, outside};
 ghost use Rattle.rows.specs.Words.{view};
-ghost use Rattle.rows.specs.Runs.{inRuns, runLengths, Apart};
+ghost use Rattle.rows.specs.Runs.{in_runs, run_lengths, Apart};
 ghost use Rattle.rows.specs.Laid.{laid};
 ghost use Rattle.rows.specs.Asks.{Room, InView};
 ghost use Rattle.rules.specs.Operand.{lent, rows_of, length_of, count_of, Accepted};
@@ -23,8 +23,8 @@ fn copy_rows(kept: &[u64], from: u64, row: Row, n: u64, at: u64, rank: Rank, out
 
 // Self in runs, the second mask in words: the rows under each run are copied, one run behind the other.
 pub fn recover_under_runs(runs: &[u32], kept: &[u64], from: u64, len: u64, at: u64, out: &mut [u64])
-    requires { Apart 0 len runs.now × InView from len kept.now × Room at (runLengths runs.now) out.old }
-    ensures { out.new ≡ laid at (recover (inRuns len runs.now) (view from len kept.now)) out.old }
+    requires { Apart 0 len runs.now × InView from len kept.now × Room at (run_lengths runs.now) out.old }
+    ensures { out.new ≡ laid at (recover (in_runs len runs.now) (view from len kept.now)) out.old }
 {
     let mut rank: u64 = 0;
     let mut i: usize = 0;
@@ -70,8 +70,8 @@ pub fn recover_runs(
     out: &mut [u64],
 )
     requires { Accepted (lent s swords.now srows.now) × (total ≡ count_of (lent s swords.now srows.now)) × Apart 0 (length_of s) runs.now
-        × (count (outside (rows_of (lent s swords.now srows.now)) (inRuns (length_of s) runs.now)) ≡ 0) × Room at (count_of (lent s swords.now srows.now)) out.old }
-    ensures { out.new ≡ laid at (recover (rows_of (lent s swords.now srows.now)) (inRuns (length_of s) runs.now)) out.old }
+        × (count (outside (rows_of (lent s swords.now srows.now)) (in_runs (length_of s) runs.now)) ≡ 0) × Room at (count_of (lent s swords.now srows.now)) out.old }
+    ensures { out.new ≡ laid at (recover (rows_of (lent s swords.now srows.now)) (in_runs (length_of s) runs.now)) out.old }
 {
     let mut row = Row(0);
     let mut rank = Rank(0);

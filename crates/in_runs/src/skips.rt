@@ -4,7 +4,7 @@ ghost use Rattle.std.specs.Prelude.{◌≡◌, true, ◌+◌, ◌^◌, ◌≤◌
 ghost use Rattle.rows.specs.Rows.{count};
 ghost use Rattle.rows.specs.Words.{Below};
 ghost use Rattle.rules.specs.Operand.{lent, rows_of, length_of, Accepted};
-ghost use Rattle.operand.specs.Flat.{hasRowNumbers};
+ghost use Rattle.operand.specs.Flat.{has_row_numbers};
 ghost use Rattle.books.specs.Gathers.{Climbs, Parted};
 ghost use Rattle.books.specs.Windows.{window, into, Reached};
 ghost use Rattle.extracts.specs.Walk.{Came};
@@ -96,8 +96,8 @@ pub fn skip_rows(
 
 // Where the walk has come to behind n rows more that are all set. A list has an entry for each; of runs the one that it is at has them, and it stays.
 pub fn skip_set(form: Form, next: usize, n: u64) -> usize
-    requires { hasRowNumbers form ≡ true → next + n < 2 ^ 64 }
-    ensures { result ≡ behind (hasRowNumbers form) next n }
+    requires { has_row_numbers form ≡ true → next + n < 2 ^ 64 }
+    ensures { result ≡ behind (has_row_numbers form) next n }
 {
     if has_row_numbers(form) {
         return next + n as usize;

@@ -1,16 +1,18 @@
 // Document 01's program: the text of all of standard input, to standard output.
+#![tactic(auto)]
+
 use input::read_all;
 use libc::{STDIN_FILENO, STDOUT_FILENO};
 
 mod input;
 
 fn main() {
-    // one byte more than the longest well formed input has: what is cut off changes nothing (`text-cut`)
+    // one byte more than the longest well formed input has: what is cut off changes nothing (`text_cut`)
     let mut input = [0u8; 16397];
-    // a read that fails leaves no bytes, and no bytes are malformed: 13 (`nothing-is-13`)
+    // a read that fails leaves no bytes, and no bytes are malformed: 13 (`nothing_is_13`)
     let got = read_all(STDIN_FILENO, &mut input);
     let n = got.len;
-    // as long as the longest text, so that all of it is written (`always-room`)
+    // as long as the longest text, so that all of it is written (`always_room`)
     let mut out = [0u8; 8228];
     let written = text::answer(&input[..n], &mut out);
     let len = written.len;

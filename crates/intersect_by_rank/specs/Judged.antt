@@ -4,16 +4,16 @@ use Rattle.std.specs.Prelude.{ℕ}
 use Rattle.rows.specs.declared.Verdict.{Verdict}
 use Rattle.rows.specs.Table.{first}
 use Rattle.rules.specs.Operand.{Operand}
-use Rattle.rules.specs.Compose.{bothChecks, composeChecks}
-use Rattle.operand.specs.Counts.{checkedOf}
+use Rattle.rules.specs.Compose.{both_checks, compose_checks}
+use Rattle.operand.specs.Counts.{checked_of}
 use Rattle.intersect_by_rank.specs.declared.inner.judge.Judged.{Judged}
 
 -- each count as the operand's own checks tell it
-abbrev pub judgedBy : Verdict → Operand → Operand → Judged
-judgedBy v s r = record { verdict = v; rows = (checkedOf 1 s).count; ranks = (checkedOf 2 r).count }
+abbrev pub judged_by : Verdict → Operand → Operand → Judged
+judged_by v s r = record { verdict = v; rows = (checked_of 1 s).count; ranks = (checked_of 2 r).count }
 
-abbrev pub judgedBoth : Operand → Operand → Judged
-judgedBoth s r = judgedBy (first (bothChecks s r)) s r
+abbrev pub judged_both : Operand → Operand → Judged
+judged_both s r = judged_by (first (both_checks s r)) s r
 
-abbrev pub judgedAll : Operand → Operand → ℕ → Judged
-judgedAll s r room = judgedBy (first (composeChecks s r room)) s r
+abbrev pub judged_all : Operand → Operand → ℕ → Judged
+judged_all s r room = judged_by (first (compose_checks s r room)) s r

@@ -1,8 +1,10 @@
 // Composition by rank: a rank mask laid back onto the rows of self. Document 01, part 7; part 6 is `marks` and `deposits`.
+#![tactic(auto)]
+
 ghost use Rattle.std.specs.Prelude.{◌≡◌};
 ghost use Rattle.rules.specs.Operand.{lent};
 ghost use Rattle.rules.specs.Route.{published};
-ghost use Rattle.rules.specs.Compose.{composed, composedOut};
+ghost use Rattle.rules.specs.Compose.{composed, composed_out};
 
 use inner::compose::compose_with;
 use routes::inner::document_factors;
@@ -21,7 +23,7 @@ pub fn intersect_by_rank(
     out: &mut [u64],
 ) -> Answer
     ensures { (result ≡ composed published (lent s swords.now srows.now) (lent r rwords.now rrows.now) out.old)
-        × (out.new ≡ composedOut (lent s swords.now srows.now) (lent r rwords.now rrows.now) out.old) }
+        × (out.new ≡ composed_out (lent s swords.now srows.now) (lent r rwords.now rrows.now) out.old) }
 {
     compose_with(document_factors(), s, swords, srows, r, rwords, rrows, out)
 }

@@ -1,6 +1,6 @@
 -- A number that is taken whole or not at all. Assumes nothing.
 use Rattle.std.specs.Prelude.{ℕ, Bool, true, false}
 
-abbrev pub allOrNone : Bool → ℕ → ℕ
-allOrNone true n = n
-allOrNone false n = 0
+abbrev pub all_or_none : Bool → ℕ → ℕ
+all_or_none true n = n
+all_or_none false n = 0

@@ -4,7 +4,7 @@ ghost use Rattle.std.specs.Int.Count.{ones};
 ghost use Rattle.rows.specs.Rows.{count, compose};
 ghost use Rattle.rows.specs.Word.{word_of};
 ghost use Rattle.rows.specs.Words.{view};
-ghost use Rattle.rows.specs.Runs.{inRuns};
+ghost use Rattle.rows.specs.Runs.{in_runs};
 ghost use Rattle.rows.specs.Pdep.{pdep};
 ghost use Rattle.rows.specs.Laid.{laid};
 ghost use Rattle.rows.specs.Asks.{Room};
@@ -62,10 +62,10 @@ pub fn keep_chunks(
     out: &mut [u64],
 ) -> u64
     requires { (len ≤ 1048576) × (start + len ≤ length words.now * 64) × Room at len out.old × (from.rank.0 ≤ 1048576)
-        × Reached ranks.now from.next from.rank.0 × (from.held ≡ count (inRuns from.rank.0 ranks.now)) }
-    ensures { (result ≡ count (inRuns (from.rank.0 + count (view start len words.now)) ranks.now))
+        × Reached ranks.now from.next from.rank.0 × (from.held ≡ count (in_runs from.rank.0 ranks.now)) }
+    ensures { (result ≡ count (in_runs (from.rank.0 + count (view start len words.now)) ranks.now))
         × (out.new ≡ laid at (compose (view start len words.now)
-        (drop from.rank.0 (inRuns (from.rank.0 + count (view start len words.now)) ranks.now))) out.old) }
+        (drop from.rank.0 (in_runs (from.rank.0 + count (view start len words.now)) ranks.now))) out.old) }
 {
     let mut row = Row(0);
     let mut rank = from.rank;

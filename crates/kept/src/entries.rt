@@ -3,8 +3,8 @@
 ghost use Rattle.std.specs.Prelude.{◌≡◌, ◌-◌, ◌≤◌, length, take, drop};
 ghost use Rattle.rows.specs.Rows.{count, compose};
 ghost use Rattle.rows.specs.Words.{Below};
-ghost use Rattle.rows.specs.Lists.{listed, Ascending, setRows};
-ghost use Rattle.rows.specs.Runs.{inRuns, Apart};
+ghost use Rattle.rows.specs.Lists.{listed, Ascending, set_rows};
+ghost use Rattle.rows.specs.Runs.{in_runs, Apart};
 ghost use Rattle.rows.specs.Laid.{marked};
 ghost use Rattle.rows.specs.Asks.{Room};
 ghost use Rattle.marks.specs.Entries.{entries};
@@ -45,9 +45,9 @@ pub fn mark_spans(
     out: &mut [u64],
 ) -> u64
     requires { Ascending 0 len (entries single rows.now) × Apart 0 (length (entries single rows.now)) ranks.now × Room at len out.old }
-    ensures { (result ≡ count (compose (listed len (entries single rows.now)) (inRuns (length (entries single rows.now)) ranks.now)))
-        × (out.new ≡ marked at (setRows 0 (compose (listed len (entries single rows.now))
-        (inRuns (length (entries single rows.now)) ranks.now))) out.old) }
+    ensures { (result ≡ count (compose (listed len (entries single rows.now)) (in_runs (length (entries single rows.now)) ranks.now)))
+        × (out.new ≡ marked at (set_rows 0 (compose (listed len (entries single rows.now))
+        (in_runs (length (entries single rows.now)) ranks.now))) out.old) }
 {
     let mut sum: u64 = 0;
     let mut i: usize = 0;

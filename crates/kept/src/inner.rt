@@ -3,7 +3,7 @@ ghost use Rattle.std.specs.Prelude.{◌≡◌, length};
 ghost use Rattle.rows.specs.Rows.{count, compose};
 ghost use Rattle.rows.specs.Words.{view};
 ghost use Rattle.rows.specs.Lists.{listed, Ascending};
-ghost use Rattle.rows.specs.Runs.{inRuns, Apart};
+ghost use Rattle.rows.specs.Runs.{in_runs, Apart};
 ghost use Rattle.rows.specs.Laid.{laid};
 ghost use Rattle.rows.specs.Asks.{Room, InView};
 ghost use Rattle.marks.specs.Entries.{entries};
@@ -24,9 +24,9 @@ pub fn keep_words(
     out: &mut [u64],
 ) -> u64
     requires { InView start len words.now × Room at len out.old × Apart 0 (count (view start len words.now)) ranks.now }
-    ensures { (result ≡ count (compose (view start len words.now) (inRuns (count (view start len words.now)) ranks.now)))
+    ensures { (result ≡ count (compose (view start len words.now) (in_runs (count (view start len words.now)) ranks.now)))
         × (out.new ≡ laid at (compose (view start len words.now)
-        (inRuns (count (view start len words.now)) ranks.now)) out.old) }
+        (in_runs (count (view start len words.now)) ranks.now)) out.old) }
 {
     if at % 64 != 0 {
         let fresh = Walk {
@@ -61,9 +61,9 @@ pub fn lay_entries_by_runs(
     out: &mut [u64],
 ) -> u64
     requires { Ascending 0 len (entries single rows.now) × Apart 0 (length (entries single rows.now)) ranks.now × Room at len out.old }
-    ensures { (result ≡ count (compose (listed len (entries single rows.now)) (inRuns (length (entries single rows.now)) ranks.now)))
+    ensures { (result ≡ count (compose (listed len (entries single rows.now)) (in_runs (length (entries single rows.now)) ranks.now)))
         × (out.new ≡ laid at (compose (listed len (entries single rows.now))
-        (inRuns (length (entries single rows.now)) ranks.now)) out.old) }
+        (in_runs (length (entries single rows.now)) ranks.now)) out.old) }
 {
     clear(out, at, len);
     mark_spans(rows, single, ranks, len, at, out)

@@ -1,7 +1,7 @@
 // Ranks that are alike: from where a walk over runs of ranks has come to, up to where the next run begins or the one that it is in ends.
 ghost use Rattle.std.specs.Prelude.{◌≡◌, replicate};
 ghost use Rattle.books.specs.Windows.{window, Reached};
-ghost use Rattle.kept.specs.Alike.{allOrNone};
+ghost use Rattle.kept.specs.Alike.{all_or_none};
 
 use rows::Rank;
 
@@ -14,7 +14,7 @@ pub struct Stretch {
 
 // All of a number, or none of it: a word whose ranks are alike, or how many they are.
 pub fn all_or_none(number: u64, set: bool) -> u64
-    ensures { result ≡ allOrNone set number }
+    ensures { result ≡ all_or_none set number }
 {
     if set {
         return number;

@@ -3,7 +3,7 @@
 ghost use Rattle.std.specs.Prelude.{◌≡◌, ◌+◌, ◌*◌, ◌≤◌, length, replicate};
 ghost use Rattle.rows.specs.Rows.{count, compose};
 ghost use Rattle.rows.specs.Words.{view};
-ghost use Rattle.rows.specs.Runs.{inRuns};
+ghost use Rattle.rows.specs.Runs.{in_runs};
 ghost use Rattle.rows.specs.Laid.{laid};
 ghost use Rattle.rows.specs.Asks.{InView};
 ghost use Rattle.books.specs.Windows.{Reached};
@@ -63,9 +63,9 @@ pub fn keep_whole(
 ) -> Walk
     requires { InView start (n * 64) words.now × (to + n ≤ length out.old) × Reached ranks.now 0 0 }
     ensures { (result.rank.0 ≡ count (view start (n * 64) words.now)) × Reached ranks.now result.next result.rank.0
-        × (result.held ≡ count (inRuns result.rank.0 ranks.now))
+        × (result.held ≡ count (in_runs result.rank.0 ranks.now))
         × (out.new ≡ laid (to * 64) (compose (view start (n * 64) words.now)
-        (inRuns (count (view start (n * 64) words.now)) ranks.now)) out.old) }
+        (in_runs (count (view start (n * 64) words.now)) ranks.now)) out.old) }
 {
     let mut i: usize = 0;
     let mut rank = Rank(0);

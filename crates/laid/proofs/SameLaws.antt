@@ -11,10 +11,10 @@ use lib.ListN.{length, take, set, replicate, length-set, length-replicate}
 use Rattle.rows.specs.Rows.{splice}
 use Rattle.rows.specs.Word.{bits_of}
 use Rattle.rows.specs.Words.{Below}
-use Rattle.rows.specs.Laid.{laidIn, laid}
-use Rattle.rows.proofs.FitLaws.{take-bits}
+use Rattle.rows.specs.Laid.{laid_in, laid}
+use Rattle.rows.proofs.FitLaws.{take_bits}
 use Rattle.rows.proofs.LaidLaws.{below_set, laid_nil, laid_same, laid_word}
-use Rattle.rows.proofs.MarkLaws.{laid-within}
+use Rattle.rows.proofs.MarkLaws.{laid_within}
 
 take_same : (n w : ℕ) (b : Bool) → n ≤ w → take n (replicate w b) ≡ replicate n b
 take_same zero w b h = refl
@@ -23,7 +23,7 @@ take_same (suc n) (suc w) b h = ap (λ (l : List Bool). b ∷ l) (take_same n w 
 
 -- the low bits of a word of one bit
 pub low_same : (n w x : ℕ) (b : Bool) → n ≤ w → bits_of w x ≡ replicate w b → bits_of n x ≡ replicate n b
-low_same n w x b h e = sym (take-bits n w x h) ∙ ap (take n) e ∙ take_same n w b h
+low_same n w x b h e = sym (take_bits n w x h) ∙ ap (take n) e ∙ take_same n w b h
 
 -- the words from first to i are of the bit b, and the others as they were
 pub record Filled (b : Bool) (first i : ℕ) (out₀ out : List ℕ) : Type 0 where
@@ -36,9 +36,9 @@ filled_none b first out h =
     let none : (first - first) * 64 ≡ 0 = omega arith in
     record { long = refl; small = h; filled = rw none (sym (laid_nil 64 (first * 64) out h)) }
 
-pub filled-word : (b : Bool) (v first i : ℕ) (out₀ out : List ℕ) → v < 2 ^ 64 → bits_of 64 v ≡ replicate 64 b → first ≤ i → Filled b first i out₀ out
+pub filled_word : (b : Bool) (v first i : ℕ) (out₀ out : List ℕ) → v < 2 ^ 64 → bits_of 64 v ≡ replicate 64 b → first ≤ i → Filled b first i out₀ out
     → Filled b first (i + 1) out₀ (set out i v)
-filled-word b v first i out₀ out h e le f =
+filled_word b v first i out₀ out h e le f =
     let done : ℕ = (i - first) * 64 in
     let place : i * 64 ≡ first * 64 + done = omega arith in
     let more : done + 64 ≡ (i + 1 - first) * 64 = omega arith in
@@ -51,26 +51,26 @@ filled-word b v first i out₀ out h e le f =
     }
 
 -- the same bit over the same bits changes none
-splice-same : (at n k : ℕ) (b : Bool) → splice at (replicate n b) (replicate k b) ≡ replicate n b
-splice-same zero zero k b = refl
-splice-same zero (suc n) zero b = refl
-splice-same zero (suc n) (suc k) b = ap (λ (l : List Bool). b ∷ l) (splice-same zero n k b)
-splice-same (suc at) zero k b = refl
-splice-same (suc at) (suc n) k b = ap (λ (l : List Bool). b ∷ l) (splice-same at n k b)
+splice_same : (at n k : ℕ) (b : Bool) → splice at (replicate n b) (replicate k b) ≡ replicate n b
+splice_same zero zero k b = refl
+splice_same zero (suc n) zero b = refl
+splice_same zero (suc n) (suc k) b = ap (λ (l : List Bool). b ∷ l) (splice_same zero n k b)
+splice_same (suc at) zero k b = refl
+splice_same (suc at) (suc n) k b = ap (λ (l : List Bool). b ∷ l) (splice_same at n k b)
 
 -- the same bit n times, and then m times from within those, or from their end, to their end or past it
-pub laid-again : (w at next j n m : ℕ) (b : Bool) (ns : List ℕ) → next ≡ at + j → j ≤ n → n ≤ j + m
-    → laidIn w next (replicate m b) (laidIn w at (replicate n b) ns) ≡ laidIn w at (replicate (j + m) b) ns
-laid-again w at next j n m b ns e from to =
-    let once : List ℕ = laidIn w at (replicate n b) ns in
+pub laid_again : (w at next j n m : ℕ) (b : Bool) (ns : List ℕ) → next ≡ at + j → j ≤ n → n ≤ j + m
+    → laid_in w next (replicate m b) (laid_in w at (replicate n b) ns) ≡ laid_in w at (replicate (j + m) b) ns
+laid_again w at next j n m b ns e from to =
+    let once : List ℕ = laid_in w at (replicate n b) ns in
     let again : ℕ = n - j in
     let past : ℕ = j + m - n in
     let parts : m ≡ again + past = omega arith in
     let all : n + past ≡ j + m = omega arith in
     let within : j + length (replicate again b) ≤ length (replicate n b) = omega (arith, length-replicate again b, length-replicate n b) in
-    let same : laidIn w next (replicate again b) once ≡ once =
-    ap (λ (x : ℕ). laidIn w x (replicate again b) once) e ∙ laid-within w at j (replicate n b) (replicate again b) ns within
-    ∙ ap (λ (l : List Bool). laidIn w at l ns) (splice-same j n again b) in
-    ap (λ (x : ℕ). laidIn w next (replicate x b) once) parts ∙ sym (laid_same w next (at + n) again past b once (omega arith))
-    ∙ ap (laidIn w (at + n) (replicate past b)) same ∙ laid_same w at (at + n) n past b ns refl
-    ∙ ap (λ (x : ℕ). laidIn w at (replicate x b) ns) all
+    let same : laid_in w next (replicate again b) once ≡ once =
+    ap (λ (x : ℕ). laid_in w x (replicate again b) once) e ∙ laid_within w at j (replicate n b) (replicate again b) ns within
+    ∙ ap (λ (l : List Bool). laid_in w at l ns) (splice_same j n again b) in
+    ap (λ (x : ℕ). laid_in w next (replicate x b) once) parts ∙ sym (laid_same w next (at + n) again past b once (omega arith))
+    ∙ ap (laid_in w (at + n) (replicate past b)) same ∙ laid_same w at (at + n) n past b ns refl
+    ∙ ap (λ (x : ℕ). laid_in w at (replicate x b) ns) all

@@ -4,7 +4,7 @@ ghost use Rattle.std.specs.Prelude.{◌≡◌, true, false, [], ◌∷◌, ℕ, 
 ghost use Rattle.rows.specs.Rows.{count, splice};
 ghost use Rattle.rows.specs.Word.{bits_of};
 ghost use Rattle.rows.specs.Words.{Below, view};
-ghost use Rattle.rows.specs.Laid.{wordsFor, laid, lastCleared};
+ghost use Rattle.rows.specs.Laid.{words_for, laid, last_cleared};
 ghost use Rattle.rows.specs.Asks.{Room, Chunk};
 
 use lent::inner::{chunk_len, ones, read};
@@ -151,8 +151,8 @@ pub fn set_bit(out: &mut [u64], at: u64)
 
 // The last word that so many bits need is 0.
 pub fn clear_last(out: &mut [u64], bits: u64)
-    requires { wordsFor bits ≤ length out.old }
-    ensures { out.new ≡ lastCleared bits out.old }
+    requires { words_for bits ≤ length out.old }
+    ensures { out.new ≡ last_cleared bits out.old }
 {
     if bits == 0 {
         return;

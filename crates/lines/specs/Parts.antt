@@ -11,7 +11,7 @@ use Rattle.rules.specs.Route.{published}
 use Rattle.rules.specs.Compose.{composed}
 use Rattle.lines.specs.declared.Found.{Found}
 use Rattle.lines.specs.declared.Found.TheVariants.{Masks, Malformed}
-use Rattle.lines.specs.Text.{selfIn, rankIn, decWell, lines_of}
+use Rattle.lines.specs.Text.{self_in, rank_in, dec_well, lines_of}
 
 -- the text begins with the key
 abbrev pub begins : List ℕ → List ℕ → Bool
@@ -20,16 +20,16 @@ begins (k ∷ key) [] = false
 begins (k ∷ key) (t ∷ text) = eqb t k && begins key text
 
 -- how many rows each mask of a well formed input has
-unfoldable pub foundIn : List ℕ → Found
-foundIn input = choose (decWell input (selfIn input) (rankIn input)) (Masks (length (selfIn input)) (length (rankIn input))) Malformed
+unfoldable pub found_in : List ℕ → Found
+found_in input = choose (dec_well input (self_in input) (rank_in input)) (Masks (length (self_in input)) (length (rank_in input))) Malformed
 
 -- the first n bits of words as an operand
-abbrev pub firstBits : List ℕ → ℕ → Operand
-firstBits ws n = lent (Words 0 n (count (view 0 n ws))) ws []
+abbrev pub first_bits : List ℕ → ℕ → Operand
+first_bits ws n = lent (Words 0 n (count (view 0 n ws))) ws []
 
 -- the answer to s rows in words and r rows in words, for an output of these words, and the text of its lines
-unfoldable pub answerWords : List ℕ → ℕ → List ℕ → ℕ → List ℕ → Answer
-answerWords sws s rws r out = composed published (firstBits sws s) (firstBits rws r) out
+unfoldable pub answer_words : List ℕ → ℕ → List ℕ → ℕ → List ℕ → Answer
+answer_words sws s rws r out = composed published (first_bits sws s) (first_bits rws r) out
 
-unfoldable pub toldWords : List ℕ → ℕ → List ℕ → ℕ → List ℕ → List ℕ
-toldWords sws s rws r out = lines_of (answerWords sws s rws r out) (compose (view 0 s sws) (view 0 r rws))
+unfoldable pub told_words : List ℕ → ℕ → List ℕ → ℕ → List ℕ → List ℕ
+told_words sws s rws r out = lines_of (answer_words sws s rws r out) (compose (view 0 s sws) (view 0 r rws))

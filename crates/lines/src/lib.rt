@@ -1,4 +1,6 @@
 // The program's page of the book, no code: document 01's lines, what is well formed and what is told for any input.
+#![tactic(auto)]
+
 use rules::Answer;
 
 // What was written: the answer, and how long the text of its lines is. An output that is shorter than the text has refusal 8 and

@@ -4,7 +4,7 @@ ghost use Rattle.std.specs.Int.Count.{ones};
 ghost use Rattle.rows.specs.Rows.{count, compose};
 ghost use Rattle.rows.specs.Word.{bits_of};
 ghost use Rattle.rows.specs.Words.{view};
-ghost use Rattle.rows.specs.Lists.{listed, Ascending, setRows, select};
+ghost use Rattle.rows.specs.Lists.{listed, Ascending, set_rows, select};
 ghost use Rattle.rows.specs.Laid.{laid, marked};
 ghost use Rattle.rows.specs.Asks.{Room, InView};
 ghost use Rattle.marks.specs.Driven.{Walked, Holds};
@@ -100,7 +100,7 @@ pub fn intersect_mask_driven_list(
     out: &mut [u64],
 )
     requires { InView start len words.now × Ascending 0 (count (view start len words.now)) ranks.now × Room at len out.old }
-    ensures { out.new ≡ marked at (setRows 0 (compose (view start len words.now)
+    ensures { out.new ≡ marked at (set_rows 0 (compose (view start len words.now)
         (listed (count (view start len words.now)) ranks.now))) out.old }
 {
     let mut place = Place {
@@ -127,9 +127,9 @@ fn mark_chunk(
     out: &mut [u64],
 ) -> Place
     requires { InView start len words.now × Room at len out.old × Walked (view start len words.now) from × (from.passed.0 ≤ base.0)
-        × Ascending from.passed.0 (count (view start len words.now)) (setRows base.0 (bits_of 64 chunk)) }
+        × Ascending from.passed.0 (count (view start len words.now)) (set_rows base.0 (bits_of 64 chunk)) }
     ensures { Walked (view start len words.now) result × (result.passed.0 ≤ base.0 + 64)
-        × (out.new ≡ marked at (map (select (view start len words.now)) (setRows base.0 (bits_of 64 chunk))) out.old) }
+        × (out.new ≡ marked at (map (select (view start len words.now)) (set_rows base.0 (bits_of 64 chunk))) out.old) }
 {
     let mut place = from;
     let mut rest = chunk;
@@ -155,7 +155,7 @@ pub fn intersect_mask_driven_words(
 )
     requires { InView start len words.now × (ranklen ≡ count (view start len words.now))
         × (from ≤ 63) × (from + ranklen ≤ length ranks.now * 64) × Room at len out.old }
-    ensures { out.new ≡ marked at (setRows 0 (compose (view start len words.now)
+    ensures { out.new ≡ marked at (set_rows 0 (compose (view start len words.now)
         (view from ranklen ranks.now))) out.old }
 {
     let mut place = Place {

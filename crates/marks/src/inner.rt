@@ -2,7 +2,7 @@
 // rows are marked in it.
 ghost use Rattle.std.specs.Prelude.{◌≡◌, ◌+◌, ◌*◌, ◌≤◌, ◌<◌, length, get_or, drop};
 ghost use Rattle.rows.specs.Rows.{count, compose};
-ghost use Rattle.rows.specs.Words.{bitsOfAll, view};
+ghost use Rattle.rows.specs.Words.{bits_of_all, view};
 ghost use Rattle.rows.specs.Lists.{listed, Ascending};
 ghost use Rattle.rows.specs.Laid.{laid};
 ghost use Rattle.rows.specs.Asks.{Room, InView};
@@ -56,7 +56,7 @@ pub fn lay_entry_if_set(
 )
     requires { Ascending 0 len (entries single rows.now) × (length (entries single rows.now) ≤ 1048576)
         × (from + length (entries single rows.now) ≤ length ranks.now * 64) × Room at len out.old }
-    ensures { out.new ≡ laid at (compose (listed len (entries single rows.now)) (drop from (bitsOfAll 64 ranks.now))) out.old }
+    ensures { out.new ≡ laid at (compose (listed len (entries single rows.now)) (drop from (bits_of_all 64 ranks.now))) out.old }
 {
     clear(out, at, len);
     intersect_indices_by_rank_bits(rows, single, ranks, from, len, at, out);

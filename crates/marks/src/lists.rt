@@ -3,8 +3,8 @@
 ghost use Rattle.std.specs.Prelude.{◌≡◌, map, ◌+◌, ◌*◌, ◌≤◌, ◌<◌, length, get_or, drop};
 ghost use Rattle.rows.specs.Rows.{compose};
 ghost use Rattle.rows.specs.Word.{bits_of};
-ghost use Rattle.rows.specs.Words.{Below, bitsOfAll};
-ghost use Rattle.rows.specs.Lists.{listed, setRows, Ascending};
+ghost use Rattle.rows.specs.Words.{Below, bits_of_all};
+ghost use Rattle.rows.specs.Lists.{listed, set_rows, Ascending};
 ghost use Rattle.rows.specs.Laid.{marked};
 ghost use Rattle.rows.specs.Asks.{Room};
 ghost use Rattle.marks.specs.Entries.{entries};
@@ -34,7 +34,7 @@ pub fn intersect_by_rank_indices(
     out: &mut [u64],
 )
     requires { Ascending 0 len (entries single rows.now) × Ascending 0 (length (entries single rows.now)) ranks.now × Room at len out.old }
-    ensures { out.new ≡ marked at (setRows 0 (compose (listed len (entries single rows.now))
+    ensures { out.new ≡ marked at (set_rows 0 (compose (listed len (entries single rows.now))
         (listed (length (entries single rows.now)) ranks.now))) out.old }
 {
     let mut i: usize = 0;
@@ -57,8 +57,8 @@ fn mark_entries(
     out: &mut [u64],
 )
     requires { Below len (entries single rows.now) × Room at len out.old
-        × Below (length (entries single rows.now)) (setRows base.0 (bits_of 64 chunk)) }
-    ensures { out.new ≡ marked at (map (λ k. get_or (entries single rows.now) k 0) (setRows base.0 (bits_of 64 chunk))) out.old }
+        × Below (length (entries single rows.now)) (set_rows base.0 (bits_of 64 chunk)) }
+    ensures { out.new ≡ marked at (map (λ k. get_or (entries single rows.now) k 0) (set_rows base.0 (bits_of 64 chunk))) out.old }
 {
     let mut rest = chunk;
     while rest != 0 {
@@ -82,7 +82,7 @@ pub fn intersect_indices_by_rank_bits(
 )
     requires { Ascending 0 len (entries single rows.now) × (length (entries single rows.now) ≤ 1048576)
         × (from + length (entries single rows.now) ≤ length ranks.now * 64) × Room at len out.old }
-    ensures { out.new ≡ marked at (setRows 0 (compose (listed len (entries single rows.now)) (drop from (bitsOfAll 64 ranks.now)))) out.old }
+    ensures { out.new ≡ marked at (set_rows 0 (compose (listed len (entries single rows.now)) (drop from (bits_of_all 64 ranks.now)))) out.old }
 {
     let count = entry_count(rows, single);
     let mut rank = Rank(0);

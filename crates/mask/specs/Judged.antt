@@ -4,21 +4,21 @@
 use Rattle.std.specs.Prelude.{ℕ, [], ◌∷◌}
 use Rattle.std.proofs.Math.Decide.{dec_le}
 use Rattle.rows.specs.declared.Refusal.{Refusal}
-use Rattle.rows.specs.Table.{need, first, ifFine}
+use Rattle.rows.specs.Table.{need, first, if_fine}
 use Rattle.rules.specs.declared.Written.{Written}
 use Rattle.rules.specs.Operand.{Operand}
 use Rattle.rules.specs.Answer.{refused}
-use Rattle.rules.specs.Convert.{convertChecks}
+use Rattle.rules.specs.Convert.{convert_checks}
 use Rattle.operand.specs.declared.inner.counts.Checked.{Checked}
-use Rattle.operand.specs.Counts.{checkedOf}
+use Rattle.operand.specs.Counts.{checked_of}
 
 -- what the operand's checks told, and then that what is needed has room
-abbrev pub withRoom : Checked → ℕ → ℕ → Checked
-withRoom c needed room = record { verdict = ifFine c.verdict (first (need (dec_le needed room) 8 0 ∷ [])) c.verdict; count = c.count }
+abbrev pub with_room : Checked → ℕ → ℕ → Checked
+with_room c needed room = record { verdict = if_fine c.verdict (first (need (dec_le needed room) 8 0 ∷ [])) c.verdict; count = c.count }
 
 abbrev pub judged : Operand → ℕ → ℕ → Checked
-judged o needed room = record { verdict = first (convertChecks o needed room); count = (checkedOf 1 o).count }
+judged o needed room = record { verdict = first (convert_checks o needed room); count = (checked_of 1 o).count }
 
 -- a refusal, and no runs
-abbrev pub noRuns : Refusal → Written
-noRuns r = record { answer = refused r; runs = 0 }
+abbrev pub no_runs : Refusal → Written
+no_runs r = record { answer = refused r; runs = 0 }

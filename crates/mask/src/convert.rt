@@ -1,11 +1,11 @@
 // The work of an accepted conversion: the operand's rows written, and its own answer.
 ghost use Rattle.std.specs.Prelude.{◌≡◌, ◌++◌, ◌≤◌, length, drop};
 ghost use Rattle.rows.specs.declared.Verdict.TheVariants.{Fine};
-ghost use Rattle.rows.specs.Lists.{setRows};
-ghost use Rattle.rows.specs.Laid.{wordsFor, written};
+ghost use Rattle.rows.specs.Lists.{set_rows};
+ghost use Rattle.rows.specs.Laid.{words_for, written};
 ghost use Rattle.rules.specs.Operand.{lent, rows_of, length_of, count_of, Accepted};
-ghost use Rattle.rules.specs.Answer.{answered, noRoute};
-ghost use Rattle.rules.specs.Convert.{toRuns, toRunsOut};
+ghost use Rattle.rules.specs.Answer.{answered, no_route};
+ghost use Rattle.rules.specs.Convert.{to_runs, to_runs_out};
 ghost use Rattle.operand.specs.Counts.{Counts};
 
 use super::inner::answers::{no_runs, own_answer};
@@ -17,8 +17,8 @@ use rows::inner::verdicts::refusal;
 use rules::{Answer, Written};
 
 pub fn convert_to_words(operand: Counted, words: &[u64], rows: &[u32], out: &mut [u64]) -> Answer
-    requires { Accepted (lent operand.form words.now rows.now) × Counts operand words.now rows.now × (wordsFor (length_of operand.form) ≤ length out.old) }
-    ensures { (result ≡ answered Fine (rows_of (lent operand.form words.now rows.now)) noRoute)
+    requires { Accepted (lent operand.form words.now rows.now) × Counts operand words.now rows.now × (words_for (length_of operand.form) ≤ length out.old) }
+    ensures { (result ≡ answered Fine (rows_of (lent operand.form words.now rows.now)) no_route)
         × (out.new ≡ written (length_of operand.form) (rows_of (lent operand.form words.now rows.now)) out.old) }
 {
     let form = operand.form;
@@ -28,8 +28,8 @@ pub fn convert_to_words(operand: Counted, words: &[u64], rows: &[u32], out: &mut
 
 pub fn convert_to_list(operand: Counted, words: &[u64], rows: &[u32], out: &mut [u32]) -> Answer
     requires { Accepted (lent operand.form words.now rows.now) × Counts operand words.now rows.now × (count_of (lent operand.form words.now rows.now) ≤ length out.old) }
-    ensures { (result ≡ answered Fine (rows_of (lent operand.form words.now rows.now)) noRoute)
-        × (out.new ≡ setRows 0 (rows_of (lent operand.form words.now rows.now)) ++ drop (count_of (lent operand.form words.now rows.now)) out.old) }
+    ensures { (result ≡ answered Fine (rows_of (lent operand.form words.now rows.now)) no_route)
+        × (out.new ≡ set_rows 0 (rows_of (lent operand.form words.now rows.now)) ++ drop (count_of (lent operand.form words.now rows.now)) out.old) }
 {
     let form = operand.form;
     write_list(form, words, rows, out);
@@ -39,8 +39,8 @@ pub fn convert_to_list(operand: Counted, words: &[u64], rows: &[u32], out: &mut 
 // The numbers needed are known only by counting the operand's runs, and so 8 is told here.
 pub fn convert_to_runs(operand: Counted, words: &[u64], rows: &[u32], out: &mut [u32]) -> Written
     requires { Accepted (lent operand.form words.now rows.now) × Counts operand words.now rows.now }
-    ensures { (result ≡ toRuns (lent operand.form words.now rows.now) out.old)
-        × (out.new ≡ toRunsOut (lent operand.form words.now rows.now) out.old) }
+    ensures { (result ≡ to_runs (lent operand.form words.now rows.now) out.old)
+        × (out.new ≡ to_runs_out (lent operand.form words.now rows.now) out.old) }
 {
     let form = operand.form;
     let numbers = count_runs(form, words, rows);

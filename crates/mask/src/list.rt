@@ -1,9 +1,9 @@
 // An operand's set rows as a list.
 ghost use Rattle.std.specs.Prelude.{◌≡◌, false, [], ◌++◌, ◌≤◌, length, drop};
 ghost use Rattle.rows.specs.Rows.{count, splice};
-ghost use Rattle.rows.specs.Lists.{setRows};
+ghost use Rattle.rows.specs.Lists.{set_rows};
 ghost use Rattle.rules.specs.Operand.{lent, rows_of, count_of, Accepted};
-ghost use Rattle.operand.specs.Flat.{Flat, hasRuns};
+ghost use Rattle.operand.specs.Flat.{Flat, has_runs};
 
 use fills::inner::list::list_runs;
 use lent::inner::chunk_len;
@@ -24,7 +24,7 @@ pub fn copy_list(rows: &[u32], out: &mut [u32])
 // All, none or words: chunk by chunk.
 fn list_flat(form: Form, words: &[u64], out: &mut [u32])
     requires { Flat (lent form words.now []) × (count (rows_of (lent form words.now [])) ≤ length out.old) }
-    ensures { out.new ≡ splice 0 out.old (setRows 0 (rows_of (lent form words.now []))) }
+    ensures { out.new ≡ splice 0 out.old (set_rows 0 (rows_of (lent form words.now []))) }
 {
     let len = length_of(form);
     let mut k: usize = 0;
@@ -38,8 +38,8 @@ fn list_flat(form: Form, words: &[u64], out: &mut [u32])
 
 // An operand that is no runs.
 fn write_other(form: Form, words: &[u64], rows: &[u32], out: &mut [u32])
-    requires { Accepted (lent form words.now rows.now) × (count_of (lent form [] rows.now) ≤ length out.old) × (hasRuns form ≡ false) }
-    ensures { out.new ≡ setRows 0 (rows_of (lent form words.now rows.now)) ++ drop (count_of (lent form [] rows.now)) out.old }
+    requires { Accepted (lent form words.now rows.now) × (count_of (lent form [] rows.now) ≤ length out.old) × (has_runs form ≡ false) }
+    ensures { out.new ≡ set_rows 0 (rows_of (lent form words.now rows.now)) ++ drop (count_of (lent form [] rows.now)) out.old }
 {
     if has_row_numbers(form) {
         copy_list(rows, out);
@@ -51,7 +51,7 @@ fn write_other(form: Form, words: &[u64], rows: &[u32], out: &mut [u32])
 // The set rows, ascending, over the front of out; later entries stay.
 pub fn write_list(form: Form, words: &[u64], rows: &[u32], out: &mut [u32])
     requires { Accepted (lent form words.now rows.now) × (count_of (lent form [] rows.now) ≤ length out.old) }
-    ensures { out.new ≡ setRows 0 (rows_of (lent form words.now rows.now)) ++ drop (count_of (lent form [] rows.now)) out.old }
+    ensures { out.new ≡ set_rows 0 (rows_of (lent form words.now rows.now)) ++ drop (count_of (lent form [] rows.now)) out.old }
 {
     if has_runs(form) {
         list_runs(rows, length_of(form), out);

@@ -6,7 +6,7 @@ use lib.Arith.{digits_div, digits_mod}
 use lib.Pow.{ones_lt, split, mod-pow-add}
 use lib.Bits.{bit_and, and_block, and_mask, and_le_r, and_zero_r}
 use lib.Count.{ones, ones_in, ones_cat, ones-le}
-use Rattle.network.specs.Lanes.{each2, each, inEach}
+use Rattle.network.specs.Lanes.{each2, each, in_each}
 use Rattle.network.proofs.DealtLaws.{ones_low}
 
 -- in each of n lanes of k digits of x, the count of its set digits
@@ -24,11 +24,11 @@ twice zero = zero
 twice (suc n) = suc (suc (twice n))
 
 -- ---- sums of numbers that are written by their digits to the base p
-add-lanes : (a b p u v : ℕ) → (a * p * p + u) + (b * p * p + v) ≡ (a + b) * p * p + (v + u)
-add-lanes a b p u v = omega (arith, ap (λ (n : ℕ). n * p) (add-mul a b p), add-mul (a * p) (b * p) p)
+add_lanes : (a b p u v : ℕ) → (a * p * p + u) + (b * p * p + v) ≡ (a + b) * p * p + (v + u)
+add_lanes a b p u v = omega (arith, ap (λ (n : ℕ). n * p) (add-mul a b p), add-mul (a * p) (b * p) p)
 
-add-shifted : (z p h l : ℕ) → (z * p + h) * p + l + (z * p + h) ≡ ((z + z / p) * p + (z % p + h)) * p + (h + l)
-add-shifted z p h l =
+add_shifted : (z p h l : ℕ) → (z * p + h) * p + l + (z * p + h) ≡ ((z + z / p) * p + (z % p + h)) * p + (h + l)
+add_shifted z p h l =
     let e : (z + z / p) * p + (z % p + h) ≡ z * p + h + z = omega (arith, add-mul z (z / p) p, div-add-mod' z p) in
     omega (arith, ap (λ (n : ℕ). n * p) e, add-mul (z * p + h) z p)
 
@@ -54,16 +54,16 @@ module _ (k : ℕ) where
       (ap₂ (λ (y p : ℕ). counted (k + k) n y * p) (sym (shr-shr x k k)) (pow-add 2 k k) ∙ sym (mul_assoc (counted (k + k) n (x / 2 ^ k / 2 ^ k)) (2 ^ k) (2 ^ k)))
       (ap ones (mod-pow-add x k k) ∙ ones_cat k (x / 2 ^ k % 2 ^ k) (x % 2 ^ k) (mod-lt x (pow_pos k)))
 
-  count-le : (x : ℕ) → ones (x % 2 ^ k) ≤ k
-  count-le x = ones-le k (x % 2 ^ k) (mod-lt x (pow_pos k))
+  count_le : (x : ℕ) → ones (x % 2 ^ k) ≤ k
+  count_le x = ones-le k (x % 2 ^ k) (mod-lt x (pow_pos k))
 
-  count-lt : (x : ℕ) → ones (x % 2 ^ k) < 2 ^ k
-  count-lt x = omega (arith, count-le x, holds k)
+  count_lt : (x : ℕ) → ones (x % 2 ^ k) < 2 ^ k
+  count_lt x = omega (arith, count_le x, holds k)
 
-  lowest-le : (n x : ℕ) → counted k n x % 2 ^ k ≤ k
+  lowest_le : (n x : ℕ) → counted k n x % 2 ^ k ≤ k
   unfolding counted
-  lowest-le zero x = omega (arith, mod-le 0 (2 ^ k))
-  lowest-le (suc n) x = omega (arith, digits_mod (counted k n (x / 2 ^ k)) (count-lt x), count-le x)
+  lowest_le zero x = omega (arith, mod-le 0 (2 ^ k))
+  lowest_le (suc n) x = omega (arith, digits_mod (counted k n (x / 2 ^ k)) (count_lt x), count_le x)
 
   -- each lane and its neighbour, added
   neighbours : (n x : ℕ) → bit_and (counted k (twice n) x) (lower k n) + bit_and (counted k (twice n) x / 2 ^ k) (lower k n) ≡ counted (k + k) n x
@@ -75,24 +75,24 @@ module _ (k : ℕ) where
       let m : ℕ = lower k n in
       let h : ℕ = ones (x / 2 ^ k % 2 ^ k) in
       let l : ℕ = ones (x % 2 ^ k) in
-      ap₂ (λ (p q : ℕ). p + q) (kept z m h l (count-lt (x / 2 ^ k)) (count-lt x))
-      (ap (λ (c : ℕ). bit_and c (lower k (suc n))) (digits_div (z * 2 ^ k + h) (count-lt x) ∙ ap (λ (c : ℕ). c * 2 ^ k + h) (sym (split z k)))
-      ∙ kept (z / 2 ^ k) m (z % 2 ^ k) h (mod-lt z (pow_pos k)) (count-lt (x / 2 ^ k)))
-      ∙ add-lanes (bit_and z m) (bit_and (z / 2 ^ k) m) (2 ^ k) l h ∙ ap (λ (s : ℕ). s * 2 ^ k * 2 ^ k + (h + l)) (neighbours n y) ∙ sym (halves n x)
+      ap₂ (λ (p q : ℕ). p + q) (kept z m h l (count_lt (x / 2 ^ k)) (count_lt x))
+      (ap (λ (c : ℕ). bit_and c (lower k (suc n))) (digits_div (z * 2 ^ k + h) (count_lt x) ∙ ap (λ (c : ℕ). c * 2 ^ k + h) (sym (split z k)))
+      ∙ kept (z / 2 ^ k) m (z % 2 ^ k) h (mod-lt z (pow_pos k)) (count_lt (x / 2 ^ k)))
+      ∙ add_lanes (bit_and z m) (bit_and (z / 2 ^ k) m) (2 ^ k) l h ∙ ap (λ (s : ℕ). s * 2 ^ k * 2 ^ k + (h + l)) (neighbours n y) ∙ sym (halves n x)
 
   -- where a lane holds the sum of two, the mask may come after the sum
-  neighbours-fit : k + k < 2 ^ k → (n x : ℕ) → bit_and (counted k (twice n) x + counted k (twice n) x / 2 ^ k) (lower k n) ≡ counted (k + k) n x
+  neighbours_fit : k + k < 2 ^ k → (n x : ℕ) → bit_and (counted k (twice n) x + counted k (twice n) x / 2 ^ k) (lower k n) ≡ counted (k + k) n x
   unfolding counted lower
-  neighbours-fit f zero x = and_zero_r (0 + 0 / 2 ^ k)
-  neighbours-fit f (suc n) x =
+  neighbours_fit f zero x = and_zero_r (0 + 0 / 2 ^ k)
+  neighbours_fit f (suc n) x =
       let y : ℕ = x / 2 ^ k / 2 ^ k in
       let z : ℕ = counted k (twice n) y in
       let h : ℕ = ones (x / 2 ^ k % 2 ^ k) in
       let l : ℕ = ones (x % 2 ^ k) in
-      ap (λ (c : ℕ). bit_and ((z * 2 ^ k + h) * 2 ^ k + l + c) (lower k (suc n))) (digits_div (z * 2 ^ k + h) (count-lt x))
-      ∙ ap (λ (c : ℕ). bit_and c (lower k (suc n))) (add-shifted z (2 ^ k) h l)
-      ∙ kept (z + z / 2 ^ k) (lower k n) (z % 2 ^ k + h) (h + l) (omega (arith, lowest-le (twice n) y, count-le (x / 2 ^ k))) (omega (arith, count-le x, count-le (x / 2 ^ k)))
-      ∙ ap (λ (s : ℕ). s * 2 ^ k * 2 ^ k + (h + l)) (neighbours-fit f n y) ∙ sym (halves n x)
+      ap (λ (c : ℕ). bit_and ((z * 2 ^ k + h) * 2 ^ k + l + c) (lower k (suc n))) (digits_div (z * 2 ^ k + h) (count_lt x))
+      ∙ ap (λ (c : ℕ). bit_and c (lower k (suc n))) (add_shifted z (2 ^ k) h l)
+      ∙ kept (z + z / 2 ^ k) (lower k n) (z % 2 ^ k + h) (h + l) (omega (arith, lowest_le (twice n) y, count_le (x / 2 ^ k))) (omega (arith, count_le x, count_le (x / 2 ^ k)))
+      ∙ ap (λ (s : ℕ). s * 2 ^ k * 2 ^ k + (h + l)) (neighbours_fit f n y) ∙ sym (halves n x)
 
 -- a pair of digits is its count and its upper digit
 pairs : (n x : ℕ) → x < 4 ^ n → counted 2 n x + bit_and (x / 2) (lower 1 n) ≡ x
@@ -113,15 +113,15 @@ bytes (suc n) x = ap (λ (p : ℕ). p * 256 + ones (x % 256)) (bytes n (x / 256)
 abbrev pub nib : ℕ → ℕ → ℕ → ℕ → ℕ
 nib m k₁ k₂ k₃ = bit_and (m - bit_and (m / 2) k₁) k₂ + bit_and ((m - bit_and (m / 2) k₁) / 4) k₃
 
-pub nib-lt : (m k₁ k₂ k₃ : ℕ) → k₂ ≡ inEach 8 0x33 → k₃ ≡ inEach 8 0x33 → nib m k₁ k₂ k₃ < 2 ^ 63
-unfolding inEach
-nib-lt m k₁ k₂ k₃ e₂ e₃ = omega (arith, and_le_r (m - bit_and (m / 2) k₁) k₂, and_le_r ((m - bit_and (m / 2) k₁) / 4) k₃)
+pub nib_lt : (m k₁ k₂ k₃ : ℕ) → k₂ ≡ in_each 8 0x33 → k₃ ≡ in_each 8 0x33 → nib m k₁ k₂ k₃ < 2 ^ 63
+unfolding in_each
+nib_lt m k₁ k₂ k₃ e₂ e₃ = omega (arith, and_le_r (m - bit_and (m / 2) k₁) k₂, and_le_r ((m - bit_and (m / 2) k₁) / 4) k₃)
 
-pub counts-word : (m k₁ k₂ k₃ k₄ : ℕ) → m < 2 ^ 64 → k₁ ≡ inEach 8 0x55 → k₂ ≡ inEach 8 0x33 → k₃ ≡ inEach 8 0x33 → k₄ ≡ inEach 8 0x0f
+pub counts_word : (m k₁ k₂ k₃ k₄ : ℕ) → m < 2 ^ 64 → k₁ ≡ in_each 8 0x55 → k₂ ≡ in_each 8 0x33 → k₃ ≡ in_each 8 0x33 → k₄ ≡ in_each 8 0x0f
     → bit_and (nib m k₁ k₂ k₃ + nib m k₁ k₂ k₃ / 16) k₄ ≡ each ones 8 m
-unfolding inEach lower
-counts-word m k₁ k₂ k₃ k₄ h e₁ e₂ e₃ e₄ =
+unfolding in_each lower
+counts_word m k₁ k₂ k₃ k₄ h e₁ e₂ e₃ e₄ =
     let p : m - bit_and (m / 2) k₁ ≡ counted 2 32 m = omega (arith, ap (bit_and (m / 2)) e₁, pairs 32 m h) in
     let n : nib m k₁ k₂ k₃ ≡ counted 4 16 m =
     ap₂ (λ (k l : ℕ). nib m k₁ k l) e₂ e₃ ∙ ap (λ (q : ℕ). bit_and q (lower 2 16) + bit_and (q / 4) (lower 2 16)) p ∙ neighbours 2 16 m in
-    ap₂ (λ (q k : ℕ). bit_and (q + q / 16) k) n e₄ ∙ neighbours-fit 4 (omega arith) 8 m ∙ bytes 8 m
+    ap₂ (λ (q k : ℕ). bit_and (q + q / 16) k) n e₄ ∙ neighbours_fit 4 (omega arith) 8 m ∙ bytes 8 m

@@ -11,9 +11,9 @@ abbrev pub each : (ℕ → ℕ) → ℕ → ℕ → ℕ
 each f n y = each2 (λ a b. f b) n y y
 
 -- b in each of n bytes
-unfoldable pub inEach : ℕ → ℕ → ℕ
-inEach zero b = zero
-inEach (suc n) b = inEach n b * 256 + b
+unfoldable pub in_each : ℕ → ℕ → ℕ
+in_each zero b = zero
+in_each (suc n) b = in_each n b * 256 + b
 
 -- in byte j, a and the set digits of m in the bytes below byte j
 unfoldable pub before : ℕ → ℕ → ℕ → ℕ
@@ -64,12 +64,12 @@ pick false a b = b
 --   packed_at 3    . . . . d c b a
 
 -- parity from the length len on, doubled up to 8
-unfoldable pub parityFrom : ℕ → ℕ → ℕ → ℕ
-parityFrom zero len z = z
-parityFrom (suc f) len z = pick (nat_lt len 8) (parityFrom f (len * 2) (bit_xor z (up8 len z))) z
+unfoldable pub parity_from : ℕ → ℕ → ℕ → ℕ
+parity_from zero len z = z
+parity_from (suc f) len z = pick (nat_lt len 8) (parity_from f (len * 2) (bit_xor z (up8 len z))) z
 
 unfoldable pub parity8 : ℕ → ℕ → ℕ
-parity8 len z = parityFrom 4 len z
+parity8 len z = parity_from 4 len z
 
 -- what a stage leaves of the zeros z, and of the packed mask p; and where the bits that it moves land
 unfoldable pub zeros8 : ℕ → ℕ → ℕ
@@ -82,32 +82,32 @@ unfoldable pub packed8 : ℕ → ℕ → ℕ → ℕ
 packed8 k z p = bit_xor p (bit_xor (bit_and p (parity8 k z)) (bit_and p (parity8 k z) / 2 ^ k))
 
 -- before stage i: the zeros of the mask byte b, and its bits
-unfoldable pub zerosAt : ℕ → ℕ → ℕ
-zerosAt zero b = 255 - b
-zerosAt (suc i) b = zeros8 (2 ^ i) (zerosAt i b)
+unfoldable pub zeros_at : ℕ → ℕ → ℕ
+zeros_at zero b = 255 - b
+zeros_at (suc i) b = zeros8 (2 ^ i) (zeros_at i b)
 
 unfoldable pub packed_at : ℕ → ℕ → ℕ
 packed_at zero b = b
-packed_at (suc i) b = packed8 (2 ^ i) (zerosAt i b) (packed_at i b)
+packed_at (suc i) b = packed8 (2 ^ i) (zeros_at i b) (packed_at i b)
 
 -- where the bits that stage i moves land
-unfoldable pub landedAt : ℕ → ℕ → ℕ
-landedAt i b = landed8 (2 ^ i) (zerosAt i b) (packed_at i b)
+unfoldable pub landed_at : ℕ → ℕ → ℕ
+landed_at i b = landed8 (2 ^ i) (zeros_at i b) (packed_at i b)
 
 -- a stage undone, on a word of w digits: the bits of r at l move up by k
 abbrev pub undo : ℕ → ℕ → ℕ → ℕ → ℕ
 undo w k l r = bit_or (bit_and r (2 ^ w - 1 - l)) ((bit_and r l * 2 ^ k) % 2 ^ w)
 
 -- the stages below i undone, the last one first, where the bits of each landed at the entry of ls
-unfoldable pub undoFrom : ℕ → List ℕ → ℕ → ℕ → ℕ
-undoFrom w ls zero r = r
-undoFrom w ls (suc i) r = undoFrom w ls i (undo w (2 ^ i) (slice_index ls i) r)
+unfoldable pub undo_from : ℕ → List ℕ → ℕ → ℕ → ℕ
+undo_from w ls zero r = r
+undo_from w ls (suc i) r = undo_from w ls i (undo w (2 ^ i) (slice_index ls i) r)
 
 -- a stage done, on a word of w digits: the bits of r that land at l move down by k
 abbrev pub move : ℕ → ℕ → ℕ → ℕ → ℕ
 move w k l r = bit_or (bit_and r (2 ^ w - 1 - (l * 2 ^ k) % 2 ^ w)) (bit_and (r / 2 ^ k) l)
 
 -- the stages below i done, the first one first, where the bits of each land at the entry of ls
-unfoldable pub moveTo : ℕ → List ℕ → ℕ → ℕ → ℕ
-moveTo w ls zero r = r
-moveTo w ls (suc i) r = move w (2 ^ i) (slice_index ls i) (moveTo w ls i r)
+unfoldable pub move_to : ℕ → List ℕ → ℕ → ℕ → ℕ
+move_to w ls zero r = r
+move_to w ls (suc i) r = move w (2 ^ i) (slice_index ls i) (move_to w ls i r)

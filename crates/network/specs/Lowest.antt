@@ -4,26 +4,26 @@
 use Rattle.std.specs.Prelude.{ℕ, zero, suc, ◌+◌, ◌*◌, ◌/◌, ◌%◌, ◌^◌}
 
 -- a where the digit is set, and else b
-abbrev pub ifSet : ℕ → ℕ → ℕ → ℕ
-ifSet zero a b = b
-ifSet (suc d) a b = a
+abbrev pub if_set : ℕ → ℕ → ℕ → ℕ
+if_set zero a b = b
+if_set (suc d) a b = a
 
 -- the lowest set digit of n, at its place; 0 where none is set
-unfoldable pub lowestSet : ℕ → ℕ → ℕ
-lowestSet zero n = zero
-lowestSet (suc w) n = ifSet (n % 2) 1 (lowestSet w (n / 2) * 2)
+unfoldable pub lowest_set : ℕ → ℕ → ℕ
+lowest_set zero n = zero
+lowest_set (suc w) n = if_set (n % 2) 1 (lowest_set w (n / 2) * 2)
 
 -- n without its lowest set digit
-unfoldable pub withoutLowest : ℕ → ℕ → ℕ
-withoutLowest zero n = zero
-withoutLowest (suc w) n = ifSet (n % 2) (n / 2 * 2) (withoutLowest w (n / 2) * 2)
+unfoldable pub without_lowest : ℕ → ℕ → ℕ
+without_lowest zero n = zero
+without_lowest (suc w) n = if_set (n % 2) (n / 2 * 2) (without_lowest w (n / 2) * 2)
 
 -- the source s moved up by one from the lowest set digit of h on; the digit that comes in below is c
-unfoldable pub pastHole : ℕ → ℕ → ℕ → ℕ → ℕ
-pastHole zero h c s = zero
-pastHole (suc w) h c s = ifSet (h % 2) ((s * 2 + c) % 2 ^ suc w) (pastHole w (h / 2) (s % 2) (s / 2) * 2 + s % 2)
+unfoldable pub past_hole : ℕ → ℕ → ℕ → ℕ → ℕ
+past_hole zero h c s = zero
+past_hole (suc w) h c s = if_set (h % 2) ((s * 2 + c) % 2 ^ suc w) (past_hole w (h / 2) (s % 2) (s / 2) * 2 + s % 2)
 
 -- the source s without its digit at the lowest set digit of h: the digits above it moved down by one
 unfoldable pub closed : ℕ → ℕ → ℕ → ℕ
 closed zero h s = zero
-closed (suc w) h s = ifSet (h % 2) (s / 2) (closed w (h / 2) (s / 2) * 2 + s % 2)
+closed (suc w) h s = if_set (h % 2) (s / 2) (closed w (h / 2) (s / 2) * 2 + s % 2)

@@ -6,8 +6,8 @@
 // stages done on the source's bits at the mask's (`pack`).
 // A picture of the stages is in `specs/Lanes`.
 ghost use Rattle.std.specs.Prelude.{◌≡◌, ℕ, ◌*◌, ◌/◌, ◌%◌, ◌^◌, ◌<◌, ◌⊎◌, [], ◌∷◌, count_ones};
-ghost use Rattle.network.specs.Lanes.{before, down8, each, each2, gathered, joined, landed8, landedAt, moveTo, packed8, packed_at, parity8};
-ghost use Rattle.network.specs.Lanes.{undoFrom, up8, zeros8};
+ghost use Rattle.network.specs.Lanes.{before, down8, each, each2, gathered, joined, landed8, landed_at, move_to, packed8, packed_at, parity8};
+ghost use Rattle.network.specs.Lanes.{undo_from, up8, zeros8};
 
 use super::num::{bytes, wrapping_mul};
 
@@ -119,7 +119,7 @@ pub struct Packed {
 }
 
 pub fn compress(mask: u64) -> Packed
-    ensures { (result.packed ≡ each (packed_at 3) 8 mask) × (result.landed ≡ each (landedAt 0) 8 mask ∷ each (landedAt 1) 8 mask ∷ each (landedAt 2) 8 mask ∷ []) }
+    ensures { (result.packed ≡ each (packed_at 3) 8 mask) × (result.landed ≡ each (landed_at 0) 8 mask ∷ each (landed_at 1) 8 mask ∷ each (landed_at 2) 8 mask ∷ []) }
 {
     let mut packed = mask;
     let mut zeros = !mask;
@@ -135,7 +135,7 @@ pub fn compress(mask: u64) -> Packed
 
 // The stages undone, the last one first: the bits at the places where a stage's bits landed go up again by its shift.
 pub fn spread(low: u64, landed: [u64; 3]) -> u64
-    ensures { result ≡ undoFrom 64 landed 3 low }
+    ensures { result ≡ undo_from 64 landed 3 low }
 {
     let mut result = low;
     let mut i: usize = 3;
@@ -149,7 +149,7 @@ pub fn spread(low: u64, landed: [u64; 3]) -> u64
 
 // The stages done on bits that lie among the mask's, the first one first: the bits that a stage moves go down by its shift.
 pub fn pack(bits: u64, landed: [u64; 3]) -> u64
-    ensures { result ≡ moveTo 64 landed 3 bits }
+    ensures { result ≡ move_to 64 landed 3 bits }
 {
     let mut result = bits;
     for i in 0usize..3 {

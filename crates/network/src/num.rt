@@ -1,10 +1,10 @@
 // A byte in every byte of a word, and the product modulo 2^64.
 ghost use Rattle.std.specs.Prelude.{◌≡◌, ◌*◌, ◌%◌, ◌^◌};
-ghost use Rattle.network.specs.Lanes.{inEach};
+ghost use Rattle.network.specs.Lanes.{in_each};
 
 // b in every byte of a word.
 pub fn bytes(b: u8) -> u64
-    ensures { result ≡ inEach 8 b }
+    ensures { result ≡ in_each 8 b }
 {
     b as u64 * 0x0101_0101_0101_0101
 }

@@ -2,17 +2,17 @@
 -- Assumes nothing.
 use Rattle.std.specs.Prelude.{ℕ, ◌≡◌, List}
 use Rattle.rows.specs.declared.Verdict.{Verdict}
-use Rattle.rows.specs.Table.{first, ifFine}
-use Rattle.rules.specs.Operand.{Operand, lent, count_of, operandChecks}
+use Rattle.rows.specs.Table.{first, if_fine}
+use Rattle.rules.specs.Operand.{Operand, lent, count_of, operand_checks}
 use Rattle.operand.specs.declared.inner.counts.Checked.{Checked}
 use Rattle.operand.specs.declared.inner.counts.Counted.{Counted}
 
 -- the count where every need is met, and else 0
-abbrev pub checkedBy : Verdict → ℕ → Checked
-checkedBy v n = record { verdict = v; count = ifFine v n 0 }
+abbrev pub checked_by : Verdict → ℕ → Checked
+checked_by v n = record { verdict = v; count = if_fine v n 0 }
 
-abbrev pub checkedOf : ℕ → Operand → Checked
-checkedOf k o = checkedBy (first (operandChecks k o)) (count_of o)
+abbrev pub checked_of : ℕ → Operand → Checked
+checked_of k o = checked_by (first (operand_checks k o)) (count_of o)
 
 -- the count is the operand's own
 abbrev pub Counts : Counted → List ℕ → List ℕ → Type 0

@@ -15,28 +15,28 @@ start_of (Listed len) = 0
 start_of (Runs len) = 0
 
 -- the numbers lent are its set rows: they can be marked, and copied
-abbrev pub hasRowNumbers : Form → Bool
-hasRowNumbers (All n) = false
-hasRowNumbers (None n) = false
-hasRowNumbers (Words start len claimed) = false
-hasRowNumbers (Listed len) = true
-hasRowNumbers (Runs len) = false
+abbrev pub has_row_numbers : Form → Bool
+has_row_numbers (All n) = false
+has_row_numbers (None n) = false
+has_row_numbers (Words start len claimed) = false
+has_row_numbers (Listed len) = true
+has_row_numbers (Runs len) = false
 
 -- they are its runs, in pairs
-abbrev pub hasRuns : Form → Bool
-hasRuns (All n) = false
-hasRuns (None n) = false
-hasRuns (Words start len claimed) = false
-hasRuns (Listed len) = false
-hasRuns (Runs len) = true
+abbrev pub has_runs : Form → Bool
+has_runs (All n) = false
+has_runs (None n) = false
+has_runs (Words start len claimed) = false
+has_runs (Listed len) = false
+has_runs (Runs len) = true
 
 -- its rows are bits of the words lent
-abbrev pub hasWords : Form → Bool
-hasWords (All n) = false
-hasWords (None n) = false
-hasWords (Words start len claimed) = true
-hasWords (Listed len) = false
-hasWords (Runs len) = false
+abbrev pub has_words : Form → Bool
+has_words (All n) = false
+has_words (None n) = false
+has_words (Words start len claimed) = true
+has_words (Listed len) = false
+has_words (Runs len) = false
 
 -- what reading its rows chunk by chunk needs: no row numbers, no runs, and its words reach
 abbrev pub FlatBy : Form → List ℕ → Type 0

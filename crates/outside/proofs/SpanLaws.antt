@@ -15,38 +15,38 @@ use lib.ListN.{length, get_or, drop, length-drop, drop_of_length-le}
 use lib.Seq.{drop-cons}
 use Rattle.rows.specs.Lists.{member, Ascending}
 use Rattle.rows.specs.Runs.{held, Apart}
-use Rattle.rows.proofs.RunLaws.{held-past, held_first}
+use Rattle.rows.proofs.RunLaws.{held_past, held_first}
 use Rattle.outside.specs.First.{First, Reach}
 use Rattle.outside.specs.Spans.{doubled, Rising, Come, Stands}
 
 -- ---- runs and entries are spans
 
-pub apart-rising : (b c e : ℕ) (ns : List ℕ) → b ≤ c → Apart c e ns → Rising b e ns
-apart-rising b c e [] h a = tt
-apart-rising b c e (f ∷ []) h a = absurd a
-apart-rising b c e (f ∷ p ∷ ns) h a = (omega arith, a.1, a.2, apart-rising p (suc p) e ns (omega arith) a.3)
+pub apart_rising : (b c e : ℕ) (ns : List ℕ) → b ≤ c → Apart c e ns → Rising b e ns
+apart_rising b c e [] h a = tt
+apart_rising b c e (f ∷ []) h a = absurd a
+apart_rising b c e (f ∷ p ∷ ns) h a = (omega arith, a.1, a.2, apart_rising p (suc p) e ns (omega arith) a.3)
 
-pub ascending-rising : (b e : ℕ) (rs : List ℕ) → Ascending b e rs → Rising b e (doubled rs)
-ascending-rising b e [] a = tt
-ascending-rising b e (r ∷ rs) a = (a.0, omega arith, omega arith, ascending-rising (suc r) e rs a.2)
+pub ascending_rising : (b e : ℕ) (rs : List ℕ) → Ascending b e rs → Rising b e (doubled rs)
+ascending_rising b e [] a = tt
+ascending_rising b e (r ∷ rs) a = (a.0, omega arith, omega arith, ascending_rising (suc r) e rs a.2)
 
-pub doubled-length : (rs : List ℕ) → length (doubled rs) ≡ length rs * 2
-doubled-length [] = refl
-doubled-length (r ∷ rs) = omega (arith, doubled-length rs)
+pub doubled_length : (rs : List ℕ) → length (doubled rs) ≡ length rs * 2
+doubled_length [] = refl
+doubled_length (r ∷ rs) = omega (arith, doubled_length rs)
 
-pub doubled-at : (rs : List ℕ) (i : ℕ) → i < length rs
+pub doubled_at : (rs : List ℕ) (i : ℕ) → i < length rs
     → (get_or rs i 0 ≡ get_or (doubled rs) (i * 2) 0) × (get_or rs i 0 + 1 ≡ get_or (doubled rs) (i * 2 + 1) 0)
-doubled-at [] i h = absurd (omega arith)
-doubled-at (r ∷ rs) zero h = (refl, add-one r)
-doubled-at (r ∷ rs) (suc i) h =
-    let later = doubled-at rs i (le_of_suc-le-suc h) in
+doubled_at [] i h = absurd (omega arith)
+doubled_at (r ∷ rs) zero h = (refl, add-one r)
+doubled_at (r ∷ rs) (suc i) h =
+    let later = doubled_at rs i (le_of_suc-le-suc h) in
     let first : suc (suc (i * 2)) ≡ suc i * 2 = omega arith in
     let past : suc (suc (i * 2 + 1)) ≡ suc i * 2 + 1 = omega arith in
     (later.0 ∙ ap (λ (k : ℕ). get_or (doubled (r ∷ rs)) k 0) first, later.1 ∙ ap (λ (k : ℕ). get_or (doubled (r ∷ rs)) k 0) past)
 
-pub doubled-held : (i : ℕ) (rs : List ℕ) → held i (doubled rs) ≡ member i rs
-doubled-held i [] = refl
-doubled-held i (r ∷ rs) = ap₂ ◌||◌ (by (ℕ_discrete i r)) (doubled-held i rs)
+pub doubled_held : (i : ℕ) (rs : List ℕ) → held i (doubled rs) ≡ member i rs
+doubled_held i [] = refl
+doubled_held i (r ∷ rs) = ap₂ ◌||◌ (by (ℕ_discrete i r)) (doubled_held i rs)
   where
     by : Dec (i ≡ r) → (leb r i && ltb i (suc r)) ≡ eqb i r
     by (yes e) = ap₂ ◌&&◌ (le-leb r i (omega arith)) (lt-ltb i (suc r) (omega arith)) ∙ sym (eq-eqb i r e)
@@ -58,42 +58,42 @@ doubled-held i (r ∷ rs) = ap₂ ◌||◌ (by (ℕ_discrete i r)) (doubled-held
 
 -- ---- spans that rise
 
-rising-lower : (b c e : ℕ) (ns : List ℕ) → b ≤ c → Rising c e ns → Rising b e ns
-rising-lower b c e [] h a = tt
-rising-lower b c e (f ∷ []) h a = absurd a
-rising-lower b c e (f ∷ p ∷ ns) h a = (omega arith, a.1, a.2, a.3)
+rising_lower : (b c e : ℕ) (ns : List ℕ) → b ≤ c → Rising c e ns → Rising b e ns
+rising_lower b c e [] h a = tt
+rising_lower b c e (f ∷ []) h a = absurd a
+rising_lower b c e (f ∷ p ∷ ns) h a = (omega arith, a.1, a.2, a.3)
 
 -- they hold no row below them
-rising-below : (row c e : ℕ) (ns : List ℕ) → row < c → Rising c e ns → held row ns ≡ false
-rising-below row c e [] h a = refl
-rising-below row c e (f ∷ []) h a = refl
-rising-below row c e (f ∷ p ∷ ns) h a = rw (lt-leb f row (omega arith), rising-below row p e ns (omega arith) a.3)
+rising_below : (row c e : ℕ) (ns : List ℕ) → row < c → Rising c e ns → held row ns ≡ false
+rising_below row c e [] h a = refl
+rising_below row c e (f ∷ []) h a = refl
+rising_below row c e (f ∷ p ∷ ns) h a = rw (lt-leb f row (omega arith), rising_below row p e ns (omega arith) a.3)
 
-rising-even : (b e : ℕ) (ns : List ℕ) → Rising b e ns → length ns ≡ length ns / 2 * 2
-rising-even b e [] a = refl
-rising-even b e (f ∷ []) a = absurd a
-rising-even b e (f ∷ p ∷ ns) a = omega (arith, rising-even p e ns a.3)
+rising_even : (b e : ℕ) (ns : List ℕ) → Rising b e ns → length ns ≡ length ns / 2 * 2
+rising_even b e [] a = refl
+rising_even b e (f ∷ []) a = absurd a
+rising_even b e (f ∷ p ∷ ns) a = omega (arith, rising_even p e ns a.3)
 
 -- ---- the walk
 
-pub come-start : (ns : List ℕ) (e : ℕ) → Rising 0 e ns → Come ns e 0 0
-come-start ns e a = record { ahead = a; behind = λ row h. refl }
+pub come_start : (ns : List ℕ) (e : ℕ) → Rising 0 e ns → Come ns e 0 0
+come_start ns e a = record { ahead = a; behind = λ row h. refl }
 
-pub come-later : (ns : List ℕ) (e i b c : ℕ) → b ≤ c → Come ns e i b → Come ns e i c
-come-later ns e i b c h w = record { ahead = w.ahead; behind = λ row k. w.behind row (omega arith) }
+pub come_later : (ns : List ℕ) (e i b c : ℕ) → b ≤ c → Come ns e i b → Come ns e i c
+come_later ns e i b c h w = record { ahead = w.ahead; behind = λ row k. w.behind row (omega arith) }
 
 -- no span is left
-pub come-none : (ns : List ℕ) (e i b : ℕ) → length ns / 2 ≤ i → Come ns e i b → Stands ns e b e e
-come-none ns e i b h w = record {
+pub come_none : (ns : List ℕ) (e i b : ℕ) → length ns / 2 ≤ i → Come ns e i b → Stands ns e b e e
+come_none ns e i b h w = record {
   low = omega arith;
   high = omega arith;
   before = λ row k l. w.behind row k ∙ ap (held row) none;
-  in-it = λ row k l m. absurd (omega arith);
+  in_it = λ row k l m. absurd (omega arith);
   some = λ l. absurd (omega arith);
 }
   where
     none : drop (i * 2) ns ≡ []
-    none = drop_of_length-le ns {i = i * 2} (omega (arith, rising-even 0 e (drop (i * 2) ns) w.ahead, length-drop (i * 2) ns))
+    none = drop_of_length-le ns {i = i * 2} (omega (arith, rising_even 0 e (drop (i * 2) ns) w.ahead, length-drop (i * 2) ns))
 
 -- span number i, and what is left after it
 module _ (ns : List ℕ) (e i b first past : ℕ) (h : i < length ns / 2)
@@ -114,33 +114,33 @@ module _ (ns : List ℕ) (e i b first past : ℕ) (h : i < length ns / 2)
   rises = rw is at w.ahead
 
   -- it is passed
-  pub come-next : past ≤ b → Come ns e (i + 1) b
-  come-next k = record {
-    ahead = rising-lower 0 past e left (omega arith) rises.3;
-    behind = λ row l. w.behind row l ∙ ap (held row) is ∙ held-past row first past left (omega arith);
+  pub come_next : past ≤ b → Come ns e (i + 1) b
+  come_next k = record {
+    ahead = rising_lower 0 past e left (omega arith) rises.3;
+    behind = λ row l. w.behind row l ∙ ap (held row) is ∙ held_past row first past left (omega arith);
   }
 
   -- it holds row b, or is the first after it
-  pub come-stands : b < past → Stands ns e b first past
-  come-stands k =
+  pub come_stands : b < past → Stands ns e b first past
+  come_stands k =
       let r = rises in
       record {
         low = omega arith;
         high = r.2;
-        before = λ row l m. w.behind row l ∙ ap (held row) is ∙ rising-below row first e (first ∷ past ∷ left) m (omega arith, r.1, r.2, r.3);
-        in-it = λ row l m n. w.behind row l ∙ ap (held row) is ∙ held_first row first past left m n;
+        before = λ row l m. w.behind row l ∙ ap (held row) is ∙ rising_below row first e (first ∷ past ∷ left) m (omega arith, r.1, r.2, r.3);
+        in_it = λ row l m n. w.behind row l ∙ ap (held row) is ∙ held_first row first past left m n;
         some = λ l. (r.1, k);
       }
 
 -- ---- what the span at which a walk stands tells of the rows
 
 module _ (ns : List ℕ) (e b first past : ℕ) (s : Stands ns e b first past) where
-  pub stands-in : first < b → b ≤ e → First (λ i. held i ns) b e b
-  stands-in h k = record {
+  pub stands_in : first < b → b ≤ e → First (λ i. held i ns) b e b
+  stands_in h k = record {
     on = omega arith;
     within = k;
     clear = λ i l m. absurd (omega arith);
-    here = λ l. s.in-it b (omega arith) (omega arith) (s.some (omega arith)).1;
+    here = λ l. s.in_it b (omega arith) (omega arith) (s.some (omega arith)).1;
   }
 
   pub stands_after : b ≤ first → First (λ i. held i ns) b e first
@@ -148,21 +148,21 @@ module _ (ns : List ℕ) (e b first past : ℕ) (s : Stands ns e b first past) w
     on = h;
     within = s.low;
     clear = s.before;
-    here = λ l. s.in-it first h (omega arith) (s.some l).0;
+    here = λ l. s.in_it first h (omega arith) (s.some l).0;
   }
 
-  pub reach-past : first ≤ b → b < e → Reach (λ i. held i ns) b e past
-  reach-past h k =
+  pub reach_past : first ≤ b → b < e → Reach (λ i. held i ns) b e past
+  reach_past h k =
       let ahead : b < past = (s.some (omega arith)).1 in
       record {
         on = omega arith;
         within = s.high;
-        full = λ i l m. s.in-it i l (omega arith) m;
+        full = λ i l m. s.in_it i l (omega arith) m;
         stuck = λ p. absurd (omega arith);
       }
 
-  pub reach-none : b < first → b < e → Reach (λ i. held i ns) b e b
-  reach-none h k = record {
+  pub reach_none : b < first → b < e → Reach (λ i. held i ns) b e b
+  reach_none h k = record {
     on = omega arith;
     within = omega arith;
     full = λ i l m. absurd (omega arith);

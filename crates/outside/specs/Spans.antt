@@ -30,5 +30,5 @@ pub record Stands (ns : List ℕ) (e b first past : ℕ) : Type 0 where
   pub low : first ≤ e
   pub high : past ≤ e
   pub before : (row : ℕ) → b ≤ row → row < first → held row ns ≡ false
-  pub in-it : (row : ℕ) → b ≤ row → first ≤ row → row < past → held row ns ≡ true
+  pub in_it : (row : ℕ) → b ≤ row → first ≤ row → row < past → held row ns ≡ true
   pub some : first < e → (first < past) × (b < past)

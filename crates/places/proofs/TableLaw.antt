@@ -8,7 +8,7 @@ use lib.Dec.{T, eqb, eqb→eq}
 use lib.ListN.{get_or}
 use Rattle.rows.specs.Word.{bits_of}
 use Rattle.rows.specs.Lists.{select}
-use Rattle.rows.proofs.EveryBelow.{all_below, at-below}
+use Rattle.rows.proofs.EveryBelow.{all_below, at_below}
 use Rattle.places.specs.Places.{places}
 
 -- the entry at a byte and a rank
@@ -29,5 +29,5 @@ placed byte rank b r =
     let k = byte * 8 + rank in
     let d : k / 8 ≡ byte = omega arith in
     let m : k % 8 ≡ rank = omega arith in
-    sym (ap₂ entry d m) ∙ eqb→eq (entry (k / 8) (k % 8)) (select (bits_of 8 (k / 8)) (k % 8)) (at-below 2048 right passed k (omega arith))
+    sym (ap₂ entry d m) ∙ eqb→eq (entry (k / 8) (k % 8)) (select (bits_of 8 (k / 8)) (k % 8)) (at_below 2048 right passed k (omega arith))
     ∙ ap₂ (λ (b r : ℕ). select (bits_of 8 b) r) d m

@@ -4,7 +4,7 @@ ghost use Rattle.rows.specs.WordAnswer.{deposited};
 ghost use Rattle.rules.specs.Operand.{lent};
 ghost use Rattle.rules.specs.Stream.{state_of};
 ghost use Rattle.rules.specs.RecoverStream.{state_of as recoveryStateOf};
-ghost use Rattle.cells.specs.Probe.{given, ended, depositTold, selectTold, readTold, toWordsDone, toListDone, toRunsDone, composeDone, setDone, setsDone, feedDone, recoverDone, recoverFeedDone, programDone, answerTold};
+ghost use Rattle.cells.specs.Probe.{given, ended, deposit_told, select_told, read_told, to_words_done, to_list_done, to_runs_done, compose_done, set_done, sets_done, feed_done, recover_done, recover_feed_done, program_done, answer_told};
 
 use super::tell::{
     of_answer, of_bad_form, of_fed, of_recovered, of_recovery_fed, of_runs, of_word, of_written,
@@ -24,7 +24,7 @@ fn deposit_by(way: u64, source: u64, mask: u64, claimed: u64) -> Deposited
 }
 
 pub fn deposit(way: u64, source: u64, mask: u64, claimed: u64) -> Told
-    ensures { result ≡ depositTold source mask claimed }
+    ensures { result ≡ deposit_told source mask claimed }
 {
     let deposited = deposit_by(way, source, mask, claimed);
     let refusal = deposited.refusal;
@@ -32,7 +32,7 @@ pub fn deposit(way: u64, source: u64, mask: u64, claimed: u64) -> Told
 }
 
 pub fn select(word: u64, rank: u64) -> Told
-    ensures { result ≡ selectTold word rank }
+    ensures { result ≡ select_told word rank }
 {
     let selected = word::select(word, rank);
     let refusal = selected.refusal;
@@ -40,7 +40,7 @@ pub fn select(word: u64, rank: u64) -> Told
 }
 
 pub fn rank_read(words: &[u64], start: u64, offset: u64) -> Told
-    ensures { result ≡ readTold words.now start offset }
+    ensures { result ≡ read_told words.now start offset }
 {
     let read = lent::rank_read(words, start, offset);
     let refusal = read.refusal;
@@ -48,7 +48,7 @@ pub fn rank_read(words: &[u64], start: u64, offset: u64) -> Told
 }
 
 pub fn to_words(a: Given, awords: &[u64], arows: &[u32], out: &mut [u64]) -> Told
-    ensures { ended result out.new ≡ toWordsDone (given a awords.now arows.now) out.old }
+    ensures { ended result out.new ≡ to_words_done (given a awords.now arows.now) out.old }
 {
     match a {
         Given::Bad => of_bad_form(),
@@ -57,7 +57,7 @@ pub fn to_words(a: Given, awords: &[u64], arows: &[u32], out: &mut [u64]) -> Tol
 }
 
 pub fn to_list(a: Given, awords: &[u64], arows: &[u32], out: &mut [u32]) -> Told
-    ensures { ended result out.new ≡ toListDone (given a awords.now arows.now) out.old }
+    ensures { ended result out.new ≡ to_list_done (given a awords.now arows.now) out.old }
 {
     match a {
         Given::Bad => of_bad_form(),
@@ -66,7 +66,7 @@ pub fn to_list(a: Given, awords: &[u64], arows: &[u32], out: &mut [u32]) -> Told
 }
 
 pub fn to_runs(a: Given, awords: &[u64], arows: &[u32], out: &mut [u32]) -> Told
-    ensures { ended result out.new ≡ toRunsDone (given a awords.now arows.now) out.old }
+    ensures { ended result out.new ≡ to_runs_done (given a awords.now arows.now) out.old }
 {
     match a {
         Given::Bad => of_bad_form(),
@@ -83,7 +83,7 @@ pub fn compose(
     brows: &[u32],
     out: &mut [u64],
 ) -> Told
-    ensures { ended result out.new ≡ composeDone (given a awords.now arows.now) (given b bwords.now brows.now) out.old }
+    ensures { ended result out.new ≡ compose_done (given a awords.now arows.now) (given b bwords.now brows.now) out.old }
 {
     let Given::Good(s) = a else {
         return of_bad_form();
@@ -105,7 +105,7 @@ fn set_operation(
     brows: &[u32],
     out: &mut [u64],
 ) -> Answer
-    ensures { ended (answerTold result) out.new ≡ setDone which (lent a awords.now arows.now) (lent b bwords.now brows.now) out.old }
+    ensures { ended (answer_told result) out.new ≡ set_done which (lent a awords.now arows.now) (lent b bwords.now brows.now) out.old }
 {
     match which {
         0 => bitops::and(a, awords, arows, b, bwords, brows, out),
@@ -125,7 +125,7 @@ pub fn set(
     brows: &[u32],
     out: &mut [u64],
 ) -> Told
-    ensures { ended result out.new ≡ setsDone which (given a awords.now arows.now) (given b bwords.now brows.now) out.old }
+    ensures { ended result out.new ≡ sets_done which (given a awords.now arows.now) (given b bwords.now brows.now) out.old }
 {
     let Given::Good(f) = a else {
         return of_bad_form();
@@ -149,7 +149,7 @@ pub fn feed(
     brows: &[u32],
     out: &mut [u64],
 ) -> Told
-    ensures { ended result out.new ≡ feedDone (state_of done ranks kept) (given a awords.now arows.now) (given b bwords.now brows.now) out.old }
+    ensures { ended result out.new ≡ feed_done (state_of done ranks kept) (given a awords.now arows.now) (given b bwords.now brows.now) out.old }
 {
     let Given::Good(s) = a else {
         return of_bad_form();
@@ -174,7 +174,7 @@ pub fn recover(
     brows: &[u32],
     out: &mut [u64],
 ) -> Told
-    ensures { ended result out.new ≡ recoverDone (given a awords.now arows.now) (given b bwords.now brows.now) out.old }
+    ensures { ended result out.new ≡ recover_done (given a awords.now arows.now) (given b bwords.now brows.now) out.old }
 {
     let Given::Good(s) = a else {
         return of_bad_form();
@@ -198,7 +198,7 @@ pub fn recover_feed(
     brows: &[u32],
     out: &mut [u64],
 ) -> Told
-    ensures { ended result out.new ≡ recoverFeedDone (recoveryStateOf done ranks kept) (given a awords.now arows.now) (given b bwords.now brows.now) out.old }
+    ensures { ended result out.new ≡ recover_feed_done (recoveryStateOf done ranks kept) (given a awords.now arows.now) (given b bwords.now brows.now) out.old }
 {
     let Given::Good(s) = a else {
         return of_bad_form();
@@ -215,7 +215,7 @@ pub fn recover_feed(
 }
 
 pub fn program(input: &[u8], out: &mut [u8]) -> Told
-    ensures { ended result out.new ≡ programDone input.now out.old }
+    ensures { ended result out.new ≡ program_done input.now out.old }
 {
     of_written(text::answer(input, out))
 }

@@ -1,9 +1,11 @@
 // A flat C boundary over every entry point: numbers and slices, and no struct. include/probe.h declares the functions and says what each
 // cell of an answer means. Each function answers into ans and den, and does nothing at all where one of the two is too short.
+#![tactic(auto)]
+
 ghost use Rattle.std.specs.Prelude.{◌≡◌};
 ghost use Rattle.rules.specs.Stream.{state_of};
 ghost use Rattle.rules.specs.RecoverStream.{state_of as recoveryStateOf};
-ghost use Rattle.cells.specs.Probe.{answerCells, tells, memory, does, given, form_of, depositTold, selectTold, readTold, toWordsDone, toListDone, toRunsDone, composeDone, setsDone, feedDone, recoverDone, recoverFeedDone, programDone};
+ghost use Rattle.cells.specs.Probe.{answer_cells, tells, memory, does, given, form_of, deposit_told, select_told, read_told, to_words_done, to_list_done, to_runs_done, compose_done, sets_done, feed_done, recover_done, recover_feed_done, program_done};
 
 use form::form_of;
 use tell::{ready, tell};
@@ -22,7 +24,7 @@ pub extern "C" fn probe_deposit(
     ans: &mut [u64],
     den: &mut [f64],
 )
-    ensures { answerCells ans.new den.new ≡ tells (depositTold source mask claimed) (answerCells ans.old den.old) }
+    ensures { answer_cells ans.new den.new ≡ tells (deposit_told source mask claimed) (answer_cells ans.old den.old) }
 {
     if !ready(ans.len(), den.len()) {
         return;
@@ -33,7 +35,7 @@ pub extern "C" fn probe_deposit(
 // Word select.
 #[unsafe(no_mangle)]
 pub extern "C" fn probe_select(word: u64, rank: u64, ans: &mut [u64], den: &mut [f64])
-    ensures { answerCells ans.new den.new ≡ tells (selectTold word rank) (answerCells ans.old den.old) }
+    ensures { answer_cells ans.new den.new ≡ tells (select_told word rank) (answer_cells ans.old den.old) }
 {
     if !ready(ans.len(), den.len()) {
         return;
@@ -50,7 +52,7 @@ pub extern "C" fn probe_rank_read(
     ans: &mut [u64],
     den: &mut [f64],
 )
-    ensures { answerCells ans.new den.new ≡ tells (readTold words.now start offset) (answerCells ans.old den.old) }
+    ensures { answer_cells ans.new den.new ≡ tells (read_told words.now start offset) (answer_cells ans.old den.old) }
 {
     if !ready(ans.len(), den.len()) {
         return;
@@ -72,7 +74,7 @@ pub extern "C" fn probe_to_words(
     den: &mut [f64],
 )
     ensures { memory out.new ans.new den.new
-        ≡ does (toWordsDone (given (form_of aform alength astart aclaimed) awords.now arows.now) out.old)
+        ≡ does (to_words_done (given (form_of aform alength astart aclaimed) awords.now arows.now) out.old)
         (memory out.old ans.old den.old) }
 {
     if !ready(ans.len(), den.len()) {
@@ -96,7 +98,7 @@ pub extern "C" fn probe_to_list(
     den: &mut [f64],
 )
     ensures { memory out.new ans.new den.new
-        ≡ does (toListDone (given (form_of aform alength astart aclaimed) awords.now arows.now) out.old)
+        ≡ does (to_list_done (given (form_of aform alength astart aclaimed) awords.now arows.now) out.old)
         (memory out.old ans.old den.old) }
 {
     if !ready(ans.len(), den.len()) {
@@ -120,7 +122,7 @@ pub extern "C" fn probe_to_runs(
     den: &mut [f64],
 )
     ensures { memory out.new ans.new den.new
-        ≡ does (toRunsDone (given (form_of aform alength astart aclaimed) awords.now arows.now) out.old)
+        ≡ does (to_runs_done (given (form_of aform alength astart aclaimed) awords.now arows.now) out.old)
         (memory out.old ans.old den.old) }
 {
     if !ready(ans.len(), den.len()) {
@@ -150,7 +152,7 @@ pub extern "C" fn probe_compose(
     den: &mut [f64],
 )
     ensures { memory out.new ans.new den.new
-        ≡ does (composeDone (given (form_of aform alength astart aclaimed) awords.now arows.now) (given (form_of bform blength bstart bclaimed) bwords.now brows.now) out.old)
+        ≡ does (compose_done (given (form_of aform alength astart aclaimed) awords.now arows.now) (given (form_of bform blength bstart bclaimed) bwords.now brows.now) out.old)
         (memory out.old ans.old den.old) }
 {
     if !ready(ans.len(), den.len()) {
@@ -186,7 +188,7 @@ pub extern "C" fn probe_set(
     den: &mut [f64],
 )
     ensures { memory out.new ans.new den.new
-        ≡ does (setsDone which (given (form_of aform alength astart aclaimed) awords.now arows.now) (given (form_of bform blength bstart bclaimed) bwords.now brows.now) out.old)
+        ≡ does (sets_done which (given (form_of aform alength astart aclaimed) awords.now arows.now) (given (form_of bform blength bstart bclaimed) bwords.now brows.now) out.old)
         (memory out.old ans.old den.old) }
 {
     if !ready(ans.len(), den.len()) {
@@ -224,7 +226,7 @@ pub extern "C" fn probe_feed(
     den: &mut [f64],
 )
     ensures { memory out.new ans.new den.new
-        ≡ does (feedDone (state_of done ranks kept) (given (form_of aform alength astart aclaimed) awords.now arows.now) (given (form_of bform blength bstart bclaimed) bwords.now brows.now) out.old)
+        ≡ does (feed_done (state_of done ranks kept) (given (form_of aform alength astart aclaimed) awords.now arows.now) (given (form_of bform blength bstart bclaimed) bwords.now brows.now) out.old)
         (memory out.old ans.old den.old) }
 {
     if !ready(ans.len(), den.len()) {
@@ -259,7 +261,7 @@ pub extern "C" fn probe_recover(
     den: &mut [f64],
 )
     ensures { memory out.new ans.new den.new
-        ≡ does (recoverDone (given (form_of aform alength astart aclaimed) awords.now arows.now) (given (form_of bform blength bstart bclaimed) bwords.now brows.now) out.old)
+        ≡ does (recover_done (given (form_of aform alength astart aclaimed) awords.now arows.now) (given (form_of bform blength bstart bclaimed) bwords.now brows.now) out.old)
         (memory out.old ans.old den.old) }
 {
     if !ready(ans.len(), den.len()) {
@@ -297,7 +299,7 @@ pub extern "C" fn probe_recover_feed(
     den: &mut [f64],
 )
     ensures { memory out.new ans.new den.new
-        ≡ does (recoverFeedDone (recoveryStateOf done ranks kept) (given (form_of aform alength astart aclaimed) awords.now arows.now) (given (form_of bform blength bstart bclaimed) bwords.now brows.now) out.old)
+        ≡ does (recover_feed_done (recoveryStateOf done ranks kept) (given (form_of aform alength astart aclaimed) awords.now arows.now) (given (form_of bform blength bstart bclaimed) bwords.now brows.now) out.old)
         (memory out.old ans.old den.old) }
 {
     if !ready(ans.len(), den.len()) {
@@ -316,7 +318,7 @@ pub extern "C" fn probe_recover_feed(
 #[unsafe(no_mangle)]
 pub extern "C" fn probe_program(input: &[u8], out: &mut [u8], ans: &mut [u64], den: &mut [f64])
     ensures { memory out.new ans.new den.new
-        ≡ does (programDone input.now out.old) (memory out.old ans.old den.old) }
+        ≡ does (program_done input.now out.old) (memory out.old ans.old den.old) }
 {
     if !ready(ans.len(), den.len()) {
         return;

@@ -1,6 +1,6 @@
 // What a call tells, and the one way to write it: every cell on every call.
 ghost use Rattle.std.specs.Prelude.{◌≡◌, ◌≤◌, ◌<◌, length};
-ghost use Rattle.cells.specs.Probe.{answerCells, enough, over, wordTold, badTold, stateTold, answerTold, fedTold, recoveredTold, recoveryFedTold, writtenTold, runsTold};
+ghost use Rattle.cells.specs.Probe.{answer_cells, enough, over, word_told, bad_told, state_told, answer_told, fed_told, recovered_told, recovery_fed_told, written_told, runs_told};
 
 use cells::Told;
 use laid::inner::copy_words;
@@ -11,7 +11,7 @@ use rules::{Answer, Fed, Recovered, RecoveryFed};
 
 // A refusal, or its place empty, and a word or a position.
 pub fn of_word(refusal: Refusal, word: u64) -> Told
-    ensures { result ≡ wordTold refusal word }
+    ensures { result ≡ word_told refusal word }
 {
     Told {
         refusal: refusal.number as u64,
@@ -30,7 +30,7 @@ pub fn of_word(refusal: Refusal, word: u64) -> Told
 
 // An answer, a state's three numbers, a row outside self, and how many bytes or runs were written.
 fn of_state(answer: Answer, done: u64, ranks: u64, kept: u64, outside: u64, number: u64) -> Told
-    ensures { result ≡ stateTold answer done ranks kept outside number }
+    ensures { result ≡ state_told answer done ranks kept outside number }
 {
     Told {
         refusal: answer.refusal.number as u64,
@@ -48,13 +48,13 @@ fn of_state(answer: Answer, done: u64, ranks: u64, kept: u64, outside: u64, numb
 }
 
 pub fn of_answer(answer: Answer) -> Told
-    ensures { result ≡ answerTold answer }
+    ensures { result ≡ answer_told answer }
 {
     of_state(answer, 0, 0, 0, 0, 0)
 }
 
 pub fn of_fed(fed: Fed) -> Told
-    ensures { result ≡ fedTold fed }
+    ensures { result ≡ fed_told fed }
 {
     let answer = fed.answer;
     of_state(
@@ -69,14 +69,14 @@ pub fn of_fed(fed: Fed) -> Told
 
 // With the first row outside self, which is 0 without 17.
 pub fn of_recovered(recovered: Recovered) -> Told
-    ensures { result ≡ recoveredTold recovered }
+    ensures { result ≡ recovered_told recovered }
 {
     let answer = recovered.answer;
     of_state(answer, 0, 0, 0, recovered.outside.0, 0)
 }
 
 pub fn of_recovery_fed(fed: RecoveryFed) -> Told
-    ensures { result ≡ recoveryFedTold fed }
+    ensures { result ≡ recovery_fed_told fed }
 {
     let answer = fed.answer;
     of_state(
@@ -91,7 +91,7 @@ pub fn of_recovery_fed(fed: RecoveryFed) -> Told
 
 // The answer that the program's lines tell, and their length.
 pub fn of_written(written: Written) -> Told
-    ensures { result ≡ writtenTold written }
+    ensures { result ≡ written_told written }
 {
     let answer = written.answer;
     of_state(answer, 0, 0, 0, 0, written.len as u64)
@@ -99,7 +99,7 @@ pub fn of_written(written: Written) -> Told
 
 // The answer of the writer of runs, and how many they are.
 pub fn of_runs(written: rules::Written) -> Told
-    ensures { result ≡ runsTold written }
+    ensures { result ≡ runs_told written }
 {
     let answer = written.answer;
     of_state(answer, 0, 0, 0, 0, written.runs)
@@ -107,7 +107,7 @@ pub fn of_runs(written: rules::Written) -> Told
 
 // A form that is none: 99, and nothing else is told.
 pub fn of_bad_form() -> Told
-    ensures { result ≡ badTold }
+    ensures { result ≡ bad_told }
 {
     of_word(refusal(99, 0), 0)
 }
@@ -124,7 +124,7 @@ pub fn ready(nans: usize, nden: usize) -> bool
 
 pub fn tell(told: Told, ans: &mut [u64], den: &mut [f64])
     requires { (16 ≤ length ans.old) × (0 < length den.old) }
-    ensures { answerCells ans.new den.new ≡ over told (answerCells ans.old den.old) }
+    ensures { answer_cells ans.new den.new ≡ over told (answer_cells ans.old den.old) }
 {
     let cells = [
         told.refusal,

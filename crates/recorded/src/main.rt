@@ -1,5 +1,7 @@
 // Runs the recorded cases of data/ and holds every answer and all of each output slice to what is recorded there. README.md
 // says where each file's answers come from.
+#![tactic(auto)]
+
 use answer::{Finding, Outcome, differs};
 use feeds::Stream;
 use libc::STDOUT_FILENO;

@@ -2,35 +2,35 @@
 -- Assumes nothing.
 use Rattle.std.specs.Prelude.{ℕ, List, [], ◌∷◌}
 use Rattle.rows.specs.declared.Verdict.{Verdict}
-use Rattle.rows.specs.Table.{Line, first, inOrder}
+use Rattle.rows.specs.Table.{Line, first, in_order}
 use Rattle.rules.specs.Operand.{Operand}
-use Rattle.rules.specs.Compose.{bothChecks}
-use Rattle.rules.specs.Recover.{strays, lengthsChecks, insideChecks, roomChecks, recoverChecks, rowTold}
-use Rattle.operand.specs.Counts.{checkedOf}
+use Rattle.rules.specs.Compose.{both_checks}
+use Rattle.rules.specs.Recover.{strays, lengths_checks, inside_checks, room_checks, recover_checks, row_told}
+use Rattle.operand.specs.Counts.{checked_of}
 use Rattle.recover.specs.declared.inner.judge.Matched.{Matched}
 use Rattle.recover.specs.declared.inner.judge.Found.{Found}
 use Rattle.recover.specs.declared.inner.judge.Judged.{Judged}
 
 -- the operands' checks, then 7
-abbrev pub matchChecks : Operand → Operand → List Line
-matchChecks s k = inOrder (bothChecks s k ∷ lengthsChecks s k ∷ [])
+abbrev pub match_checks : Operand → Operand → List Line
+match_checks s k = in_order (both_checks s k ∷ lengths_checks s k ∷ [])
 
 -- each count as the operand's own checks tell it
-abbrev pub matchedOf : Operand → Operand → Matched
-matchedOf s k = record { verdict = first (matchChecks s k); set = (checkedOf 1 s).count; kept = (checkedOf 2 k).count }
+abbrev pub matched_of : Operand → Operand → Matched
+matched_of s k = record { verdict = first (match_checks s k); set = (checked_of 1 s).count; kept = (checked_of 2 k).count }
 
 -- 17, then 8
-abbrev pub lastChecks : Operand → Operand → ℕ → ℕ → List Line
-lastChecks s k bits room = inOrder (insideChecks s k ∷ roomChecks bits room ∷ [])
+abbrev pub last_checks : Operand → Operand → ℕ → ℕ → List Line
+last_checks s k bits room = in_order (inside_checks s k ∷ room_checks bits room ∷ [])
 
-abbrev pub foundBy : Verdict → Operand → Operand → Found
-foundBy v s k = record { verdict = v; outside = record { 0 = rowTold v (strays s k) } }
+abbrev pub found_by : Verdict → Operand → Operand → Found
+found_by v s k = record { verdict = v; outside = record { 0 = row_told v (strays s k) } }
 
-abbrev pub foundOf : Operand → Operand → ℕ → ℕ → Found
-foundOf s k bits room = foundBy (first (lastChecks s k bits room)) s k
+abbrev pub found_of : Operand → Operand → ℕ → ℕ → Found
+found_of s k bits room = found_by (first (last_checks s k bits room)) s k
 
-abbrev pub judgedBy : Verdict → Operand → Operand → Judged
-judgedBy v s k = record { verdict = v; outside = record { 0 = rowTold v (strays s k) }; set = (checkedOf 1 s).count; kept = (checkedOf 2 k).count }
+abbrev pub judged_by : Verdict → Operand → Operand → Judged
+judged_by v s k = record { verdict = v; outside = record { 0 = row_told v (strays s k) }; set = (checked_of 1 s).count; kept = (checked_of 2 k).count }
 
-abbrev pub judgedOf : Operand → Operand → ℕ → Judged
-judgedOf s k room = judgedBy (first (recoverChecks s k room)) s k
+abbrev pub judged_of : Operand → Operand → ℕ → Judged
+judged_of s k room = judged_by (first (recover_checks s k room)) s k

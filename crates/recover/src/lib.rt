@@ -1,7 +1,9 @@
 // From rows back to ranks: the rank mask that would have kept the rows of a second mask from self. Document 02, P6.
+#![tactic(auto)]
+
 ghost use Rattle.std.specs.Prelude.{◌≡◌};
 ghost use Rattle.rules.specs.Operand.{lent};
-ghost use Rattle.rules.specs.Recover.{recovered, recoveredOut};
+ghost use Rattle.rules.specs.Recover.{recovered, recovered_out};
 
 use inner::judge::judge;
 use inner::whole::{recover_within, tell};
@@ -24,7 +26,7 @@ pub fn recover(
     out: &mut [u64],
 ) -> Recovered
     ensures { (result ≡ recovered (lent s swords.now srows.now) (lent k kwords.now krows.now) out.old)
-        × (out.new ≡ recoveredOut (lent s swords.now srows.now) (lent k kwords.now krows.now) out.old) }
+        × (out.new ≡ recovered_out (lent s swords.now srows.now) (lent k kwords.now krows.now) out.old) }
 {
     let judged = judge(s, swords, srows, k, kwords, krows, out.len() as u64);
     let verdict = judged.verdict;

@@ -2,9 +2,9 @@
 ghost use Rattle.std.specs.Prelude.{◌≡◌, ◌+◌, ◌≤◌};
 ghost use Rattle.rows.specs.Table.{first};
 ghost use Rattle.rules.specs.Operand.{lent, length_of, count_of, limit, Accepted};
-ghost use Rattle.rules.specs.RecoverStream.{masksOf, stateChecks, judged};
-ghost use Rattle.recover.specs.Judged.{foundBy, judgedBy};
-ghost use Rattle.recoverer.specs.Pieces.{pieceChecks};
+ghost use Rattle.rules.specs.RecoverStream.{masks_of, state_checks, judged};
+ghost use Rattle.recover.specs.Judged.{found_by, judged_by};
+ghost use Rattle.recoverer.specs.Pieces.{piece_checks};
 
 use super::Recoverer;
 use operand::inner::forms::length_of;
@@ -15,7 +15,7 @@ use rules::{Form, RecoveryState};
 
 // The state is within refusal 10's bound.
 fn judge_state(state: RecoveryState) -> Verdict
-    ensures { result ≡ first (stateChecks state) }
+    ensures { result ≡ first (state_checks state) }
 {
     let kept = at_most(10, state.kept, state.ranks.0);
     let ranks = at_most(10, state.ranks.0, state.done.0);
@@ -37,7 +37,7 @@ fn judge_piece(
 ) -> Found
     requires { Accepted (lent s swords.now srows.now) × Accepted (lent k kwords.now krows.now) × (length_of k ≡ length_of s)
         × (set ≡ count_of (lent s swords.now srows.now)) × (state.done.0 ≤ limit) × (state.ranks.0 ≤ limit) }
-    ensures { result ≡ foundBy (first (pieceChecks state (masksOf (lent s swords.now srows.now) (lent k kwords.now krows.now)) room))
+    ensures { result ≡ found_by (first (piece_checks state (masks_of (lent s swords.now srows.now) (lent k kwords.now krows.now)) room))
         (lent s swords.now srows.now) (lent k kwords.now krows.now) }
 {
     let end = state.done.0 + length_of(s);
@@ -62,7 +62,7 @@ pub fn judge(
     krows: &[u32],
     room: u64,
 ) -> Judged
-    ensures { result ≡ judgedBy (judged state (masksOf (lent s swords.now srows.now) (lent k kwords.now krows.now)) room)
+    ensures { result ≡ judged_by (judged state (masks_of (lent s swords.now srows.now) (lent k kwords.now krows.now)) room)
         (lent s swords.now srows.now) (lent k kwords.now krows.now) }
 {
     let matched = judge_masks(s, swords, srows, k, kwords, krows);

@@ -1,7 +1,9 @@
 // Recovery in pieces: matching pieces of both masks, recovered piece by piece onto one output. Document 02, P6.
+#![tactic(auto)]
+
 ghost use Rattle.std.specs.Prelude.{◌≡◌};
 ghost use Rattle.rules.specs.Operand.{lent};
-ghost use Rattle.rules.specs.RecoverStream.{masksOf, fresh, fed, fedOut};
+ghost use Rattle.rules.specs.RecoverStream.{masks_of, fresh, fed, fed_out};
 
 use judge::judge;
 use operand::inner::answers::refused;
@@ -43,8 +45,8 @@ pub fn feed(
     krows: &[u32],
     out: &mut [u64],
 ) -> RecoveryFed
-    ensures { (result ≡ fed state (masksOf (lent s swords.now srows.now) (lent k kwords.now krows.now)) out.old)
-        × (out.new ≡ fedOut state (masksOf (lent s swords.now srows.now) (lent k kwords.now krows.now)) out.old) }
+    ensures { (result ≡ fed state (masks_of (lent s swords.now srows.now) (lent k kwords.now krows.now)) out.old)
+        × (out.new ≡ fed_out state (masks_of (lent s swords.now srows.now) (lent k kwords.now krows.now)) out.old) }
 {
     let judged = judge(state, s, swords, srows, k, kwords, krows, out.len() as u64);
     let verdict = judged.verdict;

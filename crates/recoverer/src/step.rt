@@ -2,7 +2,7 @@
 ghost use Rattle.std.specs.Prelude.{◌≡◌, ◌+◌, ◌≤◌, length};
 ghost use Rattle.rows.specs.declared.Verdict.TheVariants.{Fine};
 ghost use Rattle.rules.specs.Operand.{lent, limit};
-ghost use Rattle.rules.specs.RecoverStream.{masksOf, state_of, judged, fedBy, outBy};
+ghost use Rattle.rules.specs.RecoverStream.{masks_of, state_of, judged, fed_by, out_by};
 ghost use Rattle.operand.specs.Counts.{Counts};
 
 use operand::inner::answers::{NO_ROUTE, accepted};
@@ -37,10 +37,10 @@ pub fn step(
     krows: &[u32],
     out: &mut [u64],
 ) -> RecoveryFed
-    requires { (judged state (masksOf (lent s.form swords.now srows.now) (lent k.form kwords.now krows.now)) (length out.old) ≡ Fine)
+    requires { (judged state (masks_of (lent s.form swords.now srows.now) (lent k.form kwords.now krows.now)) (length out.old) ≡ Fine)
         × Counts s swords.now srows.now × Counts k kwords.now krows.now }
-    ensures { (result ≡ fedBy Fine state (masksOf (lent s.form swords.now srows.now) (lent k.form kwords.now krows.now)))
-        × (out.new ≡ outBy Fine state (masksOf (lent s.form swords.now srows.now) (lent k.form kwords.now krows.now)) out.old) }
+    ensures { (result ≡ fed_by Fine state (masks_of (lent s.form swords.now srows.now) (lent k.form kwords.now krows.now)))
+        × (out.new ≡ out_by Fine state (masks_of (lent s.form swords.now srows.now) (lent k.form kwords.now krows.now)) out.old) }
 {
     let at = state.ranks.0;
     let own = s.form;

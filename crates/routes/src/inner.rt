@@ -1,7 +1,7 @@
 // The choice: document 01's route table in one place, its factors, and the number of a route.
 ghost use Rattle.std.specs.Prelude.{◌≡◌, cond, ◌*◌, ◌≤◌, ltb};
-ghost use Rattle.rules.specs.Operand.{length_of, countsAsList};
-ghost use Rattle.rules.specs.Route.{wayBy, routeBy, number_of, published};
+ghost use Rattle.rules.specs.Operand.{length_of, counts_as_list};
+ghost use Rattle.rules.specs.Route.{way_by, route_by, number_of, published};
 
 use operand::inner::counts::{Counted, is_empty, is_full};
 use operand::inner::forms::{counts_as_list, length_of};
@@ -50,7 +50,7 @@ pub fn number(route: Route) -> u8
 // The loop form for a sparse self.
 fn way(factors: Factors, s: Counted) -> Way
     requires { s.count ≤ 1048576 }
-    ensures { result ≡ wayBy factors s.form s.count }
+    ensures { result ≡ way_by factors s.form s.count }
 {
     let form = s.form;
     if few(factors.sparse, s.count, length_of(form)) {
@@ -61,7 +61,7 @@ fn way(factors: Factors, s: Counted) -> Way
 
 // Lines 4 and 5: self is a list, or runs.
 fn list_route(r: Form) -> Route
-    ensures { result ≡ cond (countsAsList r) Route.EntryAtRank Route.EntryIfSet }
+    ensures { result ≡ cond (counts_as_list r) Route.EntryAtRank Route.EntryIfSet }
 {
     if counts_as_list(r) {
         return Route::EntryAtRank;
@@ -73,7 +73,7 @@ fn list_route(r: Form) -> Route
 fn words_route(factors: Factors, s: Counted, r: Counted) -> Route
     requires { (s.count ≤ 1048576) × (r.count ≤ 1048576) }
     ensures { result ≡ cond (ltb (factors.driven * r.count) (length_of r.form)) Route.MaskDriven
-        (cond (countsAsList r.form) (Route.Gathered (wayBy factors s.form s.count)) (Route.Read (wayBy factors s.form s.count))) }
+        (cond (counts_as_list r.form) (Route.Gathered (way_by factors s.form s.count)) (Route.Read (way_by factors s.form s.count))) }
 {
     let ranks = r.form;
     if few(factors.driven, r.count, length_of(ranks)) {
@@ -89,7 +89,7 @@ fn words_route(factors: Factors, s: Counted, r: Counted) -> Route
 // The first line of the table that fits.
 pub fn choose_route(factors: Factors, s: Counted, r: Counted) -> Route
     requires { (s.count ≤ 1048576) × (r.count ≤ 1048576) }
-    ensures { result ≡ routeBy factors s.form s.count r.form r.count }
+    ensures { result ≡ route_by factors s.form s.count r.form r.count }
 {
     if is_full(s) {
         return Route::RankMask;

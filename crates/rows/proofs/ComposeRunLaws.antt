@@ -9,11 +9,11 @@ use native.Mathlib.Omega.{arith}
 use lib.ListN.{length, take, drop, replicate}
 use Rattle.rows.specs.Rows.{compose}
 
-pub compose-unset : (n : ℕ) (s r : List Bool) → compose (replicate n false ++ s) r ≡ replicate n false ++ compose s r
-compose-unset zero s r = refl
-compose-unset (suc n) s r = ap (λ (l : List Bool). false ∷ l) (compose-unset n s r)
+pub compose_unset : (n : ℕ) (s r : List Bool) → compose (replicate n false ++ s) r ≡ replicate n false ++ compose s r
+compose_unset zero s r = refl
+compose_unset (suc n) s r = ap (λ (l : List Bool). false ∷ l) (compose_unset n s r)
 
-pub compose-set : (n : ℕ) (s r : List Bool) → n ≤ length r → compose (replicate n true ++ s) r ≡ take n r ++ compose s (drop n r)
-compose-set zero s r h = refl
-compose-set (suc n) s [] h = absurd (omega arith)
-compose-set (suc n) s (x ∷ r) h = ap (λ (l : List Bool). x ∷ l) (compose-set n s r (le_of_suc-le-suc h))
+pub compose_set : (n : ℕ) (s r : List Bool) → n ≤ length r → compose (replicate n true ++ s) r ≡ take n r ++ compose s (drop n r)
+compose_set zero s r h = refl
+compose_set (suc n) s [] h = absurd (omega arith)
+compose_set (suc n) s (x ∷ r) h = ap (λ (l : List Bool). x ∷ l) (compose_set n s r (le_of_suc-le-suc h))

@@ -1,7 +1,7 @@
 // What set operations call: the rows of an accepted one written, and its answer.
 ghost use Rattle.std.specs.Prelude.{◌≡◌, [], ◌≤◌, length};
 ghost use Rattle.rows.specs.declared.Verdict.TheVariants.{Fine};
-ghost use Rattle.rows.specs.Laid.{wordsFor, written};
+ghost use Rattle.rows.specs.Laid.{words_for, written};
 ghost use Rattle.rules.specs.Operand.{lent, length_of};
 ghost use Rattle.rules.specs.Answer.{answered};
 ghost use Rattle.rules.specs.SetOps.{combination, row_of};
@@ -21,7 +21,7 @@ pub fn answer(
     bwords: &[u64],
     out: &mut [u64],
 ) -> Answer
-    requires { Abreast (lent a awords.now []) (lent b bwords.now []) × (wordsFor (length_of a) ≤ length out.old) }
+    requires { Abreast (lent a awords.now []) (lent b bwords.now []) × (words_for (length_of a) ≤ length out.old) }
     ensures { (result ≡ answered Fine (combination (row_of op) (lent a awords.now []) (lent b bwords.now [])) 0)
         × (out.new ≡ written (length_of a) (combination (row_of op) (lent a awords.now []) (lent b bwords.now [])) out.old) }
 {

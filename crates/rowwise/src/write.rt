@@ -3,7 +3,7 @@ ghost use Rattle.std.specs.Prelude.{◌≡◌, [], ◌+◌, ◌*◌, ◌≤◌, 
 ghost use Rattle.rows.specs.Rows.{count};
 ghost use Rattle.rows.specs.Word.{both};
 ghost use Rattle.rows.specs.Words.{view};
-ghost use Rattle.rows.specs.Laid.{wordsFor, laid, written};
+ghost use Rattle.rows.specs.Laid.{words_for, laid, written};
 ghost use Rattle.rows.specs.Asks.{InView};
 ghost use Rattle.rules.specs.Operand.{lent, length_of};
 ghost use Rattle.rules.specs.SetOps.{combination, row_of};
@@ -117,7 +117,7 @@ pub fn write(
     bwords: &[u64],
     out: &mut [u64],
 ) -> u64
-    requires { Abreast (lent a awords.now []) (lent b bwords.now []) × (wordsFor (length_of a) ≤ length out.old) }
+    requires { Abreast (lent a awords.now []) (lent b bwords.now []) × (words_for (length_of a) ≤ length out.old) }
     ensures { (result ≡ count (combination (row_of op) (lent a awords.now []) (lent b bwords.now [])))
         × (out.new ≡ written (length_of a) (combination (row_of op) (lent a awords.now []) (lent b bwords.now [])) out.old) }
 {

@@ -1,4 +1,4 @@
--- What pins a density, whatever `densityOf` is defined by: it is a value of the format, none is nearer to the quotient of count and length,
+-- What pins a density, whatever `density_of` is defined by: it is a value of the format, none is nearer to the quotient of count and length,
 -- it is that quotient where the format has it, and densities stand in the order of their quotients. By the kit's laws on rounding.
 -- Assumes nothing.
 use Prim.Native.Nat.{ℕ, ◌-◌, ◌*◌, ◌^◌, ◌≤◌, ◌<◌}
@@ -17,12 +17,12 @@ use lib.Ieee.Order.{round_mono}
 use lib.Ieee.Scale.{finite, grid, round_val, round_under}
 use Rattle.rows.specs.Table.{choose}
 use Rattle.rows.proofs.TableLaws.{passed_over}
-use Rattle.rules.specs.Answer.{noDensity, densityOf}
-use Rattle.rules.proofs.NearestLaws.{far, far-times, kept-nearest, in-units}
+use Rattle.rules.specs.Answer.{no_density, density_of}
+use Rattle.rules.proofs.NearestLaws.{far, far_times, kept_nearest, in_units}
 
 -- the choice at a length above 0
-above-0 : (len : ℕ) → 0 < len → (y : Float) → choose (ℕ_discrete len 0) noDensity y ≡ y
-above-0 len h y = passed_over (ℕ_discrete len 0) noDensity y (λ e. omega arith)
+above_0 : (len : ℕ) → 0 < len → (y : Float) → choose (ℕ_discrete len 0) no_density y ≡ y
+above_0 len h y = passed_over (ℕ_discrete len 0) no_density y (λ e. omega arith)
 
 -- ---- the nearest value
 
@@ -44,8 +44,8 @@ between (inf false) l h = absurd h
 between (fin s m e) l h = tt
 
 -- so the quotient, in units of the format's smallest value, has the density's value
-in-range : (n len : ℕ) → 0 < len → n ≤ len → HasValue (round binary64 false n len) false (grid binary64 n len) (2 ^ low binary64)
-in-range n len L h =
+in_range_lem : (n len : ℕ) → 0 < len → n ≤ len → HasValue (round binary64 false n len) false (grid binary64 n len) (2 ^ low binary64)
+in_range_lem n len L h =
     round_val binary64 n len
     (round_under binary64 n len (between (round binary64 false n len) (round_mono binary64 0 1 n len (omega arith) L (omega arith)) (round_mono binary64 n len 1 1 L (omega arith) (omega arith))))
 
@@ -59,32 +59,32 @@ by_units x b y d n len u g v U p q h =
     scaled x b g d p =
         mul_right_comm (far (x * len) (n * b)) d u
         ∙ ap (λ (z : ℕ). z * d)
-        (far-times (x * len) (n * b) u
+        (far_times (x * len) (n * b) u
         ∙ ap₂ far (mul_right_comm x len u ∙ ap (λ (z : ℕ). z * len) p ∙ mul_right_comm g b len) (mul_right_comm n b u)
-        ∙ sym (far-times (g * len) (n * u) b))
+        ∙ sym (far_times (g * len) (n * u) b))
         ∙ mul_assoc (far (g * len) (n * u)) b d
 
 -- of a rounded quotient
-rounded-nearest : (n len : ℕ) → 0 < len → (d : Float) → HasValue d false (grid binary64 n len) (2 ^ low binary64) → T (fits binary64 d) → Nearest n len d
-rounded-nearest n len L nan v t = absurd v
-rounded-nearest n len L (inf s) v t = absurd v
-rounded-nearest n len L (fin true m e) v t = absurd (let z : ◌≡◌ {A = ℕ} 0 1 = cc in omega arith)
-rounded-nearest n len L (fin false m e) v t =
+rounded_nearest : (n len : ℕ) → 0 < len → (d : Float) → HasValue d false (grid binary64 n len) (2 ^ low binary64) → T (fits binary64 d) → Nearest n len d
+rounded_nearest n len L nan v t = absurd v
+rounded_nearest n len L (inf s) v t = absurd v
+rounded_nearest n len L (fin true m e) v t = absurd (let z : ◌≡◌ {A = ℕ} 0 1 = cc in omega arith)
+rounded_nearest n len L (fin false m e) v t =
     record {
       m = m;
       e = e;
       is = refl;
       held = t;
       nearest = λ k i w.
-          let o = in-units binary64 k i w in
+          let o = in_units binary64 k i w in
           by_units (m * up e) (down e) (k * up i) (down i) n len (2 ^ low binary64) (grid binary64 n len) (k * 2 ^ o.j) (pow_pos (low binary64)) v.1 o.is
-          (kept-nearest (prec binary64) (n * 2 ^ low binary64) len (omega arith) L k o.j o.digits);
+          (kept_nearest (prec binary64) (n * 2 ^ low binary64) len (omega arith) L k o.j o.digits);
     }
 
 -- the density differs from the quotient by no more than any other value of the format does
-pub density-nearest : (n len : ℕ) → 0 < len → n ≤ len → Nearest n len (densityOf n len)
-unfolding densityOf
-density-nearest n len L h = rw (above-0 len L (round binary64 false n len)) (rounded-nearest n len L (round binary64 false n len) (in-range n len L h) (round-fits binary64 false n len))
+pub density_nearest : (n len : ℕ) → 0 < len → n ≤ len → Nearest n len (density_of n len)
+unfolding density_of
+density_nearest n len L h = rw (above_0 len L (round binary64 false n len)) (rounded_nearest n len L (round binary64 false n len) (in_range_lem n len L h) (round-fits binary64 false n len))
 
 -- nothing is nearer than what is equal
 none_apart : (a b c d x y : ℕ) → far a b * d ≤ far x y * c → x ≡ y → 0 < d → a ≡ b
@@ -94,18 +94,18 @@ none_apart a b c d x y h e D =
     omega arith
 
 -- where a value of the format is the quotient, the density is: `HasValue x false n len` says that x is n / len
-pub density-exact : (n len : ℕ) → 0 < len → n ≤ len → (x : Float) → T (fits binary64 x) → HasValue x false n len → HasValue (densityOf n len) false n len
-density-exact n len L h nan t v = absurd v
-density-exact n len L h (inf s) t v = absurd v
-density-exact n len L h (fin true k i) t v = absurd (let z : ◌≡◌ {A = ℕ} 0 1 = cc in omega arith)
-density-exact n len L h (fin false k i) t v =
-    let d = density-nearest n len L h in
+pub density_exact : (n len : ℕ) → 0 < len → n ≤ len → (x : Float) → T (fits binary64 x) → HasValue x false n len → HasValue (density_of n len) false n len
+density_exact n len L h nan t v = absurd v
+density_exact n len L h (inf s) t v = absurd v
+density_exact n len L h (fin true k i) t v = absurd (let z : ◌≡◌ {A = ℕ} 0 1 = cc in omega arith)
+density_exact n len L h (fin false k i) t v =
+    let d = density_nearest n len L h in
     rw d.is
     (refl, none_apart (d.m * up d.e * len) (n * down d.e) (down d.e) (down i) (k * up i * len) (n * down i) (d.nearest k i t) v.1 (down_pos i))
 
 -- ---- the order
 
 -- densities stand in the order of their quotients: of a / b and c / d the larger has the density that is no smaller
-pub density-order : (a b c d : ℕ) → 0 < b → 0 < d → a * d ≤ c * b → T (le (densityOf a b) (densityOf c d))
-unfolding densityOf
-density-order a b c d B D h = rw (above-0 b B (round binary64 false a b), above-0 d D (round binary64 false c d)) (round_mono binary64 a b c d B D h)
+pub density_order : (a b c d : ℕ) → 0 < b → 0 < d → a * d ≤ c * b → T (le (density_of a b) (density_of c d))
+unfolding density_of
+density_order a b c d B D h = rw (above_0 b B (round binary64 false a b), above_0 d D (round binary64 false c d)) (round_mono binary64 a b c d B D h)

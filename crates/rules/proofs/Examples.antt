@@ -9,13 +9,13 @@ use native.Mathlib.Decide.{ℕ_discrete, dec_le}
 use lib.IntN.{negsuc}
 use lib.Ieee.{Float, fin, round}
 use Rattle.rows.specs.Word.{bits_of, word_of}
-use Rattle.rows.specs.Table.{first, inOrder, noRefusal}
+use Rattle.rows.specs.Table.{first, in_order, no_refusal}
 use Rattle.rules.specs.declared.Answer.{Answer}
 use Rattle.rules.specs.declared.Form.TheVariants.{Words, List as Listed}
 use Rattle.rules.specs.Operand.{Operand, lent}
-use Rattle.rules.specs.Answer.{densityOf, answer}
-use Rattle.rules.specs.Route.{published, routeBy}
-use Rattle.rules.specs.Compose.{composed, composedOut}
+use Rattle.rules.specs.Answer.{density_of, answer}
+use Rattle.rules.specs.Route.{published, route_by}
+use Rattle.rules.specs.Compose.{composed, composed_out}
 use Rattle.rules.specs.Stream.{Pair, pair_of, state_of, fresh, judged, run}
 use Rattle.rules.proofs.WordExamples as word-examples
 use Rattle.rules.proofs.ReadExamples as lent-examples
@@ -33,7 +33,7 @@ abbrev pub before : List ℕ
 before = (2 ^ 64 - 1) ∷ 7 ∷ []
 
 abbrev pub Holds : Case → Type 0
-Holds (gives s r n) = (composed published s r before ≡ answer noRefusal 2 n quarter) × (composedOut s r before ≡ 66 ∷ 7 ∷ [])
+Holds (gives s r n) = (composed published s r before ≡ answer no_refusal 2 n quarter) × (composed_out s r before ≡ 66 ∷ 7 ∷ [])
 
 abbrev pub masks : List Case
 masks =
@@ -48,11 +48,11 @@ masks =
 pub data Fed : Type 0 where
   feeds : (one two : Pair) (first second : ℕ) → Fed
 
-abbrev pub keepsOne : ℕ → Answer
-keepsOne route = answer noRefusal 1 route quarter
+abbrev pub keeps_one : ℕ → Answer
+keeps_one route = answer no_refusal 1 route quarter
 
 abbrev pub FeedsHold : Fed → Type 0
-FeedsHold (feeds one two n m) = run fresh before (one ∷ two ∷ []) ≡ record { answers = keepsOne n ∷ keepsOne m ∷ []; state = state_of 8 5 2; out = (2 ^ 64 - 256 + 66) ∷ 7 ∷ [] }
+FeedsHold (feeds one two n m) = run fresh before (one ∷ two ∷ []) ≡ record { answers = keeps_one n ∷ keeps_one m ∷ []; state = state_of 8 5 2; out = (2 ^ 64 - 256 + 66) ∷ 7 ∷ [] }
 
 abbrev pub pieces : List Fed
 pieces =
@@ -87,13 +87,13 @@ all_append : (xs ys : List Example) → AllTrue xs → AllTrue ys → AllTrue (x
 all_append [] ys a b = b
 all_append (x ∷ xs) ys a b = (a.0, all_append xs ys a.1 b)
 
-masks-true : AllTrue (map composition masks)
-unfolding densityOf round composed composedOut routeBy first inOrder bits_of word_of ℕ_discrete dec_le
-masks-true = ((refl, refl), ((refl, refl), ((refl, refl), ((refl, refl), tt))))
+masks_true : AllTrue (map composition masks)
+unfolding density_of round composed composed_out route_by first in_order bits_of word_of ℕ_discrete dec_le
+masks_true = ((refl, refl), ((refl, refl), ((refl, refl), ((refl, refl), tt))))
 
-pieces-true : AllTrue (map stream pieces)
-unfolding densityOf round judged composed composedOut routeBy first inOrder bits_of word_of ℕ_discrete dec_le
-pieces-true = (refl, (refl, (refl, tt)))
+pieces_true : AllTrue (map stream pieces)
+unfolding density_of round judged composed composed_out route_by first in_order bits_of word_of ℕ_discrete dec_le
+pieces_true = (refl, (refl, (refl, tt)))
 
 pub examples : AllTrue document
 examples =
@@ -103,5 +103,5 @@ examples =
     all_append (words ++ reads ++ whole) (map stream pieces)
     (all_append (words ++ reads) whole
     (all_append words reads word-examples.examples lent-examples.examples)
-    masks-true)
-    pieces-true
+    masks_true)
+    pieces_true

@@ -21,11 +21,11 @@ use lib.Ieee.Order.{drop, kept}
 abbrev pub far : ℕ → ℕ → ℕ
 far a b = (a - b) + (b - a)
 
-pub far-times : (a b c : ℕ) → far a b * c ≡ far (a * c) (b * c)
-far-times a b c = simp (add-mul, sub-times)
+pub far_times : (a b c : ℕ) → far a b * c ≡ far (a * c) (b * c)
+far_times a b c = simp (add-mul, sub_times)
   where
-    sub-times : (x y : ℕ) → (x - y) * c ≡ x * c - y * c
-    sub-times x y = mul_comm (x - y) c ∙ mul-sub c x y ∙ simp mul_comm
+    sub_times : (x y : ℕ) → (x - y) * c ≡ x * c - y * c
+    sub_times x y = mul_comm (x - y) c ∙ mul-sub c x y ∙ simp mul_comm
 
 -- ---- the nearest multiple
 
@@ -33,8 +33,8 @@ far-times a b c = simp (add-mul, sub-times)
 abbrev Side : ℕ → ℕ → ℕ → Type 0
 Side n u k = ((k ≡ n / u) × (n % u * 2 ≤ u)) ⊎ ((k ≡ suc (n / u)) × (u ≤ n % u * 2))
 
-closest-side : (n u : ℕ) → Side n u (closest n u)
-closest-side n u = go (compare (n % u * 2) u) (leb→le (n % u * 2) u) (nleb→lt (n % u * 2) u) (eqb→eq (n % u * 2) u)
+closest_side : (n u : ℕ) → Side n u (closest n u)
+closest_side n u = go (compare (n % u * 2) u) (leb→le (n % u * 2) u) (nleb→lt (n % u * 2) u) (eqb→eq (n % u * 2) u)
   where
     tie : (d : ℕ) → n / u % 2 ≡ d → d < 2 → n % u * 2 ≡ u → Side n u (n / u + d)
     tie zero e h q = inl (omega arith, omega arith)
@@ -46,8 +46,8 @@ closest-side n u = go (compare (n % u * 2) u) (leb→le (n % u * 2) u) (nleb→l
     go Ordering.eq h k e = tie (n / u % 2) refl (omega arith) (e tt)
     go Ordering.gt h k e = inr (refl, le_of_lt (k tt))
 
-pub closest-nearest : (n u j : ℕ) → 0 < u → far (closest n u * u) n ≤ far (j * u) n
-closest-nearest n u j U = go (closest-side n u) (dec_le j (n / u))
+pub closest_nearest : (n u j : ℕ) → 0 < u → far (closest n u * u) n ≤ far (j * u) n
+closest_nearest n u j U = go (closest_side n u) (dec_le j (n / u))
   where
     go : Side n u (closest n u) → Dec (j ≤ n / u) → far (closest n u * u) n ≤ far (j * u) n
     go (inl s) (yes h) = rw s.0 (omega (arith, div-add-mod' n u, mod-lt n U, mul-le-mul_right u h))
@@ -64,14 +64,14 @@ module _ (p n den : ℕ) (P : 0 < p) (D : 0 < den) where
   abbrev rounded : ℕ
   rounded = kept p n den * unit
 
-  multiple-nearest : (q : ℕ) → far (rounded * den) n ≤ far (q * unit * den) n
-  multiple-nearest q =
+  multiple_nearest : (q : ℕ) → far (rounded * den) n ≤ far (q * unit * den) n
+  multiple_nearest q =
       let times : (z : ℕ) → z * (den * unit) ≡ z * unit * den = λ z. ap (λ (y : ℕ). z * y) (mul_comm den unit) ∙ sym (mul_assoc z unit den) in
-      rw (← times (kept p n den), ← times q) (closest-nearest n (den * unit) q (mul-pos D (pow_pos (drop p n den))))
+      rw (← times (kept p n den), ← times q) (closest_nearest n (den * unit) q (mul-pos D (pow_pos (drop p n den))))
 
   -- what is below a multiple that is no further than the fraction is further from it
-  below-nearest : (q x : ℕ) → x ≤ q * unit → q * unit * den ≤ n → far (rounded * den) n ≤ far (x * den) n
-  below-nearest q x h k = omega (arith, multiple-nearest q, mul-le-mul_right den h)
+  below_nearest : (q x : ℕ) → x ≤ q * unit → q * unit * den ≤ n → far (rounded * den) n ≤ far (x * den) n
+  below_nearest q x h k = omega (arith, multiple_nearest q, mul-le-mul_right den h)
 
   -- where digits are dropped, 2 ^ (p - 1) of the unit are no further
   reached : 0 < drop p n den → 2 ^ (p - 1) * unit * den ≤ n
@@ -80,20 +80,20 @@ module _ (p n den : ℕ) (P : 0 < p) (D : 0 < den) where
       (subst (λ (z : ℕ). z ≤ n / den) (pow-add 2 (p - 1) (drop p n den)) (size_reaches (n / den) (p - 1 + drop p n den) (omega arith)))
 
   -- m * 2 ^ j units, with m of p digits: multiples of the unit, or below 2 ^ (p - 1) of it
-  pub kept-nearest : (m j : ℕ) → m < 2 ^ p → far (rounded * den) n ≤ far (m * 2 ^ j * den) n
-  kept-nearest m j small = go (dec_le (drop p n den) j)
+  pub kept_nearest : (m j : ℕ) → m < 2 ^ p → far (rounded * den) n ≤ far (m * 2 ^ j * den) n
+  kept_nearest m j small = go (dec_le (drop p n den) j)
     where
       go : Dec (drop p n den ≤ j) → far (rounded * den) n ≤ far (m * 2 ^ j * den) n
       go (yes h) =
           let k = drop p n den in
           let e : m * 2 ^ (j - k) * 2 ^ k ≡ m * 2 ^ j = mul_assoc m (2 ^ (j - k)) (2 ^ k) ∙ ap (λ (z : ℕ). m * z) (sym (pow-add 2 (j - k) k) ∙ ap (λ (z : ℕ). 2 ^ z) (sub-add_cancel h)) in
-          rw (← e) (multiple-nearest (m * 2 ^ (j - k)))
+          rw (← e) (multiple_nearest (m * 2 ^ (j - k)))
       go (no h) =
           let k = drop p n den in
           let low : m * 2 ^ j ≤ 2 ^ p * 2 ^ j = mul-le-mul_right (2 ^ j) (le_of_lt small) in
           let same : 2 ^ p * 2 ^ j ≡ 2 ^ (p + j) = sym (pow-add 2 p j) in
           let up : 2 ^ (p + j) ≤ 2 ^ (p - 1 + k) = pow_mono (omega (arith, h)) in
-          below-nearest (2 ^ (p - 1)) (m * 2 ^ j) (omega (arith, pow-add 2 (p - 1) k)) (reached (omega (arith, h)))
+          below_nearest (2 ^ (p - 1)) (m * 2 ^ j) (omega (arith, pow-add 2 (p - 1) k)) (reached (omega (arith, h)))
 
 -- ---- a value that the format holds is m * 2 ^ j units, with m of as many digits as the format keeps
 
@@ -105,10 +105,10 @@ pub record InUnits (f : Format) (m : ℕ) (e : ℤ) : Type 0 where
   pub j : ℕ
   pub is : m * up e * 2 ^ low f ≡ m * 2 ^ j * down e
 
-pub in-units : (f : Format) (m : ℕ) (e : ℤ) → T (fits f (fin false m e)) → InUnits f m e
+pub in_units : (f : Format) (m : ℕ) (e : ℤ) → T (fits f (fin false m e)) → InUnits f m e
 unfolding fits
-in-units f zero e t = record { digits = pow_pos (prec f); j = 0; is = simp zero-mul }
-in-units f (suc m) e t =
+in_units f zero e t = record { digits = pow_pos (prec f); j = 0; is = simp zero-mul }
+in_units f (suc m) e t =
     let both = middle (eqb (suc m % 2) 1) (ltb (suc m) (2 ^ prec f)) (leb (down e) (2 ^ low f)) (ltb (suc m * up e) (2 ^ suc (emax f) * down e)) t in
     go e (ltb→lt (suc m) (2 ^ prec f) both.0) (leb→le (down e) (2 ^ low f) both.1)
   where

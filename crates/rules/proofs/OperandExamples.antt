@@ -10,15 +10,15 @@ use lib.IntN.{ℤ, pos, negsuc}
 use lib.Ieee.{fin, round}
 use Rattle.rows.specs.declared.Refusal.{Refusal}
 use Rattle.rows.specs.Word.{bits_of}
-use Rattle.rows.specs.Runs.{runsOf}
-use Rattle.rows.specs.Table.{first, refusal, noRefusal, told}
+use Rattle.rows.specs.Runs.{runs_of}
+use Rattle.rows.specs.Table.{first, refusal, no_refusal, told}
 use Rattle.rules.specs.declared.Form.TheVariants.{All, None, Words, List as Listed, Runs}
-use Rattle.rules.specs.Operand.{Operand, lent, operandChecks}
-use Rattle.rules.specs.Answer.{densityOf}
+use Rattle.rules.specs.Operand.{Operand, lent, operand_checks}
+use Rattle.rules.specs.Answer.{density_of}
 
 -- what is told of it as operand 1
-abbrev pub refusalOf : Operand → Refusal
-refusalOf o = told (first (operandChecks 1 o))
+abbrev pub refusal_of : Operand → Refusal
+refusal_of o = told (first (operand_checks 1 o))
 
 -- an operand that is accepted, or one with its refusal; or rows and their runs; or a count, a length, and the density m * 2 ^ e
 pub data Case : Type 0 where
@@ -28,10 +28,10 @@ pub data Case : Type 0 where
   quotient : (n len m : ℕ) (e : ℤ) → Case
 
 abbrev pub Holds : Case → Type 0
-Holds (accepts o) = refusalOf o ≡ noRefusal
-Holds (refuses o x) = refusalOf o ≡ x
-Holds (runs rows ns) = runsOf rows ≡ ns
-Holds (quotient n len m e) = densityOf n len ≡ fin false m e
+Holds (accepts o) = refusal_of o ≡ no_refusal
+Holds (refuses o x) = refusal_of o ≡ x
+Holds (runs rows ns) = runs_of rows ≡ ns
+Holds (quotient n len m e) = density_of n len ≡ fin false m e
 
 abbrev pub Every : List Case → Type 0
 Every [] = Unit {0}
@@ -89,7 +89,7 @@ cases =
     ∷ []
 
 pub examples : Every cases
-unfolding densityOf round first bits_of ℕ_discrete dec_le
+unfolding density_of round first bits_of ℕ_discrete dec_le
 examples = (
   refl,
   (

@@ -6,8 +6,8 @@ use mathlib.Core.Path.{◌≡◌, refl}
 use mathlib.Core.List.{List, [], ◌∷◌}
 use native.Mathlib.Decide.{dec_le}
 use Rattle.rows.specs.Word.{bits_of, word_of}
-use Rattle.rows.specs.Table.{first, refusal, noRefusal}
-use Rattle.rows.specs.WordAnswer.{readAnswer, rankRead}
+use Rattle.rows.specs.Table.{first, refusal, no_refusal}
+use Rattle.rows.specs.WordAnswer.{read_answer, rank_read}
 
 -- words, start, offset, and the answer
 pub data Case : Type 0 where
@@ -15,8 +15,8 @@ pub data Case : Type 0 where
   refuses : (words : List ℕ) (start offset : ℕ) → Case
 
 abbrev pub Holds : Case → Type 0
-Holds (reads ws s o w) = rankRead ws s o ≡ readAnswer noRefusal w
-Holds (refuses ws s o) = rankRead ws s o ≡ readAnswer (refusal 2 0) 0
+Holds (reads ws s o w) = rank_read ws s o ≡ read_answer no_refusal w
+Holds (refuses ws s o) = rank_read ws s o ≡ read_answer (refusal 2 0) 0
 
 abbrev pub Every : List Case → Type 0
 Every [] = Unit {0}
@@ -32,5 +32,5 @@ cases =
     ∷ []
 
 pub examples : Every cases
-unfolding rankRead first bits_of word_of dec_le
+unfolding rank_read first bits_of word_of dec_le
 examples = (refl, (refl, (refl, (refl, (refl, tt)))))

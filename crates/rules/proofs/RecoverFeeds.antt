@@ -14,30 +14,30 @@ use Rattle.rows.specs.declared.Refusal.{Refusal}
 use Rattle.rows.specs.declared.Verdict.TheVariants.{Fine, Refused}
 use Rattle.rows.specs.Rows.{count, splice}
 use Rattle.rows.specs.Lists.{select}
-use Rattle.rows.specs.Words.{bitsOfAll}
-use Rattle.rows.specs.Laid.{wordsFor}
-use Rattle.rows.specs.Table.{Line, First, Met, Numbered, inOrder, refusal, noRefusal}
-use Rattle.rows.proofs.TableLaws.{same-refusal, never, fine-exactly, parts-met, none-met, parts-refuses, parts-numbered, none-numbered}
-use Rattle.rows.proofs.RowLaws.{count-le-length}
-use Rattle.rows.proofs.RecoverLaws.{recover-length, recover-rank, FirstOutside, first-outside}
-use Rattle.rows.proofs.SpliceLaws.{splice-before, splice-in, splice-after}
-use Rattle.rows.proofs.WordsLaws.{bitsOfAll-length}
-use Rattle.rows.proofs.LaidLaws.{laid-bits}
+use Rattle.rows.specs.Words.{bits_of_all}
+use Rattle.rows.specs.Laid.{words_for}
+use Rattle.rows.specs.Table.{Line, First, Met, Numbered, in_order, refusal, no_refusal}
+use Rattle.rows.proofs.TableLaws.{same_refusal, never, fine_exactly, parts_met, none_met, parts_refuses, parts_numbered, none_numbered}
+use Rattle.rows.proofs.RowLaws.{count_le_length}
+use Rattle.rows.proofs.RecoverLaws.{recover_length, recover_rank, FirstOutside, first_outside}
+use Rattle.rows.proofs.SpliceLaws.{splice_before, splice_in, splice_after}
+use Rattle.rows.proofs.WordsLaws.{bits_of_all_length}
+use Rattle.rows.proofs.LaidLaws.{laid_bits}
 use Rattle.rules.specs.declared.RecoveryState.{RecoveryState}
 use Rattle.rules.specs.declared.RecoveryFed.{RecoveryFed}
 use Rattle.rules.specs.Operand.{limit, rows_of, length_of, count_of, Accepted}
-use Rattle.rules.specs.Answer.{densityOf, noRoute}
-use Rattle.rules.specs.Compose.{bothChecks}
-use Rattle.rules.specs.Recover.{strays, Within, lengthsChecks, insideChecks, roomChecks}
-use Rattle.rules.specs.RecoverStream.{Masks, long, set, ranks, state_of, stateChecks, limitChecks, feedChecks, moved, judged, fed, fedOut}
-use Rattle.rules.proofs.OperandLaws.{accepted-length, accepted-count}
-use Rattle.rules.proofs.Operands.{operand-numbers}
-use Rattle.rules.proofs.AnswerLaws.{Bare, answer-refuses, answer-accepts, refuses-numbered, nothing-done}
+use Rattle.rules.specs.Answer.{density_of, no_route}
+use Rattle.rules.specs.Compose.{both_checks}
+use Rattle.rules.specs.Recover.{strays, Within, lengths_checks, inside_checks, room_checks}
+use Rattle.rules.specs.RecoverStream.{Masks, long, set, ranks, state_of, state_checks, limit_checks, feed_checks, moved, judged, fed, fed_out}
+use Rattle.rules.proofs.OperandLaws.{accepted_length, accepted_count}
+use Rattle.rules.proofs.Operands.{operand_numbers}
+use Rattle.rules.proofs.AnswerLaws.{Bare, answer_refuses, answer_accepts, refuses_numbered, nothing_done}
 use Rattle.rules.proofs.Writes.{bit_at, row}
-use Rattle.rules.proofs.ComposeLaws.{both-met}
-use Rattle.rules.proofs.Compositions.{OperandRefuses, both-refuses, both-numbered}
-use Rattle.rules.proofs.StreamLaws.{bound-met, bound-refuses}
-use Rattle.rules.proofs.Recoveries.{recovery-length, recovery-count, told-first, told-else, number, some}
+use Rattle.rules.proofs.ComposeLaws.{both_met}
+use Rattle.rules.proofs.Compositions.{OperandRefuses, both_refuses, both_numbered}
+use Rattle.rules.proofs.StreamLaws.{bound_met, bound_refuses}
+use Rattle.rules.proofs.Recoveries.{recovery_length, recovery_count, told_first, told_else, number, some}
 
 -- refusal 10's bound
 abbrev pub Bounded : RecoveryState → Type 0
@@ -52,44 +52,44 @@ pub record Accepts (st : RecoveryState) (m : Masks) (room : ℕ) : Type 0 where
   pub bounded : Bounded st
   pub within : Within m.self m.kept
   pub limited : st.done.0 + long m ≤ limit
-  pub space : wordsFor (st.ranks.0 + set m) ≤ room
+  pub space : words_for (st.ranks.0 + set m) ≤ room
 
 -- ---- lengths and counts of accepted masks
 
 module _ (m : Masks) (w : Within m.self m.kept) where
-  pub self-length : length (rows_of m.self) ≡ long m
-  self-length = accepted-length m.self w.self
+  pub self_length : length (rows_of m.self) ≡ long m
+  self_length = accepted_length m.self w.self
 
-  pub self-count : count (rows_of m.self) ≡ set m
-  self-count = accepted-count m.self w.self
+  pub self_count : count (rows_of m.self) ≡ set m
+  self_count = accepted_count m.self w.self
 
-  pub ranks-length : length (ranks m) ≡ set m
-  ranks-length = recovery-length m.self m.kept w
+  pub ranks_length : length (ranks m) ≡ set m
+  ranks_length = recovery_length m.self m.kept w
 
-  pub ranks-count : count (ranks m) ≡ count_of m.kept
-  ranks-count = recovery-count m.self m.kept w
+  pub ranks_count : count (ranks m) ≡ count_of m.kept
+  ranks_count = recovery_count m.self m.kept w
 
 -- an accepted feed hands back a state within 10's bound
-pub moved-bounded : (st : RecoveryState) (m : Masks) (room : ℕ) → Accepts st m room → Bounded (moved st m)
-moved-bounded st m room t =
-    let few = count-le-length (ranks m) in
-    let long = recover-length (rows_of m.self) (rows_of m.kept) in (
+pub moved_bounded : (st : RecoveryState) (m : Masks) (room : ℕ) → Accepts st m room → Bounded (moved st m)
+moved_bounded st m room t =
+    let few = count_le_length (ranks m) in
+    let long = recover_length (rows_of m.self) (rows_of m.kept) in (
       omega (arith, t.bounded.0, few, long),
-      omega (arith, t.bounded.1, count-le-length (rows_of m.self)),
-      omega (arith, t.limited, self-length m t.within),
+      omega (arith, t.bounded.1, count_le_length (rows_of m.self)),
+      omega (arith, t.limited, self_length m t.within),
     )
 
 module _ (st : RecoveryState) (m : Masks) where
   abbrev both : List Line
-  both = bothChecks m.self m.kept
+  both = both_checks m.self m.kept
 
   -- the lines after the operands'
   abbrev later : ℕ → List (List Line)
   later room =
-      lengthsChecks m.self m.kept
-      ∷ limitChecks (st.done.0 + long m)
-      ∷ insideChecks m.self m.kept
-      ∷ roomChecks (st.ranks.0 + set m) room
+      lengths_checks m.self m.kept
+      ∷ limit_checks (st.done.0 + long m)
+      ∷ inside_checks m.self m.kept
+      ∷ room_checks (st.ranks.0 + set m) room
       ∷ []
 
   -- ---- demand 1: 10, then self's refusal and the second mask's, then 7, 11, 17, 8
@@ -99,7 +99,7 @@ module _ (st : RecoveryState) (m : Masks) where
       ((x ≡ refusal 7 0) × (length_of m.kept.form ≢ long m))
       ⊎ ((x ≡ refusal 11 0) × (length_of m.kept.form ≡ long m) × (limit < st.done.0 + long m))
       ⊎ ((x ≡ refusal 17 0) × (length_of m.kept.form ≡ long m) × (st.done.0 + long m ≤ limit) × (count (away m) ≢ 0))
-      ⊎ ((x ≡ refusal 8 0) × (length_of m.kept.form ≡ long m) × (st.done.0 + long m ≤ limit) × (count (away m) ≡ 0) × (room < wordsFor (st.ranks.0 + set m)))
+      ⊎ ((x ≡ refusal 8 0) × (length_of m.kept.form ≡ long m) × (st.done.0 + long m ≤ limit) × (count (away m) ≡ 0) × (room < words_for (st.ranks.0 + set m)))
 
   abbrev pub Refuses : ℕ → Refusal → Type 0
   Refuses room x =
@@ -107,83 +107,83 @@ module _ (st : RecoveryState) (m : Masks) where
       ⊎ (Bounded st × OperandRefuses m.self m.kept x)
       ⊎ (Bounded st × Accepted m.self × Accepted m.kept × PieceRefuses room x)
 
-  bounded-met : Met (stateChecks st) ↔ Bounded st
-  bounded-met = bound-met st.kept st.ranks.0 st.done.0
+  bounded_met : Met (state_checks st) ↔ Bounded st
+  bounded_met = bound_met st.kept st.ranks.0 st.done.0
 
-  state-refuses : (x : Refusal) → First (stateChecks st) (Refused x) ↔ ((x ≡ refusal 10 0) × (¬ Bounded st))
-  state-refuses = bound-refuses st.kept st.ranks.0 st.done.0
+  state_refuses : (x : Refusal) → First (state_checks st) (Refused x) ↔ ((x ≡ refusal 10 0) × (¬ Bounded st))
+  state_refuses = bound_refuses st.kept st.ranks.0 st.done.0
 
-  piece-refuses : (room : ℕ) (x : Refusal) → First (inOrder (later room)) (Refused x) ↔ PieceRefuses room x
-  unfolding inOrder
-  piece-refuses room x = (to, from)
+  piece_refuses : (room : ℕ) (x : Refusal) → First (in_order (later room)) (Refused x) ↔ PieceRefuses room x
+  unfolding in_order
+  piece_refuses room x = (to, from)
     where
-      to : First (inOrder (later room)) (Refused x) → PieceRefuses room x
-      to (inr (a, e)) = inl (same-refusal e, a)
-      to (inl (a, inr (b, e))) = inr (inl (same-refusal e, a, omega (arith, b)))
-      to (inl (a, inl (b, inr (c, e)))) = inr (inr (inl (same-refusal e, a, b, c)))
-      to (inl (a, inl (b, inl (c, inr (d, e))))) = inr (inr (inr (same-refusal e, a, b, c, omega (arith, d))))
+      to : First (in_order (later room)) (Refused x) → PieceRefuses room x
+      to (inr (a, e)) = inl (same_refusal e, a)
+      to (inl (a, inr (b, e))) = inr (inl (same_refusal e, a, omega (arith, b)))
+      to (inl (a, inl (b, inr (c, e)))) = inr (inr (inl (same_refusal e, a, b, c)))
+      to (inl (a, inl (b, inl (c, inr (d, e))))) = inr (inr (inr (same_refusal e, a, b, c, omega (arith, d))))
       to (inl (a, inl (b, inl (c, inl (d, e))))) = never e
 
-      from : PieceRefuses room x → First (inOrder (later room)) (Refused x)
+      from : PieceRefuses room x → First (in_order (later room)) (Refused x)
       from (inl (e, a)) = inr (a, ap Refused e)
       from (inr (inl (e, a, b))) = inl (a, inr (λ h. omega arith, ap Refused e))
       from (inr (inr (inl (e, a, b, c)))) = inl (a, inl (b, inr (c, ap Refused e)))
       from (inr (inr (inr (e, a, b, c, d)))) = inl (a, inl (b, inl (c, inr (λ h. omega arith, ap Refused e))))
 
-  table-refuses : (room : ℕ) (x : Refusal) → First (feedChecks st m room) (Refused x) ↔ Refuses room x
-  table-refuses room x =
-      let p = parts-refuses (stateChecks st) (both ∷ later room) x in
+  table_refuses : (room : ℕ) (x : Refusal) → First (feed_checks st m room) (Refused x) ↔ Refuses room x
+  table_refuses room x =
+      let p = parts_refuses (state_checks st) (both ∷ later room) x in
       (λ h. one (p.0 h), λ w. p.1 (from w))
     where
-      operand-part : First (inOrder (both ∷ later room)) (Refused x) ↔ (First both (Refused x) ⊎ (Met both × First (inOrder (later room)) (Refused x)))
-      operand-part = parts-refuses both (later room) x
+      operand_part : First (in_order (both ∷ later room)) (Refused x) ↔ (First both (Refused x) ⊎ (Met both × First (in_order (later room)) (Refused x)))
+      operand_part = parts_refuses both (later room) x
 
-      two : Bounded st → First both (Refused x) ⊎ (Met both × First (inOrder (later room)) (Refused x)) → Refuses room x
-      two b (inl h) = inr (inl (b, (both-refuses m.self m.kept x).0 h))
-      two b (inr (t, h)) = let a = (both-met m.self m.kept).0 t in inr (inr (b, a.0, a.1, (piece-refuses room x).0 h))
+      two : Bounded st → First both (Refused x) ⊎ (Met both × First (in_order (later room)) (Refused x)) → Refuses room x
+      two b (inl h) = inr (inl (b, (both_refuses m.self m.kept x).0 h))
+      two b (inr (t, h)) = let a = (both_met m.self m.kept).0 t in inr (inr (b, a.0, a.1, (piece_refuses room x).0 h))
 
-      one : First (stateChecks st) (Refused x) ⊎ (Met (stateChecks st) × First (inOrder (both ∷ later room)) (Refused x)) → Refuses room x
-      one (inl h) = inl ((state-refuses x).0 h)
-      one (inr (t, h)) = two (bounded-met.0 t) (operand-part.0 h)
+      one : First (state_checks st) (Refused x) ⊎ (Met (state_checks st) × First (in_order (both ∷ later room)) (Refused x)) → Refuses room x
+      one (inl h) = inl ((state_refuses x).0 h)
+      one (inr (t, h)) = two (bounded_met.0 t) (operand_part.0 h)
 
-      from : Refuses room x → First (stateChecks st) (Refused x) ⊎ (Met (stateChecks st) × First (inOrder (both ∷ later room)) (Refused x))
-      from (inl t) = inl ((state-refuses x).1 t)
-      from (inr (inl (b, t))) = inr (bounded-met.1 b, operand-part.1 (inl ((both-refuses m.self m.kept x).1 t)))
-      from (inr (inr (b, s, k, t))) = inr (bounded-met.1 b, operand-part.1 (inr ((both-met m.self m.kept).1 (s, k), (piece-refuses room x).1 t)))
+      from : Refuses room x → First (state_checks st) (Refused x) ⊎ (Met (state_checks st) × First (in_order (both ∷ later room)) (Refused x))
+      from (inl t) = inl ((state_refuses x).1 t)
+      from (inr (inl (b, t))) = inr (bounded_met.1 b, operand_part.1 (inl ((both_refuses m.self m.kept x).1 t)))
+      from (inr (inr (b, s, k, t))) = inr (bounded_met.1 b, operand_part.1 (inr ((both_met m.self m.kept).1 (s, k), (piece_refuses room x).1 t)))
 
   module _ (out : List ℕ) where
     -- each refusal, its number and its operand, exactly when
-    pub fed-refuses : (x : Refusal) → zero < x.number → ((fed st m out).answer.refusal ≡ x) ↔ Refuses (length out) x
+    pub fed_refuses : (x : Refusal) → zero < x.number → ((fed st m out).answer.refusal ≡ x) ↔ Refuses (length out) x
     unfolding judged
-    fed-refuses x z =
-        let t = answer-refuses (feedChecks st m (length out)) _ _ x z in
-        (λ e. (table-refuses (length out) x).0 (t.0 e), λ w. t.1 ((table-refuses (length out) x).1 w))
+    fed_refuses x z =
+        let t = answer_refuses (feed_checks st m (length out)) _ _ x z in
+        (λ e. (table_refuses (length out) x).0 (t.0 e), λ w. t.1 ((table_refuses (length out) x).1 w))
 
-  feed-numbered : (room : ℕ) → Numbered (feedChecks st m room)
-  feed-numbered room =
-      parts-numbered _ _ (omega arith, (omega arith, (omega arith, tt)))
-      (parts-numbered _ _ (both-numbered m.self m.kept)
-      (parts-numbered _ _ (omega arith, tt)
-      (parts-numbered _ _ (omega arith, tt) (parts-numbered _ _ (omega arith, tt) (parts-numbered _ _ (omega arith, tt) none-numbered)))))
+  feed_numbered : (room : ℕ) → Numbered (feed_checks st m room)
+  feed_numbered room =
+      parts_numbered _ _ (omega arith, (omega arith, (omega arith, tt)))
+      (parts_numbered _ _ (both_numbered m.self m.kept)
+      (parts_numbered _ _ (omega arith, tt)
+      (parts_numbered _ _ (omega arith, tt) (parts_numbered _ _ (omega arith, tt) (parts_numbered _ _ (omega arith, tt) none_numbered)))))
 
   -- no refusal tells the number 0
-  pub refused-number : (room : ℕ) (x : Refusal) → judged st m room ≡ Refused x → x.number ≢ 0
+  pub refused_number : (room : ℕ) (x : Refusal) → judged st m room ≡ Refused x → x.number ≢ 0
   unfolding judged
-  refused-number room = refuses-numbered (feedChecks st m room) (feed-numbered room)
+  refused_number room = refuses_numbered (feed_checks st m room) (feed_numbered room)
 
   -- the needs part by part; `search` finds each where it stands, so that the order is the theorem's alone to say
-  feed-met : (room : ℕ) → Met (feedChecks st m room) ↔ Accepts st m room
-  feed-met room = (to, from)
+  feed_met : (room : ℕ) → Met (feed_checks st m room) ↔ Accepts st m room
+  feed_met room = (to, from)
     where
-      to : Met (feedChecks st m room) → Accepts st m room
+      to : Met (feed_checks st m room) → Accepts st m room
       to t =
-          let a = (parts-met _ _).0 t in
-          let b = (parts-met _ _).0 a.1 in
-          let c = (parts-met _ _).0 b.1 in
-          let d = (parts-met _ _).0 c.1 in
-          let e = (parts-met _ _).0 d.1 in
-          let f = (parts-met _ _).0 e.1 in
-          let o = (both-met m.self m.kept).0 (search) in
+          let a = (parts_met _ _).0 t in
+          let b = (parts_met _ _).0 a.1 in
+          let c = (parts_met _ _).0 b.1 in
+          let d = (parts_met _ _).0 c.1 in
+          let e = (parts_met _ _).0 d.1 in
+          let f = (parts_met _ _).0 e.1 in
+          let o = (both_met m.self m.kept).0 (search) in
           record {
             bounded = (search, search, search);
             within = record { self = o.0; kept = o.1; lengths = search; inside = search };
@@ -191,108 +191,108 @@ module _ (st : RecoveryState) (m : Masks) where
             space = search;
           }
 
-      with-met : (t : List Line) (ts : List (List Line)) → Met t → Met (inOrder ts) → Met (inOrder (t ∷ ts))
-      with-met t ts a b = (parts-met t ts).1 (a, b)
+      with_met : (t : List Line) (ts : List (List Line)) → Met t → Met (in_order ts) → Met (in_order (t ∷ ts))
+      with_met t ts a b = (parts_met t ts).1 (a, b)
 
-      from : Accepts st m room → Met (feedChecks st m room)
+      from : Accepts st m room → Met (feed_checks st m room)
       from t =
-          let state = bounded-met.1 t.bounded in
-          let both = (both-met m.self m.kept).1 (t.within.self, t.within.kept) in
+          let state = bounded_met.1 t.bounded in
+          let both = (both_met m.self m.kept).1 (t.within.self, t.within.kept) in
           let lengths = t.within.lengths in
           let limited = t.limited in
           let inside = t.within.inside in
           let space = t.space in
-          with-met _ _ (search) (with-met _ _ (search) (with-met _ _ (search) (with-met _ _ (search) (with-met _ _ (search) (with-met _ _ (search) none-met)))))
+          with_met _ _ (search) (with_met _ _ (search) (with_met _ _ (search) (with_met _ _ (search) (with_met _ _ (search) (with_met _ _ (search) none_met)))))
 
   -- a feed that has what it needs is let pass, and no other
-  pub feed-fine : (room : ℕ) → (judged st m room ≡ Fine) ↔ Accepts st m room
+  pub feed_fine : (room : ℕ) → (judged st m room ≡ Fine) ↔ Accepts st m room
   unfolding judged
-  feed-fine room = (λ e. (feed-met room).0 ((fine-exactly (feedChecks st m room)).0 e), λ t. (fine-exactly (feedChecks st m room)).1 ((feed-met room).1 t))
+  feed_fine room = (λ e. (feed_met room).0 ((fine_exactly (feed_checks st m room)).0 e), λ t. (fine_exactly (feed_checks st m room)).1 ((feed_met room).1 t))
 
   module _ (out : List ℕ) where
     -- and number 0, accepted, exactly otherwise
-    pub fed-accepts : ((fed st m out).answer.refusal.number ≡ 0) ↔ Accepts st m (length out)
+    pub fed_accepts : ((fed st m out).answer.refusal.number ≡ 0) ↔ Accepts st m (length out)
     unfolding judged
-    fed-accepts =
-        let t = answer-accepts (feedChecks st m (length out)) _ _ (feed-numbered (length out)) in
-        (λ e. (feed-met (length out)).0 (t.0 e), λ a. t.1 ((feed-met (length out)).1 a))
+    fed_accepts =
+        let t = answer_accepts (feed_checks st m (length out)) _ _ (feed_numbered (length out)) in
+        (λ e. (feed_met (length out)).0 (t.0 e), λ a. t.1 ((feed_met (length out)).1 a))
 
     -- a refusal hands the state back as given and changes no lent word, and reports count 0, route 0 and density 0.0
-    pub fed-refused : (fed st m out).answer.refusal.number ≢ 0 → ((fed st m out).state ≡ st) × (fedOut st m out ≡ out) × Bare (fed st m out).answer
-    fed-refused h =
-        let s = nothing-done (judged st m (length out)) (ranks m) noRoute _ st h in
-        (s.0, (nothing-done (judged st m (length out)) (ranks m) noRoute _ out h).0, s.1)
+    pub fed_refused : (fed st m out).answer.refusal.number ≢ 0 → ((fed st m out).state ≡ st) × (fed_out st m out ≡ out) × Bare (fed st m out).answer
+    fed_refused h =
+        let s = nothing_done (judged st m (length out)) (ranks m) no_route _ st h in
+        (s.0, (nothing_done (judged st m (length out)) (ranks m) no_route _ out h).0, s.1)
 
     -- an accepted feed keeps refusal 10's bound
-    pub fed-bounded : Accepts st m (length out) → Bounded (fed st m out).state
-    fed-bounded t = rw ((feed-fine (length out)).1 t) (moved-bounded st m (length out) t)
+    pub fed_bounded : Accepts st m (length out) → Bounded (fed st m out).state
+    fed_bounded t = rw ((feed_fine (length out)).1 t) (moved_bounded st m (length out) t)
 
     -- ---- the row told, counted in the piece: with 17 it is in the second mask and not in self, and no earlier row is; else it is 0
 
     -- 17 is told where a row lies outside, and nowhere else
     seventeen : (x : Refusal) → x.number ≡ 17 → Refuses (length out) x → 0 < count (away m)
     seventeen x e (inl t) = absurd (omega (arith, e, number t.0))
-    seventeen x e (inr (inl (b, inl w))) = absurd (omega (arith, e, operand-numbers 1 m.self x w))
-    seventeen x e (inr (inl (b, inr (s, w)))) = absurd (omega (arith, e, operand-numbers 2 m.kept x w))
+    seventeen x e (inr (inl (b, inl w))) = absurd (omega (arith, e, operand_numbers 1 m.self x w))
+    seventeen x e (inr (inl (b, inr (s, w)))) = absurd (omega (arith, e, operand_numbers 2 m.kept x w))
     seventeen x e (inr (inr (b, s, k, inl t))) = absurd (omega (arith, e, number t.0))
     seventeen x e (inr (inr (b, s, k, inr (inl t)))) = absurd (omega (arith, e, number t.0))
     seventeen x e (inr (inr (b, s, k, inr (inr (inl (f, l, d, h)))))) = some (count (away m)) h
     seventeen x e (inr (inr (b, s, k, inr (inr (inr t))))) = absurd (omega (arith, e, number t.0))
 
-    pub fed-outside-first : (fed st m out).answer.refusal.number ≡ 17 → FirstOutside (rows_of m.self) (rows_of m.kept) (fed st m out).outside.0
-    fed-outside-first e =
-        let told = told-first (judged st m (length out)) (ranks m) noRoute (away m) e in
+    pub fed_outside_first : (fed st m out).answer.refusal.number ≡ 17 → FirstOutside (rows_of m.self) (rows_of m.kept) (fed st m out).outside.0
+    fed_outside_first e =
+        let told = told_first (judged st m (length out)) (ranks m) no_route (away m) e in
         let x = (fed st m out).answer.refusal in
-        let found = seventeen x e ((fed-refuses out x (omega (arith, e))).0 refl) in
-        subst (FirstOutside (rows_of m.self) (rows_of m.kept)) (sym told) (first-outside (rows_of m.self) (rows_of m.kept) found)
+        let found = seventeen x e ((fed_refuses out x (omega (arith, e))).0 refl) in
+        subst (FirstOutside (rows_of m.self) (rows_of m.kept)) (sym told) (first_outside (rows_of m.self) (rows_of m.kept) found)
 
-    pub fed-outside-else : (fed st m out).answer.refusal.number ≢ 17 → (fed st m out).outside.0 ≡ 0
-    fed-outside-else = told-else (judged st m (length out)) (ranks m) noRoute (away m)
+    pub fed_outside_else : (fed st m out).answer.refusal.number ≢ 17 → (fed st m out).outside.0 ≡ 0
+    fed_outside_else = told_else (judged st m (length out)) (ranks m) no_route (away m)
 
 -- what an accepted feed leaves: from the state's ranks on a bit for each of the piece's set rows, the r-th as the r-th of them is kept, and no other
 -- bit written; the second mask's count, route 0 and the density told; and all three numbers added to
 pub record Feeds (st : RecoveryState) (m : Masks) (gave : RecoveryFed) (left out : List ℕ) : Type 0 where
-  pub accepted : gave.answer.refusal ≡ noRefusal
+  pub accepted : gave.answer.refusal ≡ no_refusal
   pub bits : (r : ℕ) → r < set m → bit_at left (st.ranks.0 + r) ≡ row m.kept (select (rows_of m.self) r)
   pub others : (i : ℕ) → (i < st.ranks.0) ⊎ (st.ranks.0 + set m ≤ i) → bit_at left i ≡ bit_at out i
   pub counted : gave.answer.summary.count ≡ count_of m.kept
   pub route : gave.answer.summary.route ≡ 0
-  pub dense : gave.answer.summary.density ≡ densityOf gave.answer.summary.count (set m)
+  pub dense : gave.answer.summary.density ≡ density_of gave.answer.summary.count (set m)
   pub state : gave.state ≡ state_of (st.done.0 + long m) (st.ranks.0 + set m) (st.kept + gave.answer.summary.count)
 
-pub fed-feeds : (st : RecoveryState) (m : Masks) (out : List ℕ) → Accepts st m (length out) → Feeds st m (fed st m out) (fedOut st m out) out
-fed-feeds st m out t =
+pub fed_feeds : (st : RecoveryState) (m : Masks) (out : List ℕ) → Accepts st m (length out) → Feeds st m (fed st m out) (fed_out st m out) out
+fed_feeds st m out t =
     let w = t.within in
-    let long = ranks-length m w in
-    let short : st.ranks.0 + length (ranks m) ≤ length (bitsOfAll 64 out) = omega (arith, long, t.space, bitsOfAll-length 64 out) in
-    let at = laid-bits 64 st.ranks.0 (ranks m) out in
-    rw ((feed-fine st m (length out)).1 t)
+    let long = ranks_length m w in
+    let short : st.ranks.0 + length (ranks m) ≤ length (bits_of_all 64 out) = omega (arith, long, t.space, bits_of_all_length 64 out) in
+    let at = laid_bits 64 st.ranks.0 (ranks m) out in
+    rw ((feed_fine st m (length out)).1 t)
     (record {
       accepted = refl;
       bits =
           λ r h. ap (λ (l : List Bool). get_or l (st.ranks.0 + r) false) at
-          ∙ splice-in st.ranks.0 (bitsOfAll 64 out) (ranks m) r false (omega (arith, long, short)) (omega (arith, long))
-          ∙ recover-rank (rows_of m.self) (rows_of m.kept) r (omega (arith, self-count m w));
+          ∙ splice_in st.ranks.0 (bits_of_all 64 out) (ranks m) r false (omega (arith, long, short)) (omega (arith, long))
+          ∙ recover_rank (rows_of m.self) (rows_of m.kept) r (omega (arith, self_count m w));
       others = λ i h. ap (λ (l : List Bool). get_or l i false) at ∙ elsewhere i h;
-      counted = ranks-count m w;
+      counted = ranks_count m w;
       route = refl;
-      dense = ap (densityOf (count (ranks m))) long;
-      state = λ i. state_of (st.done.0 + self-length m w i) (st.ranks.0 + self-count m w i) (st.kept + count (ranks m));
+      dense = ap (density_of (count (ranks m))) long;
+      state = λ i. state_of (st.done.0 + self_length m w i) (st.ranks.0 + self_count m w i) (st.kept + count (ranks m));
     })
   where
     elsewhere : (i : ℕ) → (i < st.ranks.0) ⊎ (st.ranks.0 + set m ≤ i)
-        → get_or (splice st.ranks.0 (bitsOfAll 64 out) (ranks m)) i false ≡ get_or (bitsOfAll 64 out) i false
-    elsewhere i (inl h) = splice-before st.ranks.0 (bitsOfAll 64 out) (ranks m) i false h
-    elsewhere i (inr h) = splice-after st.ranks.0 (bitsOfAll 64 out) (ranks m) i false (omega (arith, ranks-length m t.within))
+        → get_or (splice st.ranks.0 (bits_of_all 64 out) (ranks m)) i false ≡ get_or (bits_of_all 64 out) i false
+    elsewhere i (inl h) = splice_before st.ranks.0 (bits_of_all 64 out) (ranks m) i false h
+    elsewhere i (inr h) = splice_after st.ranks.0 (bits_of_all 64 out) (ranks m) i false (omega (arith, ranks_length m t.within))
 
 -- two pieces of length 0 change nothing
-pub fed-nothing : (st : RecoveryState) (m : Masks) (out : List ℕ) → Accepts st m (length out) → long m ≡ 0
-    → ((fed st m out).state ≡ st) × ((i : ℕ) → bit_at (fedOut st m out) i ≡ bit_at out i)
-fed-nothing st m out t z =
-    let f = fed-feeds st m out t in
+pub fed_nothing : (st : RecoveryState) (m : Masks) (out : List ℕ) → Accepts st m (length out) → long m ≡ 0
+    → ((fed st m out).state ≡ st) × ((i : ℕ) → bit_at (fed_out st m out) i ≡ bit_at out i)
+fed_nothing st m out t z =
+    let f = fed_feeds st m out t in
     let w = t.within in
-    let none : set m ≡ 0 = omega (arith, count-le-length (rows_of m.self), self-length m w, self-count m w, z) in
-    let kept : (fed st m out).answer.summary.count ≡ 0 = f.counted ∙ omega (arith, count-le-length (ranks m), ranks-length m w, ranks-count m w, none) in
+    let none : set m ≡ 0 = omega (arith, count_le_length (rows_of m.self), self_length m w, self_count m w, z) in
+    let kept : (fed st m out).answer.summary.count ≡ 0 = f.counted ∙ omega (arith, count_le_length (ranks m), ranks_length m w, ranks_count m w, none) in
     (f.state ∙ rw (z, none, kept) (simp add-zero), λ i. f.others i (side i none (dec_le (suc i) st.ranks.0)))
   where
     side : (i : ℕ) → set m ≡ 0 → Dec (suc i ≤ st.ranks.0) → (i < st.ranks.0) ⊎ (st.ranks.0 + set m ≤ i)

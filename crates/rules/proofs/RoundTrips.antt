@@ -14,46 +14,46 @@ use lib.Seq.{take_at, drop_at}
 use Rattle.rows.specs.declared.Verdict.{Verdict}
 use Rattle.rows.specs.declared.Verdict.TheVariants.{Fine}
 use Rattle.rows.specs.Rows.{count}
-use Rattle.rows.specs.Words.{bitsOfAll}
-use Rattle.rows.specs.Lists.{Ascending, setRows}
-use Rattle.rows.specs.Runs.{Apart, runsOf, runsIn}
-use Rattle.rows.specs.Laid.{wordsFor, written}
-use Rattle.rows.specs.Table.{first, ifFine}
-use Rattle.rows.proofs.ListLaws.{rows-count, rows-ascending, listed-rows}
-use Rattle.rows.proofs.RunLaws.{runs-apart, runs-back, runs-even, rows_back}
-use Rattle.rows.proofs.WrittenLaws.{written-rows, written-length}
+use Rattle.rows.specs.Words.{bits_of_all}
+use Rattle.rows.specs.Lists.{Ascending, set_rows}
+use Rattle.rows.specs.Runs.{Apart, runs_of, runs_in}
+use Rattle.rows.specs.Laid.{words_for, written}
+use Rattle.rows.specs.Table.{first, if_fine}
+use Rattle.rows.proofs.ListLaws.{rows_count, rows_ascending, listed_rows}
+use Rattle.rows.proofs.RunLaws.{runs_apart, runs_back, runs_even, rows_back}
+use Rattle.rows.proofs.WrittenLaws.{written_rows, written_length}
 use Rattle.rules.specs.declared.Answer.{Answer}
 use Rattle.rules.specs.declared.Form.TheVariants.{Words, List as Listed, Runs}
-use Rattle.rules.specs.Operand.{Operand, lent, climbs, lastBelow, runsFit, rows_of, length_of, count_of, Accepted}
-use Rattle.rules.specs.Answer.{densityOf, accepted, answered}
-use Rattle.rules.specs.Convert.{convertChecks, toWordsVerdict, toWords, toWordsOut, to_list, toListOut, toRuns, toRunsOut}
-use Rattle.rules.proofs.OperandLaws.{apart, accepted-length, accepted-count, accepted-limit}
+use Rattle.rules.specs.Operand.{Operand, lent, climbs, last_below, runs_fit, rows_of, length_of, count_of, Accepted}
+use Rattle.rules.specs.Answer.{density_of, accepted, answered}
+use Rattle.rules.specs.Convert.{convert_checks, to_words_verdict, to_words, to_words_out, to_list, to_list_out, to_runs, to_runs_out}
+use Rattle.rules.proofs.OperandLaws.{apart, accepted_length, accepted_count, accepted_limit}
 use Rattle.rules.proofs.Writes.{row, Writes, writes, written_back, Lists, WritesRuns}
-use Rattle.rules.proofs.Conversions.{convert-fine}
+use Rattle.rules.proofs.Conversions.{convert_fine}
 
-T-both : (a b : Bool) → T a → T b → T (a && b)
-T-both true b s t = t
-T-both false b s t = absurd s
+T_both : (a b : Bool) → T a → T b → T (a && b)
+T_both true b s t = t
+T_both false b s t = absurd s
 
 -- an ascending list passes the two tests
-climbing : (b len e : ℕ) (es : List ℕ) → Ascending b len (e ∷ es) → T (climbs (e ∷ es)) × T (lastBelow len (e ∷ es))
+climbing : (b len e : ℕ) (es : List ℕ) → Ascending b len (e ∷ es) → T (climbs (e ∷ es)) × T (last_below len (e ∷ es))
 climbing b len e [] a = (tt, lt→ltb e len a.1)
 climbing b len e (g ∷ es) a =
     let rest = climbing (suc e) len g es a.2 in
-    (T-both (ltb e g) (climbs (g ∷ es)) (lt→ltb e g a.2.0) rest.0, rest.1)
+    (T_both (ltb e g) (climbs (g ∷ es)) (lt→ltb e g a.2.0) rest.0, rest.1)
 
-passes : (len : ℕ) (es : List ℕ) → Ascending 0 len es → T (climbs es) × T (lastBelow len es)
+passes : (len : ℕ) (es : List ℕ) → Ascending 0 len es → T (climbs es) × T (last_below len es)
 passes len [] a = (tt, tt)
 passes len (e ∷ es) a = climbing 0 len e es a
 
 -- runs that are apart fit: `apart` the other way
-pub fits : (b len : ℕ) (ns : List ℕ) → Apart b len ns → T (runsFit b len ns)
+pub fits : (b len : ℕ) (ns : List ℕ) → Apart b len ns → T (runs_fit b len ns)
 fits b len [] a = tt
 fits b len (first ∷ []) a = a
 fits b len (first ∷ past ∷ ns) a =
-    T-both (leb b first) _ (le→leb b first a.0)
-    (T-both (ltb first past) _ (lt→ltb first past a.1)
-    (T-both (leb past len) (runsFit (suc past) len ns) (le→leb past len a.2) (fits (suc past) len ns a.3)))
+    T_both (leb b first) _ (le→leb b first a.0)
+    (T_both (ltb first past) _ (lt→ltb first past a.1)
+    (T_both (leb past len) (runs_fit (suc past) len ns) (le→leb past len a.2) (fits (suc past) len ns a.3)))
 
 module _ (o : Operand) (out : List ℕ) (well : Accepted o) where
   abbrev rows : List Bool
@@ -62,111 +62,111 @@ module _ (o : Operand) (out : List ℕ) (well : Accepted o) where
   abbrev len : ℕ
   len = length_of o.form
 
-  fine : (needed : ℕ) → needed ≤ length out → first (convertChecks o needed (length out)) ≡ Fine
-  fine needed h = (convert-fine o needed (length out)).1 (well, h)
+  fine : (needed : ℕ) → needed ≤ length out → first (convert_checks o needed (length out)) ≡ Fine
+  fine needed h = (convert_fine o needed (length out)).1 (well, h)
 
-  module _ (room : wordsFor (length_of o.form) ≤ length out) where
-    to-words-out : toWordsOut o out ≡ written len rows out
-    unfolding toWordsOut
-    to-words-out = ap (λ (v : Verdict). ifFine v (written len rows out) out) (fine (wordsFor len) room)
+  module _ (room : words_for (length_of o.form) ≤ length out) where
+    to_words_out_lem : to_words_out o out ≡ written len rows out
+    unfolding to_words_out
+    to_words_out_lem = ap (λ (v : Verdict). if_fine v (written len rows out) out) (fine (words_for len) room)
 
     -- the words written, at start 0 with the same length and count, are an operand with the same rows
-    pub to-words-back : let back = lent (Words 0 (length_of o.form) (count_of o)) (toWordsOut o out) [] in Accepted back × (rows_of back ≡ rows_of o)
-    to-words-back =
+    pub to_words_back : let back = lent (Words 0 (length_of o.form) (count_of o)) (to_words_out o out) [] in Accepted back × (rows_of back ≡ rows_of o)
+    to_words_back =
         subst (λ (p : ℕ × List ℕ). let back = lent (Words 0 len p.0) p.1 [] in Accepted back × (rows_of back ≡ rows))
-        (λ i. (accepted-count o well i, sym to-words-out i))
-        (written_back len rows out (accepted-length o well) (accepted-limit o well) room)
+        (λ i. (accepted_count o well i, sym to_words_out_lem i))
+        (written_back len rows out (accepted_length o well) (accepted_limit o well) room)
 
     -- its rows bit by bit, their own count, route 0, their density, the tail and the later words
-    pub to-words-writes : Writes (length_of o.form) (row o) 0 (toWords o out) (toWordsOut o out) out
-    unfolding toWords toWordsOut
-    to-words-writes = writes (toWordsVerdict o out) (fine (wordsFor len) room) len rows 0 out (accepted-length o well) (row o) (λ i h. refl)
+    pub to_words_writes : Writes (length_of o.form) (row o) 0 (to_words o out) (to_words_out o out) out
+    unfolding to_words to_words_out
+    to_words_writes = writes (to_words_verdict o out) (fine (words_for len) room) len rows 0 out (accepted_length o well) (row o) (λ i h. refl)
 
   module _ (room : count_of o ≤ length out) where
-    size : length (setRows 0 rows) ≡ count_of o
-    size = rows-count 0 rows ∙ accepted-count o well
+    size : length (set_rows 0 rows) ≡ count_of o
+    size = rows_count 0 rows ∙ accepted_count o well
 
-    to-list-out : toListOut o out ≡ setRows 0 rows ++ drop (count_of o) out
-    unfolding toListOut
-    to-list-out = ap (λ (v : Verdict). ifFine v (setRows 0 rows ++ drop (count_of o) out) out) (fine (count_of o) room)
+    to_list_out_lem : to_list_out o out ≡ set_rows 0 rows ++ drop (count_of o) out
+    unfolding to_list_out
+    to_list_out_lem = ap (λ (v : Verdict). if_fine v (set_rows 0 rows ++ drop (count_of o) out) out) (fine (count_of o) room)
 
-    written-entries : take (count_of o) (toListOut o out) ≡ setRows 0 rows
-    written-entries = ap (take (count_of o)) to-list-out ∙ take_at (setRows 0 rows) (drop (count_of o) out) (count_of o) size
+    written_entries : take (count_of o) (to_list_out o out) ≡ set_rows 0 rows
+    written_entries = ap (take (count_of o)) to_list_out_lem ∙ take_at (set_rows 0 rows) (drop (count_of o) out) (count_of o) size
 
     -- the entries written, with the same length, are an operand with the same rows
-    pub to-list-back : let back = lent (Listed (length_of o.form)) [] (take (count_of o) (toListOut o out)) in Accepted back × (rows_of back ≡ rows_of o)
-    to-list-back =
-        let long = accepted-length o well in
-        let up : Ascending 0 len (setRows 0 rows) = rows-ascending 0 len rows (zero-add (length rows) ∙ long) in
-        rw (written-entries, ← long)
-        (let p = passes (length rows) (setRows 0 rows) (rw (← long) at up) in ((omega (arith, accepted-limit o well), (p.0, (p.1, tt))), listed-rows 0 (length rows) rows (zero-add (length rows))))
+    pub to_list_back : let back = lent (Listed (length_of o.form)) [] (take (count_of o) (to_list_out o out)) in Accepted back × (rows_of back ≡ rows_of o)
+    to_list_back =
+        let long = accepted_length o well in
+        let up : Ascending 0 len (set_rows 0 rows) = rows_ascending 0 len rows (zero-add (length rows) ∙ long) in
+        rw (written_entries, ← long)
+        (let p = passes (length rows) (set_rows 0 rows) (rw (← long) at up) in ((omega (arith, accepted_limit o well), (p.0, (p.1, tt))), listed_rows 0 (length rows) rows (zero-add (length rows))))
 
-    later-entries : drop (count_of o) (toListOut o out) ≡ drop (count_of o) out
-    later-entries = ap (drop (count_of o)) to-list-out ∙ drop_at (setRows 0 rows) (drop (count_of o) out) (count_of o) size
+    later_entries : drop (count_of o) (to_list_out o out) ≡ drop (count_of o) out
+    later_entries = ap (drop (count_of o)) to_list_out_lem ∙ drop_at (set_rows 0 rows) (drop (count_of o) out) (count_of o) size
 
     -- its set rows as entries, as many as it counts, route 0, the density and the later entries
-    pub to-list-lists : Lists (length_of o.form) (rows_of o) (to_list o out) (toListOut o out) out
+    pub to_list_lists : Lists (length_of o.form) (rows_of o) (to_list o out) (to_list_out o out) out
     unfolding to_list
-    to-list-lists =
+    to_list_lists =
         rw (fine (count_of o) room)
         (record {
           accepted = refl;
           counted = refl;
-          entries = ap (λ (n : ℕ). take n (toListOut o out)) (accepted-count o well) ∙ written-entries;
+          entries = ap (λ (n : ℕ). take n (to_list_out o out)) (accepted_count o well) ∙ written_entries;
           route = refl;
-          dense = ap (densityOf (count rows)) (accepted-length o well);
-          later = ap (λ (n : ℕ). drop n (toListOut o out)) (accepted-count o well) ∙ later-entries ∙ ap (λ (n : ℕ). drop n out) (sym (accepted-count o well));
+          dense = ap (density_of (count rows)) (accepted_length o well);
+          later = ap (λ (n : ℕ). drop n (to_list_out o out)) (accepted_count o well) ∙ later_entries ∙ ap (λ (n : ℕ). drop n out) (sym (accepted_count o well));
         })
 
-  module _ (room : runsIn (rows_of o) * 2 ≤ length out) where
-    told : (toRuns o out).runs ≡ runsIn rows
-    unfolding toRuns
-    told = ap (λ (v : Verdict). ifFine v (runsIn rows) 0) (fine (runsIn rows * 2) room)
+  module _ (room : runs_in (rows_of o) * 2 ≤ length out) where
+    told : (to_runs o out).runs ≡ runs_in rows
+    unfolding to_runs
+    told = ap (λ (v : Verdict). if_fine v (runs_in rows) 0) (fine (runs_in rows * 2) room)
 
-    to-runs-out : toRunsOut o out ≡ runsOf rows ++ drop (runsIn rows * 2) out
-    unfolding toRunsOut
-    to-runs-out = ap (λ (v : Verdict). ifFine v (runsOf rows ++ drop (runsIn rows * 2) out) out) (fine (runsIn rows * 2) room)
+    to_runs_out_lem : to_runs_out o out ≡ runs_of rows ++ drop (runs_in rows * 2) out
+    unfolding to_runs_out
+    to_runs_out_lem = ap (λ (v : Verdict). if_fine v (runs_of rows ++ drop (runs_in rows * 2) out) out) (fine (runs_in rows * 2) room)
 
-    written-runs : take ((toRuns o out).runs * 2) (toRunsOut o out) ≡ runsOf rows
-    written-runs =
-        ap (λ (n : ℕ). take (n * 2) (toRunsOut o out)) told
-        ∙ ap (take (runsIn rows * 2)) to-runs-out
-        ∙ take_at (runsOf rows) (drop (runsIn rows * 2) out) (runsIn rows * 2) (runs-even rows)
+    written_runs : take ((to_runs o out).runs * 2) (to_runs_out o out) ≡ runs_of rows
+    written_runs =
+        ap (λ (n : ℕ). take (n * 2) (to_runs_out o out)) told
+        ∙ ap (take (runs_in rows * 2)) to_runs_out_lem
+        ∙ take_at (runs_of rows) (drop (runs_in rows * 2) out) (runs_in rows * 2) (runs_even rows)
 
     -- the numbers written, with the same length, are an operand with the same rows
-    pub to-runs-back : let back = lent (Runs (length_of o.form)) [] (take ((toRuns o out).runs * 2) (toRunsOut o out)) in
+    pub to_runs_back : let back = lent (Runs (length_of o.form)) [] (take ((to_runs o out).runs * 2) (to_runs_out o out)) in
         Accepted back × (rows_of back ≡ rows_of o)
-    to-runs-back =
-        let long = accepted-length o well in
-        rw (written-runs, ← long)
-        ((omega (arith, accepted-limit o well), (fits 0 (length rows) (runsOf rows) (runs-apart rows), tt)), rows_back rows)
+    to_runs_back =
+        let long = accepted_length o well in
+        rw (written_runs, ← long)
+        ((omega (arith, accepted_limit o well), (fits 0 (length rows) (runs_of rows) (runs_apart rows), tt)), rows_back rows)
 
     -- and no other numbers are: runs that are accepted and have these rows are, number by number, those written
-    pub to-runs-only : (ns : List ℕ) → Accepted (lent (Runs (length_of o.form)) [] ns) → rows_of (lent (Runs (length_of o.form)) [] ns) ≡ rows_of o
-        → ns ≡ take ((toRuns o out).runs * 2) (toRunsOut o out)
-    to-runs-only ns met same = sym (runs-back len ns (apart 0 len ns met.1.0)) ∙ ap runsOf same ∙ sym written-runs
+    pub to_runs_only : (ns : List ℕ) → Accepted (lent (Runs (length_of o.form)) [] ns) → rows_of (lent (Runs (length_of o.form)) [] ns) ≡ rows_of o
+        → ns ≡ take ((to_runs o out).runs * 2) (to_runs_out o out)
+    to_runs_only ns met same = sym (runs_back len ns (apart 0 len ns met.1.0)) ∙ ap runs_of same ∙ sym written_runs
 
     -- later numbers stay
-    pub to-runs-later : drop ((toRuns o out).runs * 2) (toRunsOut o out) ≡ drop ((toRuns o out).runs * 2) out
-    to-runs-later =
-        ap (λ (n : ℕ). drop (n * 2) (toRunsOut o out)) told
-        ∙ ap (drop (runsIn rows * 2)) to-runs-out
-        ∙ drop_at (runsOf rows) (drop (runsIn rows * 2) out) (runsIn rows * 2) (runs-even rows)
+    pub to_runs_later : drop ((to_runs o out).runs * 2) (to_runs_out o out) ≡ drop ((to_runs o out).runs * 2) out
+    to_runs_later =
+        ap (λ (n : ℕ). drop (n * 2) (to_runs_out o out)) told
+        ∙ ap (drop (runs_in rows * 2)) to_runs_out_lem
+        ∙ drop_at (runs_of rows) (drop (runs_in rows * 2) out) (runs_in rows * 2) (runs_even rows)
         ∙ ap (λ (n : ℕ). drop (n * 2) out) (sym told)
 
-    answer-told : (toRuns o out).answer ≡ accepted (count rows) 0 (length rows)
-    unfolding toRuns
-    answer-told = ap (λ (v : Verdict). answered v rows 0) (fine (runsIn rows * 2) room)
+    answer_told_lem : (to_runs o out).answer ≡ accepted (count rows) 0 (length rows)
+    unfolding to_runs
+    answer_told_lem = ap (λ (v : Verdict). answered v rows 0) (fine (runs_in rows * 2) room)
 
     -- its runs as numbers, how many they are, its own count, route 0, the density and the later numbers
-    pub to-runs-writes : WritesRuns (length_of o.form) (rows_of o) (toRuns o out) (toRunsOut o out) out
-    to-runs-writes =
+    pub to_runs_writes : WritesRuns (length_of o.form) (rows_of o) (to_runs o out) (to_runs_out o out) out
+    to_runs_writes =
         record {
-          accepted = ap (λ (a : Answer). a.refusal) answer-told;
-          counted = ap (λ (a : Answer). a.summary.count) answer-told;
+          accepted = ap (λ (a : Answer). a.refusal) answer_told_lem;
+          counted = ap (λ (a : Answer). a.summary.count) answer_told_lem;
           many = told;
-          numbers = written-runs;
-          route = ap (λ (a : Answer). a.summary.route) answer-told;
-          dense = rw answer-told (ap (densityOf (count rows)) (accepted-length o well));
-          later = to-runs-later;
+          numbers = written_runs;
+          route = ap (λ (a : Answer). a.summary.route) answer_told_lem;
+          dense = rw answer_told_lem (ap (density_of (count rows)) (accepted_length o well));
+          later = to_runs_later;
         }

@@ -6,7 +6,7 @@ use mathlib.Core.Path.{◌≡◌, refl}
 use mathlib.Core.List.{List, [], ◌∷◌}
 use Rattle.rules.specs.declared.Form.TheVariants.{All, None, Words, List as Listed, Runs}
 use Rattle.rules.specs.Operand.{Operand, lent}
-use Rattle.rules.specs.Route.{routeOf, number_of, published, routeBy}
+use Rattle.rules.specs.Route.{route_of, number_of, published, route_by}
 
 -- self, the rank mask, and the route. No words are lent: they decide no route
 pub data Line : Type 0 where
@@ -14,7 +14,7 @@ pub data Line : Type 0 where
 
 abbrev pub Lines : List Line → Type 0
 Lines [] = Unit {0}
-Lines (takes s r n ∷ ls) = (number_of (routeOf published s r) ≡ n) × Lines ls
+Lines (takes s r n ∷ ls) = (number_of (route_of published s r) ≡ n) × Lines ls
 
 abbrev pub table : List Line
 table =
@@ -47,5 +47,5 @@ table =
     ∷ []
 
 pub routes : Lines table
-unfolding routeBy
+unfolding route_by
 routes = (refl, (refl, (refl, (refl, (refl, (refl, (refl, (refl, (refl, (refl, (refl, (refl, (refl, (refl, (refl, (refl, (refl, (refl, (refl, (refl, (refl, (refl, (refl, (refl, (refl, (refl, tt))))))))))))))))))))))))))

@@ -7,14 +7,14 @@ use Rattle.rules.specs.declared.Route.{Route}
 use Rattle.rules.specs.declared.Route.TheVariants.{RankMask, SelfMask, NoRows, EntryAtRank, EntryIfSet, MaskDriven, Gathered, Read}
 use Rattle.rules.specs.Route.{number_of}
 
-pub route-small : (r : Route) → number_of r ≤ 10
-route-small RankMask = omega arith
-route-small SelfMask = omega arith
-route-small NoRows = omega arith
-route-small EntryAtRank = omega arith
-route-small EntryIfSet = omega arith
-route-small MaskDriven = omega arith
-route-small (Gathered Network) = omega arith
-route-small (Gathered Loop) = omega arith
-route-small (Read Network) = omega arith
-route-small (Read Loop) = omega arith
+pub route_small : (r : Route) → number_of r ≤ 10
+route_small RankMask = omega arith
+route_small SelfMask = omega arith
+route_small NoRows = omega arith
+route_small EntryAtRank = omega arith
+route_small EntryIfSet = omega arith
+route_small MaskDriven = omega arith
+route_small (Gathered Network) = omega arith
+route_small (Gathered Loop) = omega arith
+route_small (Read Network) = omega arith
+route_small (Read Loop) = omega arith

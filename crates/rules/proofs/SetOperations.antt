@@ -14,53 +14,53 @@ use lib.ListN.{length, get_or, length-map}
 use Rattle.rows.specs.declared.Refusal.{Refusal}
 use Rattle.rows.specs.declared.Verdict.TheVariants.{Fine, Refused}
 use Rattle.rows.specs.Word.{both}
-use Rattle.rows.specs.Laid.{wordsFor}
-use Rattle.rows.specs.Table.{Line, First, Met, Numbered, first, inOrder, need, refusal}
-use Rattle.rows.proofs.TableLaws.{same-refusal, fine-exactly, parts-met, none-met, parts-refuses, line-refuses, then-refuses, parts-numbered, none-numbered}
-use Rattle.rows.proofs.BothLaws.{both-length, both_at}
-use Rattle.rules.specs.Operand.{Operand, rows_of, length_of, countsAsList, setChecks, Accepted}
-use Rattle.rules.specs.SetOps.{andNot, pairChecks, notChecks, combined, combinedOut, negated, negatedOut}
-use Rattle.rules.proofs.OperandLaws.{accepted-as, accepted-length}
-use Rattle.rules.proofs.AnswerLaws.{Bare, answer-refuses, answer-accepts, nothing-done}
+use Rattle.rows.specs.Laid.{words_for}
+use Rattle.rows.specs.Table.{Line, First, Met, Numbered, first, in_order, need, refusal}
+use Rattle.rows.proofs.TableLaws.{same_refusal, fine_exactly, parts_met, none_met, parts_refuses, line_refuses, then_refuses, parts_numbered, none_numbered}
+use Rattle.rows.proofs.BothLaws.{both_length, both_at}
+use Rattle.rules.specs.Operand.{Operand, rows_of, length_of, counts_as_list, set_checks, Accepted}
+use Rattle.rules.specs.SetOps.{and_not, pair_checks, not_checks, combined, combined_out, negated, negated_out}
+use Rattle.rules.proofs.OperandLaws.{accepted_as, accepted_length}
+use Rattle.rules.proofs.AnswerLaws.{Bare, answer_refuses, answer_accepts, nothing_done}
 use Rattle.rules.proofs.Writes.{bit_at, row, Writes, writes, in_both, in_either}
-use Rattle.rules.proofs.Operands.{Wrong, operand-refuses, operand-numbered}
+use Rattle.rules.proofs.Operands.{Wrong, operand_refuses, operand_numbered}
 
 -- an operand that a set operation takes: no list, and accepted
 abbrev pub Taken : Operand → Type 0
-Taken o = (countsAsList o.form ≡ false) × Accepted o
+Taken o = (counts_as_list o.form ≡ false) × Accepted o
 
-no-list : (b : Bool) → T (not b) ↔ (b ≡ false)
-no-list true = (λ t. absurd t, λ e. absurd (false≢true (sym e)))
-no-list false = (λ t. refl, λ e. tt)
+no_list : (b : Bool) → T (not b) ↔ (b ≡ false)
+no_list true = (λ t. absurd t, λ e. absurd (false≢true (sym e)))
+no_list false = (λ t. refl, λ e. tt)
 
-pub taken_as : (k : ℕ) (o : Operand) → Met (setChecks k o) ↔ Taken o
+pub taken_as : (k : ℕ) (o : Operand) → Met (set_checks k o) ↔ Taken o
 taken_as k o =
-    let l = no-list (countsAsList o.form) in
-    let a = accepted-as k o in
+    let l = no_list (counts_as_list o.form) in
+    let a = accepted_as k o in
     (λ m. (l.0 m.0, a.0 m.1), λ t. (l.1 t.0, a.1 t.1))
 
 -- ---- demand 1: which refusal is told of operand k. A list is 12, before all else
 
 abbrev pub SetWrong : ℕ → Operand → Refusal → Type 0
-SetWrong k o x = ((x ≡ refusal 12 k) × (countsAsList o.form ≡ true)) ⊎ ((countsAsList o.form ≡ false) × Wrong k o x)
+SetWrong k o x = ((x ≡ refusal 12 k) × (counts_as_list o.form ≡ true)) ⊎ ((counts_as_list o.form ≡ false) × Wrong k o x)
 
-is-list : (b : Bool) → (¬ T (not b)) ↔ (b ≡ true)
-is-list true = (λ h. refl, λ e t. t)
-is-list false = (λ h. absurd (h tt), λ e. absurd (false≢true e))
+is_list : (b : Bool) → (¬ T (not b)) ↔ (b ≡ true)
+is_list true = (λ h. refl, λ e t. t)
+is_list false = (λ h. absurd (h tt), λ e. absurd (false≢true e))
 
-pub set-refuses : (k : ℕ) (o : Operand) (x : Refusal) → First (setChecks k o) (Refused x) ↔ SetWrong k o x
-set-refuses k o x = (to, from)
+pub set_refuses : (k : ℕ) (o : Operand) (x : Refusal) → First (set_checks k o) (Refused x) ↔ SetWrong k o x
+set_refuses k o x = (to, from)
   where
-    to : First (setChecks k o) (Refused x) → SetWrong k o x
-    to (inr (a, e)) = inl (same-refusal e, (is-list (countsAsList o.form)).0 a)
-    to (inl (a, h)) = inr ((no-list (countsAsList o.form)).0 a, (operand-refuses k o x).0 h)
+    to : First (set_checks k o) (Refused x) → SetWrong k o x
+    to (inr (a, e)) = inl (same_refusal e, (is_list (counts_as_list o.form)).0 a)
+    to (inl (a, h)) = inr ((no_list (counts_as_list o.form)).0 a, (operand_refuses k o x).0 h)
 
-    from : SetWrong k o x → First (setChecks k o) (Refused x)
-    from (inl (e, l)) = inr ((is-list (countsAsList o.form)).1 l, ap Refused e)
-    from (inr (l, w)) = inl ((no-list (countsAsList o.form)).1 l, (operand-refuses k o x).1 w)
+    from : SetWrong k o x → First (set_checks k o) (Refused x)
+    from (inl (e, l)) = inr ((is_list (counts_as_list o.form)).1 l, ap Refused e)
+    from (inr (l, w)) = inl ((no_list (counts_as_list o.form)).1 l, (operand_refuses k o x).1 w)
 
-set-numbered : (k : ℕ) (o : Operand) → Numbered (setChecks k o)
-set-numbered k o = (omega arith, operand-numbered k o)
+set_numbered : (k : ℕ) (o : Operand) → Numbered (set_checks k o)
+set_numbered k o = (omega arith, operand_numbered k o)
 
 -- ---- demand 2: the operations on a row; route 0 is told
 
@@ -68,9 +68,9 @@ not_in : (x : Bool) → (not x ≡ true) ↔ (x ≡ false)
 not_in true = (λ e. absurd (false≢true e), λ e. sym e)
 not_in false = (λ e. refl, λ e. refl)
 
-in-first : (x y : Bool) → (andNot x y ≡ true) ↔ ((x ≡ true) × (y ≡ false))
-in-first true y = (λ e. (refl, (not_in y).0 e), λ p. (not_in y).1 p.1)
-in-first false y = (λ e. absurd (false≢true e), λ p. p.0)
+in_first : (x y : Bool) → (and_not x y ≡ true) ↔ ((x ≡ true) × (y ≡ false))
+in_first true y = (λ e. (refl, (not_in y).0 e), λ p. (not_in y).1 p.1)
+in_first false y = (λ e. absurd (false≢true e), λ p. p.0)
 
 not_at : (xs : List Bool) (i : ℕ) → i < length xs → get_or (map not xs) i false ≡ not (get_or xs i false)
 not_at [] i h = absurd (omega arith)
@@ -85,108 +85,108 @@ module _ (a b : Operand) where
       SetWrong 1 a x
       ⊎ (Taken a × SetWrong 2 b x)
       ⊎ ((x ≡ refusal 7 0) × Taken a × Taken b × (length_of a.form ≢ length_of b.form))
-      ⊎ ((x ≡ refusal 8 0) × Taken a × Taken b × (length_of a.form ≡ length_of b.form) × (room < wordsFor (length_of a.form)))
+      ⊎ ((x ≡ refusal 8 0) × Taken a × Taken b × (length_of a.form ≡ length_of b.form) × (room < words_for (length_of a.form)))
 
   abbrev pub Accepts : ℕ → Type 0
-  Accepts room = Taken a × Taken b × (length_of a.form ≡ length_of b.form) × (wordsFor (length_of a.form) ≤ room)
+  Accepts room = Taken a × Taken b × (length_of a.form ≡ length_of b.form) × (words_for (length_of a.form) ≤ room)
 
   abbrev seven : List Line
   seven = need (ℕ_discrete (length_of a.form) (length_of b.form)) 7 0 ∷ []
 
   abbrev eight : ℕ → List Line
-  eight room = need (dec_le (wordsFor (length_of a.form)) room) 8 0 ∷ []
+  eight room = need (dec_le (words_for (length_of a.form)) room) 8 0 ∷ []
 
-  pair-refuses : (room : ℕ) (x : Refusal) → First (pairChecks a b room) (Refused x) ↔ Refuses room x
-  pair-refuses room x = (λ h. one (first_part.0 h), λ w. first_part.1 (from w))
+  pair_refuses : (room : ℕ) (x : Refusal) → First (pair_checks a b room) (Refused x) ↔ Refuses room x
+  pair_refuses room x = (λ h. one (first_part.0 h), λ w. first_part.1 (from w))
     where
-      first_part : First (pairChecks a b room) (Refused x) ↔ (First (setChecks 1 a) (Refused x) ⊎ (Met (setChecks 1 a) × First (inOrder (setChecks 2 b ∷ seven ∷ eight room ∷ [])) (Refused x)))
-      first_part = parts-refuses (setChecks 1 a) (setChecks 2 b ∷ seven ∷ eight room ∷ []) x
+      first_part : First (pair_checks a b room) (Refused x) ↔ (First (set_checks 1 a) (Refused x) ⊎ (Met (set_checks 1 a) × First (in_order (set_checks 2 b ∷ seven ∷ eight room ∷ [])) (Refused x)))
+      first_part = parts_refuses (set_checks 1 a) (set_checks 2 b ∷ seven ∷ eight room ∷ []) x
 
-      second-part : First (inOrder (setChecks 2 b ∷ seven ∷ eight room ∷ [])) (Refused x) ↔ (First (setChecks 2 b) (Refused x) ⊎ (Met (setChecks 2 b) × First (inOrder (seven ∷ eight room ∷ [])) (Refused x)))
-      second-part = parts-refuses (setChecks 2 b) (seven ∷ eight room ∷ []) x
+      second_part_lem : First (in_order (set_checks 2 b ∷ seven ∷ eight room ∷ [])) (Refused x) ↔ (First (set_checks 2 b) (Refused x) ⊎ (Met (set_checks 2 b) × First (in_order (seven ∷ eight room ∷ [])) (Refused x)))
+      second_part_lem = parts_refuses (set_checks 2 b) (seven ∷ eight room ∷ []) x
 
-      lines : First (inOrder (seven ∷ eight room ∷ [])) (Refused x) ↔ (First seven (Refused x) ⊎ (Met seven × (x ≡ refusal 8 0) × (¬ (wordsFor (length_of a.form) ≤ room))))
-      lines = then-refuses seven (dec_le (wordsFor (length_of a.form)) room) 8 0 x
+      lines : First (in_order (seven ∷ eight room ∷ [])) (Refused x) ↔ (First seven (Refused x) ⊎ (Met seven × (x ≡ refusal 8 0) × (¬ (words_for (length_of a.form) ≤ room))))
+      lines = then_refuses seven (dec_le (words_for (length_of a.form)) room) 8 0 x
 
       lengths : First seven (Refused x) ↔ ((x ≡ refusal 7 0) × (length_of a.form ≢ length_of b.form))
-      lengths = line-refuses (ℕ_discrete (length_of a.form) (length_of b.form)) 7 0 x
+      lengths = line_refuses (ℕ_discrete (length_of a.form) (length_of b.form)) 7 0 x
 
-      three : Taken a → Taken b → First seven (Refused x) ⊎ (Met seven × (x ≡ refusal 8 0) × (¬ (wordsFor (length_of a.form) ≤ room))) → Refuses room x
+      three : Taken a → Taken b → First seven (Refused x) ⊎ (Met seven × (x ≡ refusal 8 0) × (¬ (words_for (length_of a.form) ≤ room))) → Refuses room x
       three t u (inl h) = let w = lengths.0 h in inr (inr (inl (w.0, t, u, w.1)))
       three t u (inr (m, e, l)) = inr (inr (inr (e, t, u, m.0, omega arith)))
 
-      two : Taken a → First (setChecks 2 b) (Refused x) ⊎ (Met (setChecks 2 b) × First (inOrder (seven ∷ eight room ∷ [])) (Refused x)) → Refuses room x
-      two t (inl h) = inr (inl (t, (set-refuses 2 b x).0 h))
+      two : Taken a → First (set_checks 2 b) (Refused x) ⊎ (Met (set_checks 2 b) × First (in_order (seven ∷ eight room ∷ [])) (Refused x)) → Refuses room x
+      two t (inl h) = inr (inl (t, (set_refuses 2 b x).0 h))
       two t (inr (m, h)) = three t ((taken_as 2 b).0 m) (lines.0 h)
 
-      one : First (setChecks 1 a) (Refused x) ⊎ (Met (setChecks 1 a) × First (inOrder (setChecks 2 b ∷ seven ∷ eight room ∷ [])) (Refused x)) → Refuses room x
-      one (inl h) = inl ((set-refuses 1 a x).0 h)
-      one (inr (m, h)) = two ((taken_as 1 a).0 m) (second-part.0 h)
+      one : First (set_checks 1 a) (Refused x) ⊎ (Met (set_checks 1 a) × First (in_order (set_checks 2 b ∷ seven ∷ eight room ∷ [])) (Refused x)) → Refuses room x
+      one (inl h) = inl ((set_refuses 1 a x).0 h)
+      one (inr (m, h)) = two ((taken_as 1 a).0 m) (second_part_lem.0 h)
 
-      from : Refuses room x → First (setChecks 1 a) (Refused x) ⊎ (Met (setChecks 1 a) × First (inOrder (setChecks 2 b ∷ seven ∷ eight room ∷ [])) (Refused x))
-      from (inl w) = inl ((set-refuses 1 a x).1 w)
-      from (inr (inl (t, w))) = inr ((taken_as 1 a).1 t, second-part.1 (inl ((set-refuses 2 b x).1 w)))
-      from (inr (inr (inl (e, t, u, h)))) = inr ((taken_as 1 a).1 t, second-part.1 (inr ((taken_as 2 b).1 u, lines.1 (inl (lengths.1 (e, h))))))
-      from (inr (inr (inr (e, t, u, h, l)))) = inr ((taken_as 1 a).1 t, second-part.1 (inr ((taken_as 2 b).1 u, lines.1 (inr ((h, tt), e, λ y. omega arith)))))
+      from : Refuses room x → First (set_checks 1 a) (Refused x) ⊎ (Met (set_checks 1 a) × First (in_order (set_checks 2 b ∷ seven ∷ eight room ∷ [])) (Refused x))
+      from (inl w) = inl ((set_refuses 1 a x).1 w)
+      from (inr (inl (t, w))) = inr ((taken_as 1 a).1 t, second_part_lem.1 (inl ((set_refuses 2 b x).1 w)))
+      from (inr (inr (inl (e, t, u, h)))) = inr ((taken_as 1 a).1 t, second_part_lem.1 (inr ((taken_as 2 b).1 u, lines.1 (inl (lengths.1 (e, h))))))
+      from (inr (inr (inr (e, t, u, h, l)))) = inr ((taken_as 1 a).1 t, second_part_lem.1 (inr ((taken_as 2 b).1 u, lines.1 (inr ((h, tt), e, λ y. omega arith)))))
 
   module _ (g : Bool → Bool → Bool) (out : List ℕ) where
     -- each refusal, its number and its operand, exactly when
-    pub combined-refuses : (x : Refusal) → zero < x.number → ((combined g a b out).refusal ≡ x) ↔ Refuses (length out) x
+    pub combined_refuses : (x : Refusal) → zero < x.number → ((combined g a b out).refusal ≡ x) ↔ Refuses (length out) x
     unfolding combined
-    combined-refuses x p =
-        let t = answer-refuses (pairChecks a b (length out)) _ _ x p in
-        (λ e. (pair-refuses (length out) x).0 (t.0 e), λ w. t.1 ((pair-refuses (length out) x).1 w))
+    combined_refuses x p =
+        let t = answer_refuses (pair_checks a b (length out)) _ _ x p in
+        (λ e. (pair_refuses (length out) x).0 (t.0 e), λ w. t.1 ((pair_refuses (length out) x).1 w))
 
-  pair-numbered : (room : ℕ) → Numbered (pairChecks a b room)
-  pair-numbered room =
-      parts-numbered _ _ (set-numbered 1 a)
-      (parts-numbered _ _ (set-numbered 2 b)
-      (parts-numbered _ _ (omega arith, tt) (parts-numbered _ _ (omega arith, tt) none-numbered)))
+  pair_numbered : (room : ℕ) → Numbered (pair_checks a b room)
+  pair_numbered room =
+      parts_numbered _ _ (set_numbered 1 a)
+      (parts_numbered _ _ (set_numbered 2 b)
+      (parts_numbered _ _ (omega arith, tt) (parts_numbered _ _ (omega arith, tt) none_numbered)))
 
   -- the needs part by part; `search` finds each where it stands, so that the order is the theorem's alone to say
-  pair-met : (room : ℕ) → Met (pairChecks a b room) ↔ Accepts room
-  pair-met room = (to, from)
+  pair_met : (room : ℕ) → Met (pair_checks a b room) ↔ Accepts room
+  pair_met room = (to, from)
     where
-      to : Met (pairChecks a b room) → Accepts room
+      to : Met (pair_checks a b room) → Accepts room
       to m =
-          let p = (parts-met _ _).0 m in
-          let q = (parts-met _ _).0 p.1 in
-          let r = (parts-met _ _).0 q.1 in
-          let s = (parts-met _ _).0 r.1 in
+          let p = (parts_met _ _).0 m in
+          let q = (parts_met _ _).0 p.1 in
+          let r = (parts_met _ _).0 q.1 in
+          let s = (parts_met _ _).0 r.1 in
           let ta = (taken_as 1 a).0 in
           let tb = (taken_as 2 b).0 in
           (ta (search), tb (search), search, search)
 
-      from : Accepts room → Met (pairChecks a b room)
+      from : Accepts room → Met (pair_checks a b room)
       from t =
           let ma = (taken_as 1 a).1 t.0 in
           let mb = (taken_as 2 b).1 t.1 in
-          (parts-met _ _).1 (search, (parts-met _ _).1 (search, (parts-met _ _).1 (search, (parts-met _ _).1 (search, none-met))))
+          (parts_met _ _).1 (search, (parts_met _ _).1 (search, (parts_met _ _).1 (search, (parts_met _ _).1 (search, none_met))))
 
-  pub pair-fine : (room : ℕ) → (first (pairChecks a b room) ≡ Fine) ↔ Accepts room
-  pair-fine room = (λ e. (pair-met room).0 ((fine-exactly (pairChecks a b room)).0 e), λ t. (fine-exactly (pairChecks a b room)).1 ((pair-met room).1 t))
+  pub pair_fine : (room : ℕ) → (first (pair_checks a b room) ≡ Fine) ↔ Accepts room
+  pair_fine room = (λ e. (pair_met room).0 ((fine_exactly (pair_checks a b room)).0 e), λ t. (fine_exactly (pair_checks a b room)).1 ((pair_met room).1 t))
 
   module _ (g : Bool → Bool → Bool) (out : List ℕ) where
     -- and number 0, accepted, exactly otherwise
-    pub combined-accepts : ((combined g a b out).refusal.number ≡ 0) ↔ Accepts (length out)
+    pub combined_accepts : ((combined g a b out).refusal.number ≡ 0) ↔ Accepts (length out)
     unfolding combined
-    combined-accepts =
-        let t = answer-accepts (pairChecks a b (length out)) _ _ (pair-numbered (length out)) in
-        (λ e. (pair-met (length out)).0 (t.0 e), λ w. t.1 ((pair-met (length out)).1 w))
+    combined_accepts =
+        let t = answer_accepts (pair_checks a b (length out)) _ _ (pair_numbered (length out)) in
+        (λ e. (pair_met (length out)).0 (t.0 e), λ w. t.1 ((pair_met (length out)).1 w))
 
     -- a refusal changes nothing, and reports count 0, route 0 and density 0.0
-    pub combined-refused : (combined g a b out).refusal.number ≢ 0 → (combinedOut g a b out ≡ out) × Bare (combined g a b out)
-    unfolding combined combinedOut
-    combined-refused = nothing-done (first (pairChecks a b (length out))) _ _ _ out
+    pub combined_refused : (combined g a b out).refusal.number ≢ 0 → (combined_out g a b out ≡ out) × Bare (combined g a b out)
+    unfolding combined combined_out
+    combined_refused = nothing_done (first (pair_checks a b (length out))) _ _ _ out
 
     -- g is what the operation does to a row of each
-    pub combined-writes : Accepts (length out) → Writes (length_of a.form) (λ i. g (row a i) (row b i)) 0 (combined g a b out) (combinedOut g a b out) out
-    unfolding combined combinedOut
-    combined-writes t =
-        let la = accepted-length a t.0.1 in
-        let even : length (rows_of a) ≡ length (rows_of b) = la ∙ t.2 ∙ sym (accepted-length b t.1.1) in
-        writes (first (pairChecks a b (length out))) ((pair-fine (length out)).1 t) (length_of a.form) (both g (rows_of a) (rows_of b)) 0 out
-        (both-length g (rows_of a) (rows_of b) even ∙ la) _ (λ i h. both_at g (rows_of a) (rows_of b) even i (omega arith))
+    pub combined_writes : Accepts (length out) → Writes (length_of a.form) (λ i. g (row a i) (row b i)) 0 (combined g a b out) (combined_out g a b out) out
+    unfolding combined combined_out
+    combined_writes t =
+        let la = accepted_length a t.0.1 in
+        let even : length (rows_of a) ≡ length (rows_of b) = la ∙ t.2 ∙ sym (accepted_length b t.1.1) in
+        writes (first (pair_checks a b (length out))) ((pair_fine (length out)).1 t) (length_of a.form) (both g (rows_of a) (rows_of b)) 0 out
+        (both_length g (rows_of a) (rows_of b) even ∙ la) _ (λ i h. both_at g (rows_of a) (rows_of b) even i (omega arith))
 
 -- ---- not: the one operand's refusal, then 8
 
@@ -194,72 +194,72 @@ module _ (a : Operand) where
   abbrev pub NotRefuses : ℕ → Refusal → Type 0
   NotRefuses room x =
       SetWrong 1 a x
-      ⊎ ((x ≡ refusal 8 0) × Taken a × (room < wordsFor (length_of a.form)))
+      ⊎ ((x ≡ refusal 8 0) × Taken a × (room < words_for (length_of a.form)))
 
   abbrev pub NotAccepts : ℕ → Type 0
-  NotAccepts room = Taken a × (wordsFor (length_of a.form) ≤ room)
+  NotAccepts room = Taken a × (words_for (length_of a.form) ≤ room)
 
-  one-refuses : (room : ℕ) (x : Refusal) → First (notChecks a room) (Refused x) ↔ NotRefuses room x
-  one-refuses room x =
-      let t = then-refuses (setChecks 1 a) (dec_le (wordsFor (length_of a.form)) room) 8 0 x in
+  one_refuses : (room : ℕ) (x : Refusal) → First (not_checks a room) (Refused x) ↔ NotRefuses room x
+  one_refuses room x =
+      let t = then_refuses (set_checks 1 a) (dec_le (words_for (length_of a.form)) room) 8 0 x in
       (λ h. to (t.0 h), λ w. t.1 (from w))
     where
-      to : First (setChecks 1 a) (Refused x) ⊎ (Met (setChecks 1 a) × (x ≡ refusal 8 0) × (¬ (wordsFor (length_of a.form) ≤ room))) → NotRefuses room x
-      to (inl h) = inl ((set-refuses 1 a x).0 h)
+      to : First (set_checks 1 a) (Refused x) ⊎ (Met (set_checks 1 a) × (x ≡ refusal 8 0) × (¬ (words_for (length_of a.form) ≤ room))) → NotRefuses room x
+      to (inl h) = inl ((set_refuses 1 a x).0 h)
       to (inr (m, e, l)) = inr (e, (taken_as 1 a).0 m, omega arith)
 
-      from : NotRefuses room x → First (setChecks 1 a) (Refused x) ⊎ (Met (setChecks 1 a) × (x ≡ refusal 8 0) × (¬ (wordsFor (length_of a.form) ≤ room)))
-      from (inl w) = inl ((set-refuses 1 a x).1 w)
+      from : NotRefuses room x → First (set_checks 1 a) (Refused x) ⊎ (Met (set_checks 1 a) × (x ≡ refusal 8 0) × (¬ (words_for (length_of a.form) ≤ room)))
+      from (inl w) = inl ((set_refuses 1 a x).1 w)
       from (inr (e, t, l)) = inr ((taken_as 1 a).1 t, e, λ h. omega arith)
 
   module _ (out : List ℕ) where
-    pub not-refuses : (x : Refusal) → zero < x.number → ((negated a out).refusal ≡ x) ↔ NotRefuses (length out) x
+    pub not_refuses : (x : Refusal) → zero < x.number → ((negated a out).refusal ≡ x) ↔ NotRefuses (length out) x
     unfolding negated
-    not-refuses x p =
-        let t = answer-refuses (notChecks a (length out)) _ _ x p in
-        (λ e. (one-refuses (length out) x).0 (t.0 e), λ w. t.1 ((one-refuses (length out) x).1 w))
+    not_refuses x p =
+        let t = answer_refuses (not_checks a (length out)) _ _ x p in
+        (λ e. (one_refuses (length out) x).0 (t.0 e), λ w. t.1 ((one_refuses (length out) x).1 w))
 
-  one-numbered : (room : ℕ) → Numbered (notChecks a room)
-  one-numbered room = parts-numbered _ _ (set-numbered 1 a) (parts-numbered _ _ (omega arith, tt) none-numbered)
+  one_numbered : (room : ℕ) → Numbered (not_checks a room)
+  one_numbered room = parts_numbered _ _ (set_numbered 1 a) (parts_numbered _ _ (omega arith, tt) none_numbered)
 
-  one-met : (room : ℕ) → Met (notChecks a room) ↔ NotAccepts room
-  one-met room = (
-    λ m. (let p = (parts-met _ _).0 m in ((taken_as 1 a).0 p.0, ((parts-met _ _).0 p.1).0.0)),
-    λ t. (parts-met _ _).1 ((taken_as 1 a).1 t.0, (parts-met _ _).1 ((t.1, tt), none-met)),
+  one_met : (room : ℕ) → Met (not_checks a room) ↔ NotAccepts room
+  one_met room = (
+    λ m. (let p = (parts_met _ _).0 m in ((taken_as 1 a).0 p.0, ((parts_met _ _).0 p.1).0.0)),
+    λ t. (parts_met _ _).1 ((taken_as 1 a).1 t.0, (parts_met _ _).1 ((t.1, tt), none_met)),
   )
 
-  pub one-fine : (room : ℕ) → (first (notChecks a room) ≡ Fine) ↔ NotAccepts room
-  one-fine room = (λ e. (one-met room).0 ((fine-exactly (notChecks a room)).0 e), λ t. (fine-exactly (notChecks a room)).1 ((one-met room).1 t))
+  pub one_fine : (room : ℕ) → (first (not_checks a room) ≡ Fine) ↔ NotAccepts room
+  one_fine room = (λ e. (one_met room).0 ((fine_exactly (not_checks a room)).0 e), λ t. (fine_exactly (not_checks a room)).1 ((one_met room).1 t))
 
   module _ (out : List ℕ) where
-    pub not-accepts : ((negated a out).refusal.number ≡ 0) ↔ NotAccepts (length out)
+    pub not_accepts : ((negated a out).refusal.number ≡ 0) ↔ NotAccepts (length out)
     unfolding negated
-    not-accepts =
-        let t = answer-accepts (notChecks a (length out)) _ _ (one-numbered (length out)) in
-        (λ e. (one-met (length out)).0 (t.0 e), λ w. t.1 ((one-met (length out)).1 w))
+    not_accepts =
+        let t = answer_accepts (not_checks a (length out)) _ _ (one_numbered (length out)) in
+        (λ e. (one_met (length out)).0 (t.0 e), λ w. t.1 ((one_met (length out)).1 w))
 
-    pub not-refused : (negated a out).refusal.number ≢ 0 → (negatedOut a out ≡ out) × Bare (negated a out)
-    unfolding negated negatedOut
-    not-refused = nothing-done (first (notChecks a (length out))) _ _ _ out
+    pub not_refused : (negated a out).refusal.number ≢ 0 → (negated_out a out ≡ out) × Bare (negated a out)
+    unfolding negated negated_out
+    not_refused = nothing_done (first (not_checks a (length out))) _ _ _ out
 
-    pub not-writes : NotAccepts (length out) → Writes (length_of a.form) (λ i. not (row a i)) 0 (negated a out) (negatedOut a out) out
-    unfolding negated negatedOut
-    not-writes t =
-        let la = accepted-length a t.0.1 in
-        writes (first (notChecks a (length out))) ((one-fine (length out)).1 t) (length_of a.form) (map not (rows_of a)) 0 out
+    pub not_writes : NotAccepts (length out) → Writes (length_of a.form) (λ i. not (row a i)) 0 (negated a out) (negated_out a out) out
+    unfolding negated negated_out
+    not_writes t =
+        let la = accepted_length a t.0.1 in
+        writes (first (not_checks a (length out))) ((one_fine (length out)).1 t) (length_of a.form) (map not (rows_of a)) 0 out
         (length-map (rows_of a) not ∙ la) _ (λ i h. not_at (rows_of a) i (omega arith))
 
 -- ---- in document 01's words: row i is in both, in either, in the first only, not in the one operand
 
 module _ (a b : Operand) (out : List ℕ) (t : Accepts a b (length out)) (i : ℕ) (within : i < length_of a.form) where
-  pub and-row : (bit_at (combinedOut ◌&&◌ a b out) i ≡ true) ↔ ((row a i ≡ true) × (row b i ≡ true))
-  and-row = rw ((combined-writes a b ◌&&◌ out t).rows i within) (in_both (row a i) (row b i))
+  pub and_row : (bit_at (combined_out ◌&&◌ a b out) i ≡ true) ↔ ((row a i ≡ true) × (row b i ≡ true))
+  and_row = rw ((combined_writes a b ◌&&◌ out t).rows i within) (in_both (row a i) (row b i))
 
-  pub or-row : (bit_at (combinedOut ◌||◌ a b out) i ≡ true) ↔ ((row a i ≡ true) ⊎ (row b i ≡ true))
-  or-row = rw ((combined-writes a b ◌||◌ out t).rows i within) (in_either (row a i) (row b i))
+  pub or_row : (bit_at (combined_out ◌||◌ a b out) i ≡ true) ↔ ((row a i ≡ true) ⊎ (row b i ≡ true))
+  or_row = rw ((combined_writes a b ◌||◌ out t).rows i within) (in_either (row a i) (row b i))
 
-  pub and-not-row : (bit_at (combinedOut andNot a b out) i ≡ true) ↔ ((row a i ≡ true) × (row b i ≡ false))
-  and-not-row = rw ((combined-writes a b andNot out t).rows i within) (in-first (row a i) (row b i))
+  pub and_not_row : (bit_at (combined_out and_not a b out) i ≡ true) ↔ ((row a i ≡ true) × (row b i ≡ false))
+  and_not_row = rw ((combined_writes a b and_not out t).rows i within) (in_first (row a i) (row b i))
 
-pub not-row : (a : Operand) (out : List ℕ) → NotAccepts a (length out) → (i : ℕ) → i < length_of a.form → (bit_at (negatedOut a out) i ≡ true) ↔ (row a i ≡ false)
-not-row a out t i h = rw ((not-writes a out t).rows i h) (not_in (row a i))
+pub not_row : (a : Operand) (out : List ℕ) → NotAccepts a (length out) → (i : ℕ) → i < length_of a.form → (bit_at (negated_out a out) i ≡ true) ↔ (row a i ≡ false)
+not_row a out t i h = rw ((not_writes a out t).rows i h) (not_in (row a i))

@@ -14,23 +14,23 @@ use lib.Seq.{take_at, drop_at}
 use Rattle.rows.specs.declared.Refusal.{Refusal}
 use Rattle.rows.specs.declared.Verdict.TheVariants.{Refused}
 use Rattle.rows.specs.Rows.{count, splice}
-use Rattle.rows.specs.Words.{bitsOfAll}
-use Rattle.rows.specs.Laid.{wordsFor, laid, written}
+use Rattle.rows.specs.Words.{bits_of_all}
+use Rattle.rows.specs.Laid.{words_for, laid, written}
 use Rattle.rows.specs.Table.{Line, First, Met, Numbered, need, refusal}
-use Rattle.rows.proofs.TableLaws.{never, same-refusal, parts-numbered, none-numbered}
-use Rattle.rows.proofs.RowLaws.{count-le-length}
-use Rattle.rows.proofs.SpliceLaws.{splice-append, splice-eq}
-use Rattle.rows.proofs.WordsLaws.{bitsOfAll-length}
-use Rattle.rows.proofs.LaidLaws.{laid-bits}
-use Rattle.rows.proofs.WrittenLaws.{written-rows}
+use Rattle.rows.proofs.TableLaws.{never, same_refusal, parts_numbered, none_numbered}
+use Rattle.rows.proofs.RowLaws.{count_le_length}
+use Rattle.rows.proofs.SpliceLaws.{splice_append, splice_eq}
+use Rattle.rows.proofs.WordsLaws.{bits_of_all_length}
+use Rattle.rows.proofs.LaidLaws.{laid_bits}
+use Rattle.rows.proofs.WrittenLaws.{written_rows}
 use Rattle.rules.specs.declared.State.{State}
 use Rattle.rules.specs.Operand.{limit, rows_of, count_of}
 use Rattle.rules.specs.Compose.{Paired}
-use Rattle.rules.specs.Stream.{Pair, long, kept, feedChecks, moved, judged}
-use Rattle.rules.proofs.OperandLaws.{accepted-length, accepted-count, accepted-limit}
-use Rattle.rules.proofs.ComposeLaws.{ranks-length, result-length, result_count}
-use Rattle.rules.proofs.AnswerLaws.{refuses-numbered}
-use Rattle.rules.proofs.Compositions.{both-numbered}
+use Rattle.rules.specs.Stream.{Pair, long, kept, feed_checks, moved, judged}
+use Rattle.rules.proofs.OperandLaws.{accepted_length, accepted_count, accepted_limit}
+use Rattle.rules.proofs.ComposeLaws.{ranks_length, result_length, result_count}
+use Rattle.rules.proofs.AnswerLaws.{refuses_numbered}
+use Rattle.rules.proofs.Compositions.{both_numbered}
 
 -- ---- refusal 10's bound, of any stream's three numbers
 
@@ -38,22 +38,22 @@ module _ (kept ranks done : ℕ) where
   abbrev pub Bound : Type 0
   Bound = (kept ≤ ranks) × (ranks ≤ done) × (done ≤ limit)
 
-  abbrev pub boundChecks : List Line
-  boundChecks = need (dec_le kept ranks) 10 0 ∷ need (dec_le ranks done) 10 0 ∷ need (dec_le done limit) 10 0 ∷ []
+  abbrev pub bound_checks : List Line
+  bound_checks = need (dec_le kept ranks) 10 0 ∷ need (dec_le ranks done) 10 0 ∷ need (dec_le done limit) 10 0 ∷ []
 
-  pub bound-met : Met boundChecks ↔ Bound
-  bound-met = (λ m. (m.0, m.1.0, m.1.1.0), λ w. (w.0, (w.1, (w.2, tt))))
+  pub bound_met : Met bound_checks ↔ Bound
+  bound_met = (λ m. (m.0, m.1.0, m.1.1.0), λ w. (w.0, (w.1, (w.2, tt))))
 
-  pub bound-refuses : (x : Refusal) → First boundChecks (Refused x) ↔ ((x ≡ refusal 10 0) × (¬ Bound))
-  bound-refuses x = (to, λ t. from (dec_le kept ranks) (dec_le ranks done) t.0 t.1)
+  pub bound_refuses : (x : Refusal) → First bound_checks (Refused x) ↔ ((x ≡ refusal 10 0) × (¬ Bound))
+  bound_refuses x = (to, λ t. from (dec_le kept ranks) (dec_le ranks done) t.0 t.1)
     where
-      to : First boundChecks (Refused x) → (x ≡ refusal 10 0) × (¬ Bound)
-      to (inr (a, e)) = (same-refusal e, λ w. a w.0)
-      to (inl (a, inr (b, e))) = (same-refusal e, λ w. b w.1)
-      to (inl (a, inl (b, inr (c, e)))) = (same-refusal e, λ w. c w.2)
+      to : First bound_checks (Refused x) → (x ≡ refusal 10 0) × (¬ Bound)
+      to (inr (a, e)) = (same_refusal e, λ w. a w.0)
+      to (inl (a, inr (b, e))) = (same_refusal e, λ w. b w.1)
+      to (inl (a, inl (b, inr (c, e)))) = (same_refusal e, λ w. c w.2)
       to (inl (a, inl (b, inl (c, e)))) = never e
 
-      from : Dec (kept ≤ ranks) → Dec (ranks ≤ done) → x ≡ refusal 10 0 → (¬ Bound) → First boundChecks (Refused x)
+      from : Dec (kept ≤ ranks) → Dec (ranks ≤ done) → x ≡ refusal 10 0 → (¬ Bound) → First bound_checks (Refused x)
       from (yes a) (yes b) e h = inl (a, inl (b, inr (λ c. h (a, b, c), ap Refused e)))
       from (yes a) (no b) e h = inl (a, inr (b, ap Refused e))
       from (no a) d e h = inr (a, ap Refused e)
@@ -62,30 +62,30 @@ module _ (kept ranks done : ℕ) where
 
 -- a piece laid, and what comes after it where the piece ends, are the two joined
 pub laid_then : (at n : ℕ) (xs ys : List Bool) (out left : List ℕ) → length xs ≡ n
-    → bitsOfAll 64 left ≡ splice (at + n) (bitsOfAll 64 (laid at xs out)) ys → bitsOfAll 64 left ≡ splice at (bitsOfAll 64 out) (xs ++ ys)
+    → bits_of_all 64 left ≡ splice (at + n) (bits_of_all 64 (laid at xs out)) ys → bits_of_all 64 left ≡ splice at (bits_of_all 64 out) (xs ++ ys)
 laid_then at n xs ys out left e h =
     h
-    ∙ ap₂ (λ (m : ℕ) (l : List Bool). splice (at + m) l ys) (sym e) (laid-bits 64 at xs out)
-    ∙ splice-append at (bitsOfAll 64 out) xs ys
+    ∙ ap₂ (λ (m : ℕ) (l : List Bool). splice (at + m) l ys) (sym e) (laid_bits 64 at xs out)
+    ∙ splice_append at (bits_of_all 64 out) xs ys
 
-take-over : (xs ys : List Bool) → length ys ≤ length xs → take (length ys) (splice 0 xs ys) ≡ ys
-take-over xs ys h = rw (splice-eq 0 xs ys (omega arith)) (take_at ys (drop (0 + length ys) xs) (length ys) refl)
+take_over : (xs ys : List Bool) → length ys ≤ length xs → take (length ys) (splice 0 xs ys) ≡ ys
+take_over xs ys h = rw (splice_eq 0 xs ys (omega arith)) (take_at ys (drop (0 + length ys) xs) (length ys) refl)
 
-drop-over : (xs ys : List Bool) → length ys ≤ length xs → drop (length ys) (splice 0 xs ys) ≡ drop (length ys) xs
-drop-over xs ys h =
-    rw (splice-eq 0 xs ys (omega arith))
+drop_over : (xs ys : List Bool) → length ys ≤ length xs → drop (length ys) (splice 0 xs ys) ≡ drop (length ys) xs
+drop_over xs ys h =
+    rw (splice_eq 0 xs ys (omega arith))
     (drop_at ys (drop (0 + length ys) xs) (length ys) refl ∙ ap (λ (n : ℕ). drop n xs) (zero-add (length ys)))
 
 -- n bits laid from bit 0 on are those that are written at once, and no other bit changed
 module _ (n : ℕ) (bs : List Bool) (out left : List ℕ) (long : length bs ≡ n) (fits : n ≤ length out * 64) where
-  short : length bs ≤ length (bitsOfAll 64 out)
-  short = omega (arith, long, fits, bitsOfAll-length 64 out)
+  short : length bs ≤ length (bits_of_all 64 out)
+  short = omega (arith, long, fits, bits_of_all_length 64 out)
 
-  pub laid-within : bitsOfAll 64 left ≡ splice 0 (bitsOfAll 64 out) bs → take n (bitsOfAll 64 left) ≡ take n (bitsOfAll 64 (written n bs out))
-  laid-within e = rw (e, written-rows n bs out long, ← long) (take-over (bitsOfAll 64 out) bs short)
+  pub laid_within : bits_of_all 64 left ≡ splice 0 (bits_of_all 64 out) bs → take n (bits_of_all 64 left) ≡ take n (bits_of_all 64 (written n bs out))
+  laid_within e = rw (e, written_rows n bs out long, ← long) (take_over (bits_of_all 64 out) bs short)
 
-  pub laid-past : bitsOfAll 64 left ≡ splice 0 (bitsOfAll 64 out) bs → drop n (bitsOfAll 64 left) ≡ drop n (bitsOfAll 64 out)
-  laid-past e = rw (e, ← long) (drop-over (bitsOfAll 64 out) bs short)
+  pub laid_past : bits_of_all 64 left ≡ splice 0 (bits_of_all 64 out) bs → drop n (bits_of_all 64 left) ≡ drop n (bits_of_all 64 out)
+  laid_past e = rw (e, ← long) (drop_over (bits_of_all 64 out) bs short)
 
 -- ---- the composer's feed
 
@@ -98,49 +98,49 @@ pub record Accepts (st : State) (p : Pair) (room : ℕ) : Type 0 where
   pub within : Within st
   pub matched : Paired p.self p.rank
   pub limited : st.done.0 + long p ≤ limit
-  pub space : wordsFor (st.done.0 + long p) ≤ room
+  pub space : words_for (st.done.0 + long p) ≤ room
 
 -- ---- lengths and counts of an accepted pair
 
 module _ (p : Pair) (m : Paired p.self p.rank) where
-  pub self-length : length (rows_of p.self) ≡ long p
-  self-length = accepted-length p.self m.self
+  pub self_length : length (rows_of p.self) ≡ long p
+  self_length = accepted_length p.self m.self
 
-  pub self-count : count (rows_of p.self) ≡ count_of p.self
-  self-count = accepted-count p.self m.self
+  pub self_count : count (rows_of p.self) ≡ count_of p.self
+  self_count = accepted_count p.self m.self
 
-  pub rank-length : length (rows_of p.rank) ≡ count (rows_of p.self)
-  rank-length = ranks-length p.self p.rank m
+  pub rank_length : length (rows_of p.rank) ≡ count (rows_of p.self)
+  rank_length = ranks_length p.self p.rank m
 
-  pub kept-length : length (kept p) ≡ long p
-  kept-length = result-length p.self p.rank m
+  pub kept_length : length (kept p) ≡ long p
+  kept_length = result_length p.self p.rank m
 
-  pub kept-count : count (kept p) ≡ count_of p.rank
-  kept-count = result_count p.self p.rank m
+  pub kept_count : count (kept p) ≡ count_of p.rank
+  kept_count = result_count p.self p.rank m
 
-  pub kept-few : count (kept p) ≤ count (rows_of p.self)
-  kept-few = omega (arith, kept-count, sym (accepted-count p.rank m.rank), rank-length, count-le-length (rows_of p.rank))
+  pub kept_few : count (kept p) ≤ count (rows_of p.self)
+  kept_few = omega (arith, kept_count, sym (accepted_count p.rank m.rank), rank_length, count_le_length (rows_of p.rank))
 
-  pub self-limit : long p ≤ limit
-  self-limit = accepted-limit p.self m.self
+  pub self_limit : long p ≤ limit
+  self_limit = accepted_limit p.self m.self
 
 -- an accepted feed hands back a state within 10's bound
-pub moved-within : (st : State) (p : Pair) (room : ℕ) → Accepts st p room → Within (moved st p)
-moved-within st p room t =
+pub moved_within : (st : State) (p : Pair) (room : ℕ) → Accepts st p room → Within (moved st p)
+moved_within st p room t =
     let m = t.matched in (
-      omega (arith, t.within.0, kept-few p m),
-      omega (arith, t.within.1, count-le-length (rows_of p.self), kept-few p m, self-length p m),
-      omega (arith, t.limited, self-length p m),
+      omega (arith, t.within.0, kept_few p m),
+      omega (arith, t.within.1, count_le_length (rows_of p.self), kept_few p m, self_length p m),
+      omega (arith, t.limited, self_length p m),
     )
 
 -- ---- what a refusal tells
 
-feed-numbered : (st : State) (p : Pair) (room : ℕ) → Numbered (feedChecks st p room)
-feed-numbered st p room =
-    parts-numbered _ _ (omega arith, (omega arith, (omega arith, tt)))
-    (parts-numbered _ _ (both-numbered p.self p.rank) (parts-numbered _ _ (omega arith, (omega arith, (omega arith, tt))) none-numbered))
+feed_numbered : (st : State) (p : Pair) (room : ℕ) → Numbered (feed_checks st p room)
+feed_numbered st p room =
+    parts_numbered _ _ (omega arith, (omega arith, (omega arith, tt)))
+    (parts_numbered _ _ (both_numbered p.self p.rank) (parts_numbered _ _ (omega arith, (omega arith, (omega arith, tt))) none_numbered))
 
 -- no refusal tells the number 0
-pub refused-number : (st : State) (p : Pair) (room : ℕ) (x : Refusal) → judged st p room ≡ Refused x → x.number ≢ 0
+pub refused_number : (st : State) (p : Pair) (room : ℕ) (x : Refusal) → judged st p room ≡ Refused x → x.number ≢ 0
 unfolding judged
-refused-number st p room = refuses-numbered (feedChecks st p room) (feed-numbered st p room)
+refused_number st p room = refuses_numbered (feed_checks st p room) (feed_numbered st p room)

@@ -7,13 +7,13 @@ use mathlib.Core.List.{List, [], ◌∷◌}
 use native.Mathlib.Decide.{ℕ_discrete, dec_lt}
 use Rattle.rows.specs.Rows.{count}
 use Rattle.rows.specs.Word.{bits_of, word_of}
-use Rattle.rows.specs.Pdep.{pdepLoop, pdep}
-use Rattle.rows.specs.Table.{first, refusal, noRefusal}
-use Rattle.rows.specs.WordAnswer.{depositAnswer, selectAnswer, deposited, selected}
-use Rattle.rows.proofs.RowLaws.{compose-empty, compose-full}
-use Rattle.rows.proofs.WordLaws.{wordOf-bitsOf}
-use Rattle.rows.proofs.PdepLaws.{pdep-is}
-use Rattle.rows.proofs.Theorems.{deposit-answers}
+use Rattle.rows.specs.Pdep.{pdep_loop, pdep}
+use Rattle.rows.specs.Table.{first, refusal, no_refusal}
+use Rattle.rows.specs.WordAnswer.{deposit_answer, select_answer, deposited, selected}
+use Rattle.rows.proofs.RowLaws.{compose_empty, compose_full}
+use Rattle.rows.proofs.WordLaws.{word_of_bits_of}
+use Rattle.rows.proofs.PdepLaws.{pdep_is}
+use Rattle.rows.proofs.Theorems.{deposit_answers}
 
 -- source, mask and the word that is deposited, by the mask's own count; a mask and what it makes of every source; word, rank and the
 -- position; word and rank refused with 9
@@ -24,10 +24,10 @@ pub data Case : Type 0 where
   refuses : (word rank : ℕ) → Case
 
 abbrev pub Holds : Case → Type 0
-Holds (deposits s m w) = deposited s m (count (bits_of 64 m)) ≡ depositAnswer noRefusal w
-Holds (takes m w) = (s : ℕ) → s < 2 ^ 64 → deposited s m (count (bits_of 64 m)) ≡ depositAnswer noRefusal (w s)
-Holds (selects n r p) = selected n r ≡ selectAnswer noRefusal p
-Holds (refuses n r) = selected n r ≡ selectAnswer (refusal 9 0) 0
+Holds (deposits s m w) = deposited s m (count (bits_of 64 m)) ≡ deposit_answer no_refusal w
+Holds (takes m w) = (s : ℕ) → s < 2 ^ 64 → deposited s m (count (bits_of 64 m)) ≡ deposit_answer no_refusal (w s)
+Holds (selects n r p) = selected n r ≡ select_answer no_refusal p
+Holds (refuses n r) = selected n r ≡ select_answer (refusal 9 0) 0
 
 abbrev pub Every : List Case → Type 0
 Every [] = Unit {0}
@@ -49,16 +49,16 @@ cases =
 
 -- what a mask makes of every source, where that is what the published PDEP does
 taken : (m : ℕ) (w : ℕ → ℕ) → ((s : ℕ) → s < 2 ^ 64 → pdep 64 s m ≡ w s) → Holds (takes m w)
-taken m w law s h = deposit-answers s m (count (bits_of 64 m)) refl ∙ ap (λ (n : ℕ). depositAnswer noRefusal n) (law s h)
+taken m w law s h = deposit_answers s m (count (bits_of 64 m)) refl ∙ ap (λ (n : ℕ). deposit_answer no_refusal n) (law s h)
 
 none : Holds (takes 0 (λ s. 0))
 unfolding bits_of word_of
-none = taken 0 (λ s. 0) (λ s h. pdep-is 64 s 0 ∙ ap word_of (compose-empty (bits_of 64 0) (bits_of 64 s) refl))
+none = taken 0 (λ s. 0) (λ s h. pdep_is 64 s 0 ∙ ap word_of (compose_empty (bits_of 64 0) (bits_of 64 s) refl))
 
 all : Holds (takes 0xffff_ffff_ffff_ffff (λ s. s))
 unfolding bits_of
-all = taken 0xffff_ffff_ffff_ffff (λ s. s) (λ s h. pdep-is 64 s (2 ^ 64 - 1) ∙ ap word_of (compose-full (bits_of 64 (2 ^ 64 - 1)) (bits_of 64 s) refl refl) ∙ wordOf-bitsOf 64 s h)
+all = taken 0xffff_ffff_ffff_ffff (λ s. s) (λ s h. pdep_is 64 s (2 ^ 64 - 1) ∙ ap word_of (compose_full (bits_of 64 (2 ^ 64 - 1)) (bits_of 64 s) refl refl) ∙ word_of_bits_of 64 s h)
 
 pub examples : Every cases
-unfolding deposited selected first pdep pdepLoop bits_of ℕ_discrete dec_lt
+unfolding deposited selected first pdep pdep_loop bits_of ℕ_discrete dec_lt
 examples = (refl, (none, (all, (refl, (refl, (refl, (refl, (refl, (refl, (refl, tt))))))))))

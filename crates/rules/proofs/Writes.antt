@@ -13,20 +13,20 @@ use lib.Seq.{get_or-take}
 use Rattle.rows.specs.declared.Verdict.{Verdict}
 use Rattle.rows.specs.declared.Verdict.TheVariants.{Fine}
 use Rattle.rows.specs.Rows.{count}
-use Rattle.rows.specs.Words.{bitsOfAll}
-use Rattle.rows.specs.Lists.{setRows}
-use Rattle.rows.specs.Runs.{runsOf, runsIn}
-use Rattle.rows.specs.Laid.{wordsFor, written}
-use Rattle.rows.specs.Table.{noRefusal, ifFine}
-use Rattle.rows.proofs.WrittenLaws.{written-rows, written-length, written-tail, written-later}
+use Rattle.rows.specs.Words.{bits_of_all}
+use Rattle.rows.specs.Lists.{set_rows}
+use Rattle.rows.specs.Runs.{runs_of, runs_in}
+use Rattle.rows.specs.Laid.{words_for, written}
+use Rattle.rows.specs.Table.{no_refusal, if_fine}
+use Rattle.rows.proofs.WrittenLaws.{written_rows, written_length, written_tail, written_later}
 use Rattle.rules.specs.declared.Answer.{Answer}
 use Rattle.rules.specs.declared.Written.{Written}
 use Rattle.rules.specs.declared.Form.TheVariants.{Words}
 use Rattle.rules.specs.Operand.{Operand, lent, rows_of, limit, Accepted}
-use Rattle.rules.specs.Answer.{answered, densityOf}
+use Rattle.rules.specs.Answer.{answered, density_of}
 
 abbrev pub bit_at : List ℕ → ℕ → Bool
-bit_at ws i = get_or (bitsOfAll 64 ws) i false
+bit_at ws i = get_or (bits_of_all 64 ws) i false
 
 -- row i of an operand
 abbrev pub row : Operand → ℕ → Bool
@@ -34,54 +34,54 @@ row o i = get_or (rows_of o) i false
 
 -- accepted by a route, with n rows that are as said, their own count and density
 pub record Writes (n : ℕ) (row_at : ℕ → Bool) (by : ℕ) (answer : Answer) (left out : List ℕ) : Type 0 where
-  pub accepted : answer.refusal ≡ noRefusal
+  pub accepted : answer.refusal ≡ no_refusal
   pub rows : (i : ℕ) → i < n → bit_at left i ≡ row_at i
-  pub counted : answer.summary.count ≡ count (take n (bitsOfAll 64 left))
+  pub counted : answer.summary.count ≡ count (take n (bits_of_all 64 left))
   pub route : answer.summary.route ≡ by
-  pub dense : answer.summary.density ≡ densityOf answer.summary.count n
-  pub tail : (i : ℕ) → n ≤ i → i < wordsFor n * 64 → bit_at left i ≡ false
-  pub later : drop (wordsFor n) left ≡ drop (wordsFor n) out
+  pub dense : answer.summary.density ≡ density_of answer.summary.count n
+  pub tail : (i : ℕ) → n ≤ i → i < words_for n * 64 → bit_at left i ≡ false
+  pub later : drop (words_for n) left ≡ drop (words_for n) out
 
 -- accepted, with the set rows among these n as entries from the start on: as many as it counts, route 0, their density
 pub record Lists (n : ℕ) (rows : List Bool) (answer : Answer) (left out : List ℕ) : Type 0 where
-  pub accepted : answer.refusal ≡ noRefusal
+  pub accepted : answer.refusal ≡ no_refusal
   pub counted : answer.summary.count ≡ count rows
-  pub entries : take answer.summary.count left ≡ setRows 0 rows
+  pub entries : take answer.summary.count left ≡ set_rows 0 rows
   pub route : answer.summary.route ≡ 0
-  pub dense : answer.summary.density ≡ densityOf answer.summary.count n
+  pub dense : answer.summary.density ≡ density_of answer.summary.count n
   pub later : drop answer.summary.count left ≡ drop answer.summary.count out
 
 -- accepted, with the runs of these n rows as numbers from the start on: two for each of the runs that it tells, the rows' own count, route 0,
 -- their density
 pub record WritesRuns (n : ℕ) (rows : List Bool) (told : Written) (left out : List ℕ) : Type 0 where
-  pub accepted : told.answer.refusal ≡ noRefusal
+  pub accepted : told.answer.refusal ≡ no_refusal
   pub counted : told.answer.summary.count ≡ count rows
-  pub many : told.runs ≡ runsIn rows
-  pub numbers : take (told.runs * 2) left ≡ runsOf rows
+  pub many : told.runs ≡ runs_in rows
+  pub numbers : take (told.runs * 2) left ≡ runs_of rows
   pub route : told.answer.summary.route ≡ 0
-  pub dense : told.answer.summary.density ≡ densityOf told.answer.summary.count n
+  pub dense : told.answer.summary.density ≡ density_of told.answer.summary.count n
   pub later : drop (told.runs * 2) left ≡ drop (told.runs * 2) out
 
 pub writes : (v : Verdict) → v ≡ Fine → (n : ℕ) (rows : List Bool) (by : ℕ) (out : List ℕ) → length rows ≡ n → (row_at : ℕ → Bool) → ((i : ℕ) → i < n → get_or rows i false ≡ row_at i)
-    → Writes n row_at by (answered v rows by) (ifFine v (written n rows out) out) out
+    → Writes n row_at by (answered v rows by) (if_fine v (written n rows out) out) out
 writes v e n rows by out long row_at law =
     rw e
     (record {
       accepted = refl;
-      rows = λ i h. sym (get_or-take n (bitsOfAll 64 (written n rows out)) i false h) ∙ ap (λ (l : List Bool). get_or l i false) (written-rows n rows out long) ∙ law i h;
-      counted = ap count (sym (written-rows n rows out long));
+      rows = λ i h. sym (get_or-take n (bits_of_all 64 (written n rows out)) i false h) ∙ ap (λ (l : List Bool). get_or l i false) (written_rows n rows out long) ∙ law i h;
+      counted = ap count (sym (written_rows n rows out long));
       route = refl;
-      dense = ap (densityOf (count rows)) long;
-      tail = written-tail n rows out long;
-      later = written-later n rows out long;
+      dense = ap (density_of (count rows)) long;
+      tail = written_tail n rows out long;
+      later = written_later n rows out long;
     })
 
 -- the words written, at start 0 with their own length and count, are an operand with the same rows
-pub written_back : (n : ℕ) (rows : List Bool) (out : List ℕ) → length rows ≡ n → n ≤ limit → wordsFor n ≤ length out
+pub written_back : (n : ℕ) (rows : List Bool) (out : List ℕ) → length rows ≡ n → n ≤ limit → words_for n ≤ length out
     → let back = lent (Words 0 n (count rows)) (written n rows out) [] in Accepted back × (rows_of back ≡ rows)
 written_back n rows out long few room =
-    let back : take n (bitsOfAll 64 (written n rows out)) ≡ rows = written-rows n rows out long in
-    let size : length (written n rows out) ≡ length out = written-length n rows out long room in
+    let back : take n (bits_of_all 64 (written n rows out)) ≡ rows = written_rows n rows out long in
+    let size : length (written n rows out) ≡ length out = written_length n rows out long room in
     ((few, (omega arith, (omega (arith, zero-add n), (sym (ap count back), tt)))), back)
 
 -- ---- what is said of a row by a Bool, as a proposition

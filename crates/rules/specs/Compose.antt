@@ -6,13 +6,13 @@
 use Rattle.std.specs.Prelude.{ℕ, ◌≡◌, Bool, List, [], ◌∷◌, length}
 use Rattle.std.proofs.Math.Decide.{ℕ_discrete, dec_le}
 use Rattle.rows.specs.Rows.{compose}
-use Rattle.rows.specs.Laid.{wordsFor, written}
-use Rattle.rows.specs.Table.{Line, need, first, inOrder, ifFine}
+use Rattle.rows.specs.Laid.{words_for, written}
+use Rattle.rows.specs.Table.{Line, need, first, in_order, if_fine}
 use Rattle.rules.specs.declared.Answer.{Answer}
 use Rattle.rules.specs.declared.Factors.{Factors}
-use Rattle.rules.specs.Operand.{Operand, rows_of, length_of, count_of, operandChecks, Accepted}
+use Rattle.rules.specs.Operand.{Operand, rows_of, length_of, count_of, operand_checks, Accepted}
 use Rattle.rules.specs.Answer.{answered}
-use Rattle.rules.specs.Route.{routeOf, number_of}
+use Rattle.rules.specs.Route.{route_of, number_of}
 
 -- both operands are accepted, and the rank mask is as long as self has set rows
 pub record Paired (s r : Operand) : Type 0 where
@@ -21,27 +21,27 @@ pub record Paired (s r : Operand) : Type 0 where
   pub ranks : length_of r.form ≡ count_of s
 
 -- the checks of both operands: self's, then the rank mask's
-abbrev pub bothChecks : Operand → Operand → List Line
-bothChecks s r = inOrder (operandChecks 1 s ∷ operandChecks 2 r ∷ [])
+abbrev pub both_checks : Operand → Operand → List Line
+both_checks s r = in_order (operand_checks 1 s ∷ operand_checks 2 r ∷ [])
 
 -- the checks, for an output of `room` words: the operands', then 7, the rank mask's length is not self's count, then 8, the output is
 -- shorter than the result
-abbrev pub composeChecks : Operand → Operand → ℕ → List Line
-composeChecks s r room =
-    inOrder
-    (bothChecks s r
+abbrev pub compose_checks : Operand → Operand → ℕ → List Line
+compose_checks s r room =
+    in_order
+    (both_checks s r
     ∷ (need (ℕ_discrete (length_of r.form) (count_of s)) 7 0 ∷ [])
-    ∷ (need (dec_le (wordsFor (length_of s.form)) room) 8 0 ∷ [])
+    ∷ (need (dec_le (words_for (length_of s.form)) room) 8 0 ∷ [])
     ∷ [])
 
 abbrev pub result : Operand → Operand → List Bool
 result s r = compose (rows_of s) (rows_of r)
 
 abbrev pub routed : Factors → Operand → Operand → ℕ
-routed k s r = number_of (routeOf k s r)
+routed k s r = number_of (route_of k s r)
 
 unfoldable pub composed : Factors → Operand → Operand → List ℕ → Answer
-composed k s r out = answered (first (composeChecks s r (length out))) (result s r) (routed k s r)
+composed k s r out = answered (first (compose_checks s r (length out))) (result s r) (routed k s r)
 
-unfoldable pub composedOut : Operand → Operand → List ℕ → List ℕ
-composedOut s r out = ifFine (first (composeChecks s r (length out))) (written (length_of s.form) (result s r) out) out
+unfoldable pub composed_out : Operand → Operand → List ℕ → List ℕ
+composed_out s r out = if_fine (first (compose_checks s r (length out))) (written (length_of s.form) (result s r) out) out

@@ -3,19 +3,19 @@
 -- Assumes nothing.
 use Rattle.std.specs.Prelude.{ℕ, zero, suc, ◌+◌, ◌≡◌, Bool, List, [], ◌∷◌, ◌++◌, take, drop}
 use Rattle.rows.specs.Rows.{count}
-use Rattle.rows.specs.Words.{bitsOfAll}
+use Rattle.rows.specs.Words.{bits_of_all}
 use Rattle.rules.specs.declared.Answer.{Answer}
 use Rattle.rules.specs.Operand.{Operand, length_of, rows_of, in_words, Accepted}
 use Rattle.rules.specs.Route.{published}
-use Rattle.rules.specs.Compose.{composed, composedOut}
+use Rattle.rules.specs.Compose.{composed, composed_out}
 use Rattle.rules.specs.Stream.{Pair, pair_of, long, state_of, fresh, Run, run}
 
 -- the whole composed at once, as demand 2 has it: its answer, and the output as it is left
 abbrev pub once : Pair → List ℕ → Answer
 once p out = composed published p.self p.rank out
 
-abbrev pub onceOut : Pair → List ℕ → List ℕ
-onceOut p out = composedOut p.self p.rank out
+abbrev pub once_out : Pair → List ℕ → List ℕ
+once_out p out = composed_out p.self p.rank out
 
 -- pieces, each well formed, the rank mask's as long as self's has set rows: cut at the matching ranks
 abbrev pub Pieces : List Pair → Type 0
@@ -36,14 +36,14 @@ abbrev pub AllAccepted : List Answer → Type 0
 AllAccepted [] = Unit {0}
 AllAccepted (a ∷ xs) = (a.refusal.number ≡ 0) × AllAccepted xs
 
-abbrev pub keepIf : {A : Type 0} → ℕ → A → List A → List A
-keepIf zero p ps = p ∷ ps
-keepIf (suc n) p ps = ps
+abbrev pub keep_if : {A : Type 0} → ℕ → A → List A → List A
+keep_if zero p ps = p ∷ ps
+keep_if (suc n) p ps = ps
 
 abbrev pub taken : {A : Type 0} → List A → List Answer → List A
 taken [] xs = []
 taken (p ∷ ps) [] = []
-taken (p ∷ ps) (a ∷ xs) = keepIf a.refusal.number p (taken ps xs)
+taken (p ∷ ps) (a ∷ xs) = keep_if a.refusal.number p (taken ps xs)
 
 abbrev pub summed : List Answer → ℕ
 summed [] = 0
@@ -53,8 +53,8 @@ summed (a ∷ xs) = a.summary.count + summed xs
 -- its count; and the end state is its length, its set rows and its count
 pub record Whole (whole : Pair) (out : List ℕ) (t : Run) : Type 0 where
   pub accepted : (once whole out).refusal.number ≡ 0
-  pub rows : take (long whole) (bitsOfAll 64 t.out) ≡ take (long whole) (bitsOfAll 64 (onceOut whole out))
-  pub others : drop (long whole) (bitsOfAll 64 t.out) ≡ drop (long whole) (bitsOfAll 64 out)
+  pub rows : take (long whole) (bits_of_all 64 t.out) ≡ take (long whole) (bits_of_all 64 (once_out whole out))
+  pub others : drop (long whole) (bits_of_all 64 t.out) ≡ drop (long whole) (bits_of_all 64 out)
   pub counts : summed t.answers ≡ (once whole out).summary.count
   pub state : t.state ≡ state_of (long whole) (count (rows_of whole.self)) (once whole out).summary.count
 

@@ -9,9 +9,9 @@ use Rattle.std.proofs.Math.Decide.{ℕ_discrete, dec_le}
 use Rattle.rows.specs.Rows.{count}
 use Rattle.rows.specs.Words.{view, words_of}
 use Rattle.rows.specs.Lists.{listed}
-use Rattle.rows.specs.Runs.{inRuns, runLengths}
-use Rattle.rows.specs.Laid.{wordsFor}
-use Rattle.rows.specs.Table.{Line, need, Met, decT}
+use Rattle.rows.specs.Runs.{in_runs, run_lengths}
+use Rattle.rows.specs.Laid.{words_for}
+use Rattle.rows.specs.Table.{Line, need, Met, dec_t}
 use Rattle.rules.specs.declared.Form.{Form}
 use Rattle.rules.specs.declared.Form.TheVariants.{All, None, Words, List as Listed, Runs}
 
@@ -28,7 +28,7 @@ lent f ws es = record { form = f; words = ws; numbers = es }
 
 -- rows as an operand: in words from bit 0 on, with their own length and count
 abbrev pub in_words : List Bool → Operand
-in_words rows = lent (Words 0 (length rows) (count rows)) (words_of 64 (wordsFor (length rows)) rows) []
+in_words rows = lent (Words 0 (length rows) (count rows)) (words_of 64 (words_for (length rows)) rows) []
 
 abbrev pub length_of : Form → ℕ
 length_of (All n) = n
@@ -38,12 +38,12 @@ length_of (Listed len) = len
 length_of (Runs len) = len
 
 -- it counts as a list: for the route, and a set operation takes none
-abbrev pub countsAsList : Form → Bool
-countsAsList (All n) = false
-countsAsList (None n) = false
-countsAsList (Words start len claimed) = false
-countsAsList (Listed len) = true
-countsAsList (Runs len) = true
+abbrev pub counts_as_list : Form → Bool
+counts_as_list (All n) = false
+counts_as_list (None n) = false
+counts_as_list (Words start len claimed) = false
+counts_as_list (Listed len) = true
+counts_as_list (Runs len) = true
 
 -- its rows
 abbrev pub rows_by : Form → Operand → List Bool
@@ -51,34 +51,34 @@ rows_by (All n) o = replicate n true
 rows_by (None n) o = replicate n false
 rows_by (Words start len claimed) o = view start len o.words
 rows_by (Listed len) o = listed len o.numbers
-rows_by (Runs len) o = inRuns len o.numbers
+rows_by (Runs len) o = in_runs len o.numbers
 
 abbrev pub rows_of : Operand → List Bool
 rows_of o = rows_by o.form o
 
--- the count that it has: where it is accepted, the number of its set rows (`accepted-count`)
-abbrev pub countBy : Form → List ℕ → ℕ
-countBy (All n) es = n
-countBy (None n) es = 0
-countBy (Words start len claimed) es = claimed
-countBy (Listed len) es = length es
-countBy (Runs len) es = runLengths es
+-- the count that it has: where it is accepted, the number of its set rows (`accepted_count`)
+abbrev pub count_by : Form → List ℕ → ℕ
+count_by (All n) es = n
+count_by (None n) es = 0
+count_by (Words start len claimed) es = claimed
+count_by (Listed len) es = length es
+count_by (Runs len) es = run_lengths es
 
 abbrev pub count_of : Operand → ℕ
-count_of o = countBy o.form o.numbers
+count_of o = count_by o.form o.numbers
 
 -- empty if its count is 0; full if its length is above 0 and its count equals it
-abbrev pub emptyBy : ℕ → Bool
-emptyBy n = eqb n 0
+abbrev pub empty_by : ℕ → Bool
+empty_by n = eqb n 0
 
-abbrev pub fullBy : Form → ℕ → Bool
-fullBy f n = ltb 0 (length_of f) && eqb n (length_of f)
+abbrev pub full_by : Form → ℕ → Bool
+full_by f n = ltb 0 (length_of f) && eqb n (length_of f)
 
 abbrev pub empty : Operand → Bool
-empty o = emptyBy (count_of o)
+empty o = empty_by (count_of o)
 
 abbrev pub full : Operand → Bool
-full o = fullBy o.form (count_of o)
+full o = full_by o.form (count_of o)
 
 -- ---- its checks, as operand k
 
@@ -92,56 +92,56 @@ climbs (e ∷ []) = true
 climbs (e ∷ f ∷ es) = ltb e f && climbs (f ∷ es)
 
 -- the last entry, if there is one, is below the length
-abbrev pub lastBelow : ℕ → List ℕ → Bool
-lastBelow len [] = true
-lastBelow len (e ∷ []) = ltb e len
-lastBelow len (e ∷ f ∷ es) = lastBelow len (f ∷ es)
+abbrev pub last_below : ℕ → List ℕ → Bool
+last_below len [] = true
+last_below len (e ∷ []) = ltb e len
+last_below len (e ∷ f ∷ es) = last_below len (f ∷ es)
 
 -- each run is not empty, begins at `least` or above, above the row past the last of the one before it, and is not past the length; and the
 -- last number has its pair
-abbrev pub runsFit : ℕ → ℕ → List ℕ → Bool
-runsFit least len [] = true
-runsFit least len (first ∷ []) = false
-runsFit least len (first ∷ past ∷ ns) = leb least first && (ltb first past && (leb past len && runsFit (suc past) len ns))
+abbrev pub runs_fit : ℕ → ℕ → List ℕ → Bool
+runs_fit least len [] = true
+runs_fit least len (first ∷ []) = false
+runs_fit least len (first ∷ past ∷ ns) = leb least first && (ltb first past && (leb past len && runs_fit (suc past) len ns))
 
-abbrev pub lengthChecks : ℕ → ℕ → List Line
-lengthChecks k len = need (dec_le len limit) 1 k ∷ []
+abbrev pub length_checks : ℕ → ℕ → List Line
+length_checks k len = need (dec_le len limit) 1 k ∷ []
 
-abbrev pub wordsChecks : ℕ → ℕ → ℕ → ℕ → List ℕ → List Line
-wordsChecks k start len claimed ws =
+abbrev pub words_checks : ℕ → ℕ → ℕ → ℕ → List ℕ → List Line
+words_checks k start len claimed ws =
     need (dec_le len limit) 1 k
     ∷ need (dec_le start 63) 2 k
-    ∷ need (dec_le (wordsFor (start + len)) (length ws)) 3 k
+    ∷ need (dec_le (words_for (start + len)) (length ws)) 3 k
     ∷ need (ℕ_discrete claimed (count (view start len ws))) 4 k
     ∷ []
 
-abbrev pub listChecks : ℕ → ℕ → List ℕ → List Line
-listChecks k len es =
+abbrev pub list_checks : ℕ → ℕ → List ℕ → List Line
+list_checks k len es =
     need (dec_le len limit) 1 k
-    ∷ need (decT (climbs es)) 5 k
-    ∷ need (decT (lastBelow len es)) 6 k
+    ∷ need (dec_t (climbs es)) 5 k
+    ∷ need (dec_t (last_below len es)) 6 k
     ∷ []
 
-abbrev pub runsChecks : ℕ → ℕ → List ℕ → List Line
-runsChecks k len ns =
+abbrev pub runs_checks : ℕ → ℕ → List ℕ → List Line
+runs_checks k len ns =
     need (dec_le len limit) 1 k
-    ∷ need (decT (runsFit 0 len ns)) 14 k
+    ∷ need (dec_t (runs_fit 0 len ns)) 14 k
     ∷ []
 
-abbrev pub checksBy : Form → ℕ → Operand → List Line
-checksBy (All n) k o = lengthChecks k n
-checksBy (None n) k o = lengthChecks k n
-checksBy (Words start len claimed) k o = wordsChecks k start len claimed o.words
-checksBy (Listed len) k o = listChecks k len o.numbers
-checksBy (Runs len) k o = runsChecks k len o.numbers
+abbrev pub checks_by : Form → ℕ → Operand → List Line
+checks_by (All n) k o = length_checks k n
+checks_by (None n) k o = length_checks k n
+checks_by (Words start len claimed) k o = words_checks k start len claimed o.words
+checks_by (Listed len) k o = list_checks k len o.numbers
+checks_by (Runs len) k o = runs_checks k len o.numbers
 
-abbrev pub operandChecks : ℕ → Operand → List Line
-operandChecks k o = checksBy o.form k o
+abbrev pub operand_checks : ℕ → Operand → List Line
+operand_checks k o = checks_by o.form k o
 
 -- a set operation takes no list and no runs: 12, before all others
-abbrev pub setChecks : ℕ → Operand → List Line
-setChecks k o = need (decT (not (countsAsList o.form))) 12 k ∷ operandChecks k o
+abbrev pub set_checks : ℕ → Operand → List Line
+set_checks k o = need (dec_t (not (counts_as_list o.form))) 12 k ∷ operand_checks k o
 
 -- every need is met
 abbrev pub Accepted : Operand → Type 0
-Accepted o = Met (operandChecks 0 o)
+Accepted o = Met (operand_checks 0 o)

@@ -5,50 +5,50 @@ use Rattle.std.specs.Prelude.{ℕ, ◌*◌, ◌/◌, ◌%◌, List, [], ◌∷�
 use Rattle.std.proofs.Math.Decide.{ℕ_discrete, dec_le}
 use Rattle.rows.specs.declared.Refusal.{Refusal}
 use Rattle.rows.specs.declared.Verdict.{Verdict}
-use Rattle.rows.specs.Table.{Line, need, first, told, ifFine}
+use Rattle.rows.specs.Table.{Line, need, first, told, if_fine}
 use Rattle.rules.specs.declared.Run.{Run}
 
 abbrev pub run : ℕ → ℕ → Run
 run first past = record { first = first; past = past }
 
 -- each run's first row and the row past its last, in order
-abbrev pub numbersOf : List Run → List ℕ
-numbersOf [] = []
-numbersOf (r ∷ rs) = r.first ∷ r.past ∷ numbersOf rs
+abbrev pub numbers_of : List Run → List ℕ
+numbers_of [] = []
+numbers_of (r ∷ rs) = r.first ∷ r.past ∷ numbers_of rs
 
 -- a record for each pair; a number without its pair makes none
-abbrev pub recordsOf : List ℕ → List Run
-recordsOf [] = []
-recordsOf (first ∷ []) = []
-recordsOf (first ∷ past ∷ ns) = run first past ∷ recordsOf ns
+abbrev pub records_of : List ℕ → List Run
+records_of [] = []
+records_of (first ∷ []) = []
+records_of (first ∷ past ∷ ns) = run first past ∷ records_of ns
 
 -- ---- to numbers, two for each run; later numbers stay
 
-abbrev pub numbersChecks : List Run → List ℕ → List Line
-numbersChecks rs out = need (dec_le (length rs * 2) (length out)) 8 0 ∷ []
+abbrev pub numbers_checks : List Run → List ℕ → List Line
+numbers_checks rs out = need (dec_le (length rs * 2) (length out)) 8 0 ∷ []
 
-abbrev pub toNumbersVerdict : List Run → List ℕ → Verdict
-toNumbersVerdict rs out = first (numbersChecks rs out)
+abbrev pub to_numbers_verdict : List Run → List ℕ → Verdict
+to_numbers_verdict rs out = first (numbers_checks rs out)
 
-unfoldable pub toNumbers : List Run → List ℕ → Refusal
-toNumbers rs out = told (toNumbersVerdict rs out)
+unfoldable pub to_numbers : List Run → List ℕ → Refusal
+to_numbers rs out = told (to_numbers_verdict rs out)
 
-unfoldable pub toNumbersOut : List Run → List ℕ → List ℕ
-toNumbersOut rs out = ifFine (toNumbersVerdict rs out) (numbersOf rs ++ drop (length rs * 2) out) out
+unfoldable pub to_numbers_out : List Run → List ℕ → List ℕ
+to_numbers_out rs out = if_fine (to_numbers_verdict rs out) (numbers_of rs ++ drop (length rs * 2) out) out
 
 -- ---- to records, one for each pair; later records stay. The numbers are operand 1, and 14 is told where the last has no pair
 
-abbrev pub recordsChecks : List ℕ → List Run → List Line
-recordsChecks ns out =
+abbrev pub records_checks : List ℕ → List Run → List Line
+records_checks ns out =
     need (ℕ_discrete (length ns % 2) 0) 14 1
     ∷ need (dec_le (length ns / 2) (length out)) 8 0
     ∷ []
 
-abbrev pub toRecordsVerdict : List ℕ → List Run → Verdict
-toRecordsVerdict ns out = first (recordsChecks ns out)
+abbrev pub to_records_verdict : List ℕ → List Run → Verdict
+to_records_verdict ns out = first (records_checks ns out)
 
-unfoldable pub toRecords : List ℕ → List Run → Refusal
-toRecords ns out = told (toRecordsVerdict ns out)
+unfoldable pub to_records : List ℕ → List Run → Refusal
+to_records ns out = told (to_records_verdict ns out)
 
-unfoldable pub toRecordsOut : List ℕ → List Run → List Run
-toRecordsOut ns out = ifFine (toRecordsVerdict ns out) (recordsOf ns ++ drop (length ns / 2) out) out
+unfoldable pub to_records_out : List ℕ → List Run → List Run
+to_records_out ns out = if_fine (to_records_verdict ns out) (records_of ns ++ drop (length ns / 2) out) out

@@ -10,12 +10,12 @@ use Rattle.rows.specs.declared.Verdict.{Verdict}
 use Rattle.rows.specs.declared.Verdict.TheVariants.{Fine, Refused}
 use Rattle.rows.specs.Rows.{count, recover, outside}
 use Rattle.rows.specs.Lists.{select}
-use Rattle.rows.specs.Laid.{wordsFor, written}
-use Rattle.rows.specs.Table.{Line, need, choose, first, inOrder, ifFine}
+use Rattle.rows.specs.Laid.{words_for, written}
+use Rattle.rows.specs.Table.{Line, need, choose, first, in_order, if_fine}
 use Rattle.rules.specs.declared.Recovered.{Recovered}
 use Rattle.rules.specs.Operand.{Operand, rows_of, length_of, count_of, Accepted}
-use Rattle.rules.specs.Answer.{answered, noRoute}
-use Rattle.rules.specs.Compose.{bothChecks}
+use Rattle.rules.specs.Answer.{answered, no_route}
+use Rattle.rules.specs.Compose.{both_checks}
 
 -- the rows of the second mask that lie outside self
 abbrev pub strays : Operand → Operand → List Bool
@@ -29,33 +29,33 @@ pub record Within (s k : Operand) : Type 0 where
   pub inside : count (strays s k) ≡ 0
 
 -- 7, the lengths differ; 17, a row lies outside self; 8, the output is shorter than the result
-abbrev pub lengthsChecks : Operand → Operand → List Line
-lengthsChecks s k = need (ℕ_discrete (length_of k.form) (length_of s.form)) 7 0 ∷ []
+abbrev pub lengths_checks : Operand → Operand → List Line
+lengths_checks s k = need (ℕ_discrete (length_of k.form) (length_of s.form)) 7 0 ∷ []
 
-abbrev pub insideChecks : Operand → Operand → List Line
-insideChecks s k = need (ℕ_discrete (count (strays s k)) 0) 17 0 ∷ []
+abbrev pub inside_checks : Operand → Operand → List Line
+inside_checks s k = need (ℕ_discrete (count (strays s k)) 0) 17 0 ∷ []
 
-abbrev pub roomChecks : ℕ → ℕ → List Line
-roomChecks bits room = need (dec_le (wordsFor bits) room) 8 0 ∷ []
+abbrev pub room_checks : ℕ → ℕ → List Line
+room_checks bits room = need (dec_le (words_for bits) room) 8 0 ∷ []
 
 -- the checks, for an output of `room` words: the operands', then 7, 17, 8
-abbrev pub recoverChecks : Operand → Operand → ℕ → List Line
-recoverChecks s k room = inOrder (bothChecks s k ∷ lengthsChecks s k ∷ insideChecks s k ∷ roomChecks (count_of s) room ∷ [])
+abbrev pub recover_checks : Operand → Operand → ℕ → List Line
+recover_checks s k room = in_order (both_checks s k ∷ lengths_checks s k ∷ inside_checks s k ∷ room_checks (count_of s) room ∷ [])
 
 -- a row for each rank
 abbrev pub recovery : Operand → Operand → List Bool
 recovery s k = recover (rows_of s) (rows_of k)
 
 -- by the verdict: the answer, and the first row outside self with 17, 0 with all else
-abbrev pub rowTold : Verdict → List Bool → ℕ
-rowTold Fine rows = 0
-rowTold (Refused x) rows = choose (ℕ_discrete x.number 17) (select rows 0) 0
+abbrev pub row_told : Verdict → List Bool → ℕ
+row_told Fine rows = 0
+row_told (Refused x) rows = choose (ℕ_discrete x.number 17) (select rows 0) 0
 
-abbrev pub recoveredBy : Verdict → Operand → Operand → Recovered
-recoveredBy v s k = record { answer = answered v (recovery s k) noRoute; outside = record { 0 = rowTold v (strays s k) } }
+abbrev pub recovered_by : Verdict → Operand → Operand → Recovered
+recovered_by v s k = record { answer = answered v (recovery s k) no_route; outside = record { 0 = row_told v (strays s k) } }
 
 unfoldable pub recovered : Operand → Operand → List ℕ → Recovered
-recovered s k out = recoveredBy (first (recoverChecks s k (length out))) s k
+recovered s k out = recovered_by (first (recover_checks s k (length out))) s k
 
-unfoldable pub recoveredOut : Operand → Operand → List ℕ → List ℕ
-recoveredOut s k out = ifFine (first (recoverChecks s k (length out))) (written (count_of s) (recovery s k) out) out
+unfoldable pub recovered_out : Operand → Operand → List ℕ → List ℕ
+recovered_out s k out = if_fine (first (recover_checks s k (length out))) (written (count_of s) (recovery s k) out) out

@@ -4,19 +4,19 @@
 -- Assumes nothing.
 use Rattle.std.specs.Prelude.{ℕ, ◌≡◌, List, [], ◌∷◌, take, drop}
 use Rattle.rows.specs.Rows.{count}
-use Rattle.rows.specs.Words.{bitsOfAll}
+use Rattle.rows.specs.Words.{bits_of_all}
 use Rattle.rules.specs.declared.Answer.{Answer}
 use Rattle.rules.specs.Operand.{Operand, length_of, rows_of, in_words, Accepted}
-use Rattle.rules.specs.Recover.{recovered, recoveredOut}
-use Rattle.rules.specs.RecoverStream.{Masks, masksOf, long, set, state_of, fresh, Run, run}
+use Rattle.rules.specs.Recover.{recovered, recovered_out}
+use Rattle.rules.specs.RecoverStream.{Masks, masks_of, long, set, state_of, fresh, Run, run}
 use Rattle.rules.specs.Demand3.{joined, AllAccepted, taken, summed}
 
 -- the whole recovered at once: its answer, and the output as it is left
 abbrev pub once : Masks → List ℕ → Answer
 once m out = (recovered m.self m.kept out).answer
 
-abbrev pub onceOut : Masks → List ℕ → List ℕ
-onceOut m out = recoveredOut m.self m.kept out
+abbrev pub once_out : Masks → List ℕ → List ℕ
+once_out m out = recovered_out m.self m.kept out
 
 -- pieces, each well formed, the second mask's as long as self's: cut at the same rows
 abbrev pub Pieces : List Masks → Type 0
@@ -32,8 +32,8 @@ pub record Joins (whole : Masks) (ms : List Masks) : Type 0 where
 -- the end state is its length, self's set rows and its count
 pub record Whole (whole : Masks) (out : List ℕ) (t : Run) : Type 0 where
   pub accepted : (once whole out).refusal.number ≡ 0
-  pub ranks : take (set whole) (bitsOfAll 64 t.out) ≡ take (set whole) (bitsOfAll 64 (onceOut whole out))
-  pub others : drop (set whole) (bitsOfAll 64 t.out) ≡ drop (set whole) (bitsOfAll 64 out)
+  pub ranks : take (set whole) (bits_of_all 64 t.out) ≡ take (set whole) (bits_of_all 64 (once_out whole out))
+  pub others : drop (set whole) (bits_of_all 64 t.out) ≡ drop (set whole) (bits_of_all 64 out)
   pub counts : summed t.answers ≡ (once whole out).summary.count
   pub state : t.state ≡ state_of (long whole) (count (rows_of whole.self)) (once whole out).summary.count
 
@@ -53,4 +53,4 @@ abbrev pub ConverseInWords : Type 0
 ConverseInWords =
     (out : List ℕ) (ms : List Masks)
     → let qs = taken ms (run fresh out ms).answers in
-    Whole (masksOf (in_words (joined (λ m. m.self) qs)) (in_words (joined (λ m. m.kept) qs))) out (run fresh out ms)
+    Whole (masks_of (in_words (joined (λ m. m.self) qs)) (in_words (joined (λ m. m.kept) qs))) out (run fresh out ms)

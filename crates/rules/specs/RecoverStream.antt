@@ -8,22 +8,22 @@ use Rattle.std.proofs.Math.Decide.{dec_le}
 use Rattle.rows.specs.declared.Verdict.{Verdict}
 use Rattle.rows.specs.Rows.{count}
 use Rattle.rows.specs.Laid.{laid}
-use Rattle.rows.specs.Table.{Line, need, first, inOrder, ifFine}
+use Rattle.rows.specs.Table.{Line, need, first, in_order, if_fine}
 use Rattle.rules.specs.declared.Answer.{Answer}
 use Rattle.rules.specs.declared.RecoveryState.{RecoveryState}
 use Rattle.rules.specs.declared.RecoveryFed.{RecoveryFed}
 use Rattle.rules.specs.Operand.{Operand, limit, rows_of, length_of, count_of}
-use Rattle.rules.specs.Answer.{answered, noRoute}
-use Rattle.rules.specs.Compose.{bothChecks}
-use Rattle.rules.specs.Recover.{strays, lengthsChecks, insideChecks, roomChecks, recovery, rowTold}
+use Rattle.rules.specs.Answer.{answered, no_route}
+use Rattle.rules.specs.Compose.{both_checks}
+use Rattle.rules.specs.Recover.{strays, lengths_checks, inside_checks, room_checks, recovery, row_told}
 
 -- two masks of rows: self and the second mask, whole or a piece of each
 pub record Masks : Type 0 where
   pub self : Operand
   pub kept : Operand
 
-abbrev pub masksOf : Operand → Operand → Masks
-masksOf s k = record { self = s; kept = k }
+abbrev pub masks_of : Operand → Operand → Masks
+masks_of s k = record { self = s; kept = k }
 
 -- how many rows they have, how many of them self has set, and the ranks that are recovered
 abbrev pub long : Masks → ℕ
@@ -45,27 +45,27 @@ abbrev pub fresh : RecoveryState
 fresh = state_of 0 0 0
 
 -- refusal 10's bound: kept <= ranks <= done <= 1,048,576
-abbrev pub stateChecks : RecoveryState → List Line
-stateChecks st =
+abbrev pub state_checks : RecoveryState → List Line
+state_checks st =
     need (dec_le st.kept st.ranks.0) 10 0
     ∷ need (dec_le st.ranks.0 st.done.0) 10 0
     ∷ need (dec_le st.done.0 limit) 10 0
     ∷ []
 
 -- 11, done plus the piece's length is over the limit
-abbrev pub limitChecks : ℕ → List Line
-limitChecks end = need (dec_le end limit) 11 0 ∷ []
+abbrev pub limit_checks : ℕ → List Line
+limit_checks end = need (dec_le end limit) 11 0 ∷ []
 
 -- 10; the first operand's, then the second's; 7, 11, 17, 8
-abbrev pub feedChecks : RecoveryState → Masks → ℕ → List Line
-feedChecks st m room =
-    inOrder
-    (stateChecks st
-    ∷ bothChecks m.self m.kept
-    ∷ lengthsChecks m.self m.kept
-    ∷ limitChecks (st.done.0 + long m)
-    ∷ insideChecks m.self m.kept
-    ∷ roomChecks (st.ranks.0 + set m) room
+abbrev pub feed_checks : RecoveryState → Masks → ℕ → List Line
+feed_checks st m room =
+    in_order
+    (state_checks st
+    ∷ both_checks m.self m.kept
+    ∷ lengths_checks m.self m.kept
+    ∷ limit_checks (st.done.0 + long m)
+    ∷ inside_checks m.self m.kept
+    ∷ room_checks (st.ranks.0 + set m) room
     ∷ [])
 
 -- the state after the masks: their rows, self's set rows and the result's are added
@@ -73,21 +73,21 @@ abbrev pub moved : RecoveryState → Masks → RecoveryState
 moved st m = state_of (st.done.0 + length (rows_of m.self)) (st.ranks.0 + count (rows_of m.self)) (st.kept + count (ranks m))
 
 -- by the verdict: the answer, the row of 17, the state handed back, and the output as it is left, its bits from ranks on and no other written
-abbrev pub fedBy : Verdict → RecoveryState → Masks → RecoveryFed
-fedBy v st m =
-    record { answer = answered v (ranks m) noRoute; outside = record { 0 = rowTold v (strays m.self m.kept) }; state = ifFine v (moved st m) st }
+abbrev pub fed_by : Verdict → RecoveryState → Masks → RecoveryFed
+fed_by v st m =
+    record { answer = answered v (ranks m) no_route; outside = record { 0 = row_told v (strays m.self m.kept) }; state = if_fine v (moved st m) st }
 
-abbrev pub outBy : Verdict → RecoveryState → Masks → List ℕ → List ℕ
-outBy v st m out = ifFine v (laid st.ranks.0 (ranks m) out) out
+abbrev pub out_by : Verdict → RecoveryState → Masks → List ℕ → List ℕ
+out_by v st m out = if_fine v (laid st.ranks.0 (ranks m) out) out
 
 unfoldable pub judged : RecoveryState → Masks → ℕ → Verdict
-judged st m room = first (feedChecks st m room)
+judged st m room = first (feed_checks st m room)
 
 abbrev pub fed : RecoveryState → Masks → List ℕ → RecoveryFed
-fed st m out = fedBy (judged st m (length out)) st m
+fed st m out = fed_by (judged st m (length out)) st m
 
-abbrev pub fedOut : RecoveryState → Masks → List ℕ → List ℕ
-fedOut st m out = outBy (judged st m (length out)) st m out
+abbrev pub fed_out : RecoveryState → Masks → List ℕ → List ℕ
+fed_out st m out = out_by (judged st m (length out)) st m out
 
 -- ---- feeds one after the other
 
@@ -101,4 +101,4 @@ after a t = record { answers = a ∷ t.answers; state = t.state; out = t.out }
 
 abbrev pub run : RecoveryState → List ℕ → List Masks → Run
 run st out [] = record { answers = []; state = st; out = out }
-run st out (m ∷ ms) = after (fed st m out).answer (run (fed st m out).state (fedOut st m out) ms)
+run st out (m ∷ ms) = after (fed st m out).answer (run (fed st m out).state (fed_out st m out) ms)

@@ -9,25 +9,25 @@ use Rattle.rules.specs.declared.Factors.{Factors}
 use Rattle.rules.specs.declared.Route.{Route}
 use Rattle.rules.specs.declared.Route.TheVariants.{RankMask, SelfMask, NoRows, EntryAtRank, EntryIfSet, MaskDriven, Gathered, Read}
 use Rattle.rules.specs.declared.Form.{Form}
-use Rattle.rules.specs.Operand.{Operand, length_of, count_of, emptyBy, fullBy, countsAsList}
+use Rattle.rules.specs.Operand.{Operand, length_of, count_of, empty_by, full_by, counts_as_list}
 
 -- the loop form where 16 x self count < self length
-abbrev pub wayBy : Factors → Form → ℕ → Way
-wayBy k f n = cond (ltb (k.sparse * n) (length_of f)) Loop Network
+abbrev pub way_by : Factors → Form → ℕ → Way
+way_by k f n = cond (ltb (k.sparse * n) (length_of f)) Loop Network
 
 -- self's form and its count n, the rank mask's form and its count m
-unfoldable pub routeBy : Factors → Form → ℕ → Form → ℕ → Route
-routeBy k s n r m =
-    cond (fullBy s n) RankMask
-    (cond (fullBy r m) SelfMask
-    (cond (emptyBy n) NoRows
-    (cond (emptyBy m) NoRows
-    (cond (countsAsList s) (cond (countsAsList r) EntryAtRank EntryIfSet)
+unfoldable pub route_by : Factors → Form → ℕ → Form → ℕ → Route
+route_by k s n r m =
+    cond (full_by s n) RankMask
+    (cond (full_by r m) SelfMask
+    (cond (empty_by n) NoRows
+    (cond (empty_by m) NoRows
+    (cond (counts_as_list s) (cond (counts_as_list r) EntryAtRank EntryIfSet)
     (cond (ltb (k.driven * m) (length_of r)) MaskDriven
-    (cond (countsAsList r) (Gathered (wayBy k s n)) (Read (wayBy k s n))))))))
+    (cond (counts_as_list r) (Gathered (way_by k s n)) (Read (way_by k s n))))))))
 
-abbrev pub routeOf : Factors → Operand → Operand → Route
-routeOf k s r = routeBy k s.form (count_of s) r.form (count_of r)
+abbrev pub route_of : Factors → Operand → Operand → Route
+route_of k s r = route_by k s.form (count_of s) r.form (count_of r)
 
 abbrev pub number_of : Route → ℕ
 number_of RankMask = 1

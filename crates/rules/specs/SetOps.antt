@@ -5,41 +5,41 @@
 use Rattle.std.specs.Prelude.{ℕ, Bool, not, ◌&&◌, ◌||◌, List, [], ◌∷◌, map, length}
 use Rattle.std.proofs.Math.Decide.{ℕ_discrete, dec_le}
 use Rattle.rows.specs.Word.{both}
-use Rattle.rows.specs.Laid.{wordsFor, written}
-use Rattle.rows.specs.Table.{Line, need, first, inOrder, ifFine}
+use Rattle.rows.specs.Laid.{words_for, written}
+use Rattle.rows.specs.Table.{Line, need, first, in_order, if_fine}
 use Rattle.rules.specs.declared.Answer.{Answer}
 use Rattle.rules.specs.declared.Operation.{Operation}
 use Rattle.rules.specs.declared.Operation.TheVariants.{And, Or, AndNot, Not}
-use Rattle.rules.specs.Operand.{Operand, rows_of, length_of, setChecks}
-use Rattle.rules.specs.Answer.{answered, noRoute}
+use Rattle.rules.specs.Operand.{Operand, rows_of, length_of, set_checks}
+use Rattle.rules.specs.Answer.{answered, no_route}
 
 -- in the first only
-abbrev pub andNot : Bool → Bool → Bool
-andNot x y = x && not y
+abbrev pub and_not : Bool → Bool → Bool
+and_not x y = x && not y
 
 -- what each operation does to a row of each operand; not is of the first
 abbrev pub row_of : Operation → Bool → Bool → Bool
 row_of And = ◌&&◌
 row_of Or = ◌||◌
-row_of AndNot = andNot
+row_of AndNot = and_not
 row_of Not = λ x y. not x
 
 -- ---- the checks, for an output of `room` words: each operand's, then 7, the lengths differ, then 8, the output is shorter than the answer
 
-abbrev pub pairChecks : Operand → Operand → ℕ → List Line
-pairChecks a b room =
-    inOrder
-    (setChecks 1 a
-    ∷ setChecks 2 b
+abbrev pub pair_checks : Operand → Operand → ℕ → List Line
+pair_checks a b room =
+    in_order
+    (set_checks 1 a
+    ∷ set_checks 2 b
     ∷ (need (ℕ_discrete (length_of a.form) (length_of b.form)) 7 0 ∷ [])
-    ∷ (need (dec_le (wordsFor (length_of a.form)) room) 8 0 ∷ [])
+    ∷ (need (dec_le (words_for (length_of a.form)) room) 8 0 ∷ [])
     ∷ [])
 
-abbrev pub notChecks : Operand → ℕ → List Line
-notChecks a room =
-    inOrder
-    (setChecks 1 a
-    ∷ (need (dec_le (wordsFor (length_of a.form)) room) 8 0 ∷ [])
+abbrev pub not_checks : Operand → ℕ → List Line
+not_checks a room =
+    in_order
+    (set_checks 1 a
+    ∷ (need (dec_le (words_for (length_of a.form)) room) 8 0 ∷ [])
     ∷ [])
 
 -- ---- two operands, by g row by row
@@ -48,15 +48,15 @@ abbrev pub combination : (Bool → Bool → Bool) → Operand → Operand → Li
 combination g a b = both g (rows_of a) (rows_of b)
 
 unfoldable pub combined : (Bool → Bool → Bool) → Operand → Operand → List ℕ → Answer
-combined g a b out = answered (first (pairChecks a b (length out))) (combination g a b) noRoute
+combined g a b out = answered (first (pair_checks a b (length out))) (combination g a b) no_route
 
-unfoldable pub combinedOut : (Bool → Bool → Bool) → Operand → Operand → List ℕ → List ℕ
-combinedOut g a b out = ifFine (first (pairChecks a b (length out))) (written (length_of a.form) (combination g a b) out) out
+unfoldable pub combined_out : (Bool → Bool → Bool) → Operand → Operand → List ℕ → List ℕ
+combined_out g a b out = if_fine (first (pair_checks a b (length out))) (written (length_of a.form) (combination g a b) out) out
 
 -- ---- not
 
 unfoldable pub negated : Operand → List ℕ → Answer
-negated a out = answered (first (notChecks a (length out))) (map not (rows_of a)) noRoute
+negated a out = answered (first (not_checks a (length out))) (map not (rows_of a)) no_route
 
-unfoldable pub negatedOut : Operand → List ℕ → List ℕ
-negatedOut a out = ifFine (first (notChecks a (length out))) (written (length_of a.form) (map not (rows_of a)) out) out
+unfoldable pub negated_out : Operand → List ℕ → List ℕ
+negated_out a out = if_fine (first (not_checks a (length out))) (written (length_of a.form) (map not (rows_of a)) out) out

@@ -5,15 +5,15 @@ use Rattle.std.specs.Prelude.{ℕ, ◌+◌, Bool, List, [], ◌∷◌, length}
 use Rattle.std.proofs.Math.Decide.{ℕ_discrete, dec_le}
 use Rattle.rows.specs.declared.Verdict.{Verdict}
 use Rattle.rows.specs.Rows.{count}
-use Rattle.rows.specs.Laid.{wordsFor, laid}
-use Rattle.rows.specs.Table.{Line, need, first, inOrder, ifFine}
+use Rattle.rows.specs.Laid.{words_for, laid}
+use Rattle.rows.specs.Table.{Line, need, first, in_order, if_fine}
 use Rattle.rules.specs.declared.Answer.{Answer}
 use Rattle.rules.specs.declared.State.{State}
 use Rattle.rules.specs.declared.Fed.{Fed}
 use Rattle.rules.specs.Operand.{Operand, limit, rows_of, length_of, count_of}
 use Rattle.rules.specs.Answer.{answered}
 use Rattle.rules.specs.Route.{published}
-use Rattle.rules.specs.Compose.{bothChecks, result, routed}
+use Rattle.rules.specs.Compose.{both_checks, result, routed}
 
 -- a pair: self and the rank mask, whole or a piece of each
 pub record Pair : Type 0 where
@@ -40,28 +40,28 @@ abbrev pub fresh : State
 fresh = state_of 0 0 0
 
 -- refusal 10's bound: kept <= ranks <= done <= 1,048,576
-abbrev pub stateChecks : State → List Line
-stateChecks st =
+abbrev pub state_checks : State → List Line
+state_checks st =
     need (dec_le st.kept st.ranks.0) 10 0
     ∷ need (dec_le st.ranks.0 st.done.0) 10 0
     ∷ need (dec_le st.done.0 limit) 10 0
     ∷ []
 
 -- 7, the rank piece's length is not the self piece's count; 11, done plus the piece's length is over the limit; 8
-abbrev pub pieceChecks : ℕ → ℕ → ℕ → ℕ → List Line
-pieceChecks ranks set end room =
+abbrev pub piece_checks : ℕ → ℕ → ℕ → ℕ → List Line
+piece_checks ranks set end room =
     need (ℕ_discrete ranks set) 7 0
     ∷ need (dec_le end limit) 11 0
-    ∷ need (dec_le (wordsFor end) room) 8 0
+    ∷ need (dec_le (words_for end) room) 8 0
     ∷ []
 
 -- 10; the first operand's, then the second's; 7, 11, 8
-abbrev pub feedChecks : State → Pair → ℕ → List Line
-feedChecks st p room =
-    inOrder
-    (stateChecks st
-    ∷ bothChecks p.self p.rank
-    ∷ pieceChecks (length_of p.rank.form) (count_of p.self) (st.done.0 + long p) room
+abbrev pub feed_checks : State → Pair → ℕ → List Line
+feed_checks st p room =
+    in_order
+    (state_checks st
+    ∷ both_checks p.self p.rank
+    ∷ piece_checks (length_of p.rank.form) (count_of p.self) (st.done.0 + long p) room
     ∷ [])
 
 -- the state after the pair: its rows, their set rows and the result's are added
@@ -69,20 +69,20 @@ abbrev pub moved : State → Pair → State
 moved st p = state_of (st.done.0 + length (rows_of p.self)) (st.ranks.0 + count (rows_of p.self)) (st.kept + count (kept p))
 
 -- by the verdict: the answer, the state handed back, and the output as it is left, its bits from done on and no other written
-abbrev pub fedBy : Verdict → State → Pair → Fed
-fedBy v st p = record { answer = answered v (kept p) (routed published p.self p.rank); state = ifFine v (moved st p) st }
+abbrev pub fed_by : Verdict → State → Pair → Fed
+fed_by v st p = record { answer = answered v (kept p) (routed published p.self p.rank); state = if_fine v (moved st p) st }
 
-abbrev pub outBy : Verdict → State → Pair → List ℕ → List ℕ
-outBy v st p out = ifFine v (laid st.done.0 (kept p) out) out
+abbrev pub out_by : Verdict → State → Pair → List ℕ → List ℕ
+out_by v st p out = if_fine v (laid st.done.0 (kept p) out) out
 
 unfoldable pub judged : State → Pair → ℕ → Verdict
-judged st p room = first (feedChecks st p room)
+judged st p room = first (feed_checks st p room)
 
 abbrev pub fed : State → Pair → List ℕ → Fed
-fed st p out = fedBy (judged st p (length out)) st p
+fed st p out = fed_by (judged st p (length out)) st p
 
-abbrev pub fedOut : State → Pair → List ℕ → List ℕ
-fedOut st p out = outBy (judged st p (length out)) st p out
+abbrev pub fed_out : State → Pair → List ℕ → List ℕ
+fed_out st p out = out_by (judged st p (length out)) st p out
 
 -- ---- feeds one after the other
 
@@ -96,4 +96,4 @@ after a t = record { answers = a ∷ t.answers; state = t.state; out = t.out }
 
 abbrev pub run : State → List ℕ → List Pair → Run
 run st out [] = record { answers = []; state = st; out = out }
-run st out (p ∷ ps) = after (fed st p out).answer (run (fed st p out).state (fedOut st p out) ps)
+run st out (p ∷ ps) = after (fed st p out).answer (run (fed st p out).state (fed_out st p out) ps)

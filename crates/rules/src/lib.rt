@@ -1,5 +1,7 @@
 // The book of rules: the types that a user sees; what is right of every operation stands in specs/, and the theorems about it in proofs/.
 // No code.
+#![tactic(auto)]
+
 use rows::{Rank, Refusal, Row, Way};
 
 // The form of an operand. Words and rows are lent beside it, and a slice that the form does not use is ignored.

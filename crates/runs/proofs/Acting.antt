@@ -14,7 +14,7 @@ use sound.WpLaws.{FmC}
 use Rattle.runs.proofs.Kit.{◌≡◌, refl, sym, subst, ap, ◌∙◌, ℕ, List, [], ◌∷◌, length, Ura, full_share, Name, Body, named, seq, call, Val, ent, sep, id⊢, Lft, GName, Share, Fml, ftrue, flft, lft_new, lft_end, Env, Calls, Loops, sem, fact, Item, ‵, raw, ◌⊛◌, some, later, ◌$◌, ◌∵◌, !, qed, move, drop, use1, use2, use3, split, join, pick, rewrite, fsplit, fjoin, feq_l, frame, await, done, RattleType, Is, shows, RefT, now, slice_val, MutSlice, Room, finally, plain, One, SliceRefMutOf, nothing, owned, peeks, heard, Contract, Triple, calls_at, triple_of, Ended, Clauses, Lasts, ensured, lasts, closing, says, yes}
 use Rattle.runs.proofs.Again.{LentAgain, lends_again, comes_back}
 use Rattle.runs.proofs.Walk.{Value}
-use Rattle.runs.proofs.Plainly.{spelt, is-spelt}
+use Rattle.runs.proofs.Plainly.{spelt, is_spelt}
 
 -- what a callee asks and says, and what follows from it: what it gives and leaves, and what is learnt beside
 pub record Acting (J X G : Type 0) : Type 1 where
@@ -28,8 +28,8 @@ pub record Acting (J X G : Type 0) : Type 1 where
   pub learnt : (j : J) (zs : List X) (r : G) (l : List X) → Says j zs r l → Learnt j zs
 
 module _ (J X G : RattleType) (one : One X.mir) (D : Value J) (D' : Value G) (P : Acting J.Denot X.Denot G.Denot) where
-  abbrev actsEnded : Ended
-  actsEnded = record {
+  abbrev acts_ended : Ended
+  acts_ended = record {
     signature = record {
       lifetimes = 1;
       outlives = [];
@@ -40,15 +40,15 @@ module _ (J X G : RattleType) (one : One X.mir) (D : Value J) (D' : Value G) (P 
     kept = (yes, (yes, tt));
   }
 
-  abbrev actsClauses : {M : Type 1} (𝓤 : Ura M) → Clauses 𝓤 actsEnded
-  actsClauses 𝓤 κs a = record {
+  abbrev acts_clauses : {M : Type 1} (𝓤 : Ura M) → Clauses 𝓤 acts_ended
+  acts_clauses 𝓤 κs a = record {
     ghost = Unit {0};
     requires = λ g. fact 𝓤 (P.Asks a.0 (now a.1.0));
     ensures = λ g r e. fact 𝓤 (P.Says a.0 (now a.1.0) r (now e.1.0));
   }
 
   abbrev pub Acts : {M : Type 1} {𝓤 : Ura M} (𝓛 : Logic 𝓤) → Contract 𝓤
-  Acts {𝓤 = 𝓤} 𝓛 = triple_of 𝓛 actsEnded.signature (closing 𝓛 actsEnded (actsClauses 𝓤))
+  Acts {𝓤 = 𝓤} 𝓛 = triple_of 𝓛 acts_ended.signature (closing 𝓛 acts_ended (acts_clauses 𝓤))
 
   -- n is the count in out's machine value, which its list has too
   module _ {M : Type 1} {𝓤 : Ura M} (𝓛 : Logic 𝓤) (κ₁ : Lft) (q₁ : Share) (b o : ℕ) (γ : GName) (n : ℕ) (j : J.Denot)
@@ -88,9 +88,9 @@ module _ (J X G : RattleType) (one : One X.mir) (D : Value J) (D' : Value G) (P 
       made t fm known κ' q' δ os k =
           calls_at t fm (Acts 𝓛) known (to κ' q' δ) os (λ v.
           use1 𝓛 (later (some (λ (u : G.Denot). ((‵ (flft κ' q') ⊛ ‵ ftrue) ⊛ ‵ (G.own_val u (v ∷ []))) ⊛
-          raw (ensured 𝓛 actsEnded (actsClauses 𝓤) (κ', tt) (to κ' q' δ).0.3 tt u)))) (id⊢ 𝓤 _) $ await t tt $ pick t (λ u.
-          split t $ move t (1 ∷ []) $ use1 𝓛 (some (λ (ws : Lasts actsEnded (κ', tt) (to κ' q' δ).0.3).
-          ‵ (lasts actsEnded (κ', tt) (to κ' q' δ).0.3 ws) ⊛ raw (fact 𝓤 (P.Says j zs u ws.1.0)))) (id⊢ 𝓤 _) $ pick t (λ ws.
+          raw (ensured 𝓛 acts_ended (acts_clauses 𝓤) (κ', tt) (to κ' q' δ).0.3 tt u)))) (id⊢ 𝓤 _) $ await t tt $ pick t (λ u.
+          split t $ move t (1 ∷ []) $ use1 𝓛 (some (λ (ws : Lasts acts_ended (κ', tt) (to κ' q' δ).0.3).
+          ‵ (lasts acts_ended (κ', tt) (to κ' q' δ).0.3 ws) ⊛ raw (fact 𝓤 (P.Says j zs u ws.1.0)))) (id⊢ 𝓤 _) $ pick t (λ ws.
           split t $ move t (1 ∷ []) $ heard t (P.Says j zs u ws.1.0) (λ e.
           fsplit t $ drop t $ fsplit t $ fsplit t $ move t (1 ∷ []) $ feq_l t (λ same.
           move t (2 ∷ []) $ split t $ move t (1 ∷ []) $ peeks t G (Is G) (shows 𝓛 G) u (v ∷ []) (λ is. drop t $ split t $
@@ -100,17 +100,17 @@ module _ (J X G : RattleType) (one : One X.mir) (D : Value J) (D' : Value G) (P 
           let e₁ = P.left j zs u ws.1.0 e in
           subst (λ (l : List X.Denot). Seq K 𝓛 (‵ (finally X δ l) ∷ ‵ (flft κ' q') ∷ Γ) (lands C Λ E d v rest p)) (sym e₁)
           (subst (λ (z : Val). Seq K 𝓛 (‵ (finally X δ last) ∷ ‵ (flft κ' q') ∷ Γ) (lands C Λ E d z rest p)) (sym (spelt G D' u result v e₀ is))
-          (k (is-spelt G D' u result v e₀ is) (ap length (sym e₁) ∙ same) (P.learnt j zs u ws.1.0 e)))))))))
+          (k (is_spelt G D' u result v e₀ is) (ap length (sym e₁) ∙ same) (P.learnt j zs u ws.1.0 e)))))))))
 
     module _ {K : Type 0} {Γ : List (Item 𝓤)} {E : Env 𝓤 H} {C : Calls 𝓤 H} {f : Name} {xs : List Operand} {Λ : Loops 𝓤 H} {p : Post 𝓤 H}
         {d : Place} {rest : Body} where
-      pub calls-acting : K → FmC 𝓤 H 𝓛.laws C → Triple 𝓤 (C f) (Acts 𝓛) → Is J j (D.spell j ∷ []) → P.Asks j zs → length zs ≡ n → Room X n
+      pub calls_acting : K → FmC 𝓤 H 𝓛.laws C → Triple 𝓤 (C f) (Acts 𝓛) → Is J j (D.spell j ∷ []) → P.Asks j zs → length zs ≡ n → Room X n
           → ((ν : ℕ) (δ : GName) → Opds K 𝓛 (raw ((Acts 𝓛).pre (to (ν ∷ []) full_share δ)) ∷ ‵ (LentAgain X κ₁ (ν ∷ []) q₁ γ b o δ zs) ∷ Γ) E xs
           ((Acts 𝓛).args (to κ₁ q₁ γ)))
           → (Is G result (D'.spell result ∷ []) → length last ≡ n → P.Learnt j zs
           → Seq K 𝓛 (‵ (Out κ₁ γ last) ∷ ‵ (flft κ₁ q₁) ∷ Γ) (lands C Λ E d (D'.spell result) rest p))
           → Seq K 𝓛 (‵ (Out κ₁ γ zs) ∷ ‵ (flft κ₁ q₁) ∷ Γ) (runs C Λ E (seq (call f xs d) rest) p)
-      calls-acting t fm known g asked len room os k =
+      calls_acting t fm known g asked len room os k =
           rewrite t 0 (λ (c : ℕ). ‵ ((MutSlice (named 0) κ₁ X).own_val (lent γ zs) (slice_val (b, o) c ∷ []))) (sym len) refl $
           lft_new t tt (λ ν. move t (1 ∷ 2 ∷ []) $
           use2 𝓛 (later (some (λ (δ : GName). ‵ ((MutSlice (named 0) (ν ∷ []) X).own_val (lent δ zs) (slice_val (b, o) (length zs) ∷ [])) ⊛

@@ -14,9 +14,9 @@ use Rattle.runs.proofs.Kit.{◌≡◌, refl, ℕ, List, [], ◌∷◌, length, U
 use Rattle.rules.specs.declared.Run.{Run}
 use Rattle.runs.proofs.Values.{number}
 use Rattle.runs.proofs.Walk.{Value}
-use Rattle.runs.proofs.Plainly.{One, calls-one, Two, calls-two}
-use Rattle.runs.proofs.Reading.{Reads, calls-reading}
-use Rattle.runs.proofs.Filling.{Fills, calls-filling}
+use Rattle.runs.proofs.Plainly.{One, calls_one, Two, calls_two}
+use Rattle.runs.proofs.Reading.{Reads, calls_reading}
+use Rattle.runs.proofs.Filling.{Fills, calls_filling}
 use Rattle.rules.specs.contracts.Run as T
 use Rattle.rules.proofs.Run.TheLaws as T'
 
@@ -37,8 +37,8 @@ again = ty_ref erased mut (pointee (T.the_row).written)
 
 -- ---- the code: the types of the form, the job, the plan and the result, and the callees by their names
 module _ (φ γ π ρ : Ty) (plan room start count fill tells : Name) where
-  abbrev pub draftFn : Fn
-  draftFn = record {
+  abbrev pub draft_fn : Fn
+  draft_fn = record {
     lifetimes = 3;
     outlives = [];
     params = 4;
@@ -178,13 +178,13 @@ module _ (F C P G : RattleType) (DF : Value F) (DC : Value C) (DP : Value P) (DG
         → Triple 𝓤 (𝓣.C #count) (Counts 𝓛) → Triple 𝓤 (𝓣.C #fill) (Stores 𝓛) → Triple 𝓤 (𝓣.C #tells) (Tells 𝓛)
         → Is F f (DF.spell f ∷ []) → Room u64 (length ws) → Room u32 (length es) → Room T.the_row m
         → ent 𝓤 (on_entry 𝓛 ended.signature (κ₁, (κ₂, (κ₃, tt))) (q₁, (q₂, (q₃, tt))) (f, (s₁, (s₂, (out ys, tt)))) at)
-        (WpFn 𝓤 H 𝓣.C 𝓣.Λ (draftFn DF.ty DC.ty DP.ty DG.ty #plan #room #start #count #fill #tells)
+        (WpFn 𝓤 H 𝓣.C 𝓣.Λ (draft_fn DF.ty DC.ty DP.ty DG.ty #plan #room #start #count #fill #tells)
         (DF.spell f ∷ slice_val s₁.ptr (length ws) ∷ slice_val s₂.ptr (length es) ∷ slice_val (b, o) m ∷ []) Post)
     walk 𝓣 known-plan known-room Known-start known-count known-fill Known-Tells g gw ge gy =
         let fm = fm_of 𝓤 H 𝓛.laws 𝓣 in
         qed 𝓛 ((‵ (flft κ₁ q₁) ⊛ (‵ (flft κ₂ q₂) ⊛ (‵ (flft κ₃ q₃) ⊛ ‵ ftrue)))
         ∷ ‵ (owns (F ∷ ShrSlice (named 0) κ₁ u64 ∷ ShrSlice (named 1) κ₂ u32 ∷ MutSlice (named 2) κ₃ T.the_row ∷ []) (f, (s₁, (s₂, (out ys, tt)))) at) ∷ []) ∵
-        enter ! 𝓣.C 𝓣.Λ (draftFn DF.ty DC.ty DP.ty DG.ty #plan #room #start #count #fill #tells)
+        enter ! 𝓣.C 𝓣.Λ (draft_fn DF.ty DC.ty DP.ty DG.ty #plan #room #start #count #fill #tells)
         (DF.spell f ∷ slice_val s₁.ptr (length ws) ∷ slice_val s₂.ptr (length es) ∷ slice_val (b, o) m ∷ []) _ $
         alloc1 ! (λ l₀. alloc1 ! (λ l₁. alloc1 ! (λ l₂. alloc1 ! (λ l₃. alloc1 ! (λ l₄. alloc1 ! (λ l₅. alloc1 ! (λ l₆. alloc1 ! (λ l₇.
         alloc1 ! (λ l₈. alloc1 ! (λ l₉. alloc1 ! (λ l₁₀. alloc1 ! (λ l₁₁.
@@ -196,19 +196,19 @@ module _ (F C P G : RattleType) (DF : Value F) (DC : Value C) (DP : Value P) (DG
         keep ! (4 ∷ 0 ∷ 7 ∷ 3 ∷ 6 ∷ 2 ∷ 30 ∷ 28 ∷ 26 ∷ 24 ∷ 22 ∷ 20 ∷ 18 ∷ 16 ∷ 14 ∷ 12 ∷ 10 ∷ 8 ∷ 31 ∷ 29 ∷ 27 ∷ 25 ∷ 23 ∷ 21 ∷ 19 ∷ 17 ∷ 15 ∷ 13 ∷ 11 ∷ 9
         ∷ []) $
         -- the plan, held against the room
-        move ! (2 ∷ 3 ∷ 4 ∷ 5 ∷ []) $ calls-reading u64 u32 F P tt tt DF DP Free X.plan 𝓛 κ₁ κ₂ q₁ q₂ s₁ s₂ f ! fm false known-plan g tt
+        move ! (2 ∷ 3 ∷ 4 ∷ 5 ∷ []) $ calls_reading u64 u32 F P tt tt DF DP Free X.plan 𝓛 κ₁ κ₂ q₁ q₂ s₁ s₂ f ! fm false known-plan g tt
         (and_then ! (load ! (from ! (stop !)) (look ! 7 refl))
         (and_then ! (load ! (from ! (stop !)) (look ! 8 refl)) (and_then ! (load ! (from ! (stop !)) (look ! 6 refl)) (no_more !)))) (λ is_found.
         land ! (from ! (stop !)) (init ! 11 refl (DP.typed 𝓛 found _ is_found)) $ move ! (4 ∷ 5 ∷ []) $
         assigns ! (of_opd ! (load ! (from ! (fld ! refl (stop !))) (look_in ! 10 (sub ! 1 refl (whole !))))) (from ! (stop !))
         (init ! 13 refl (tt, record { fits = gy.0 })) $
-        calls-two P usize P DP number DP X.room 𝓛 found m ! fm known-room is_found (refl, gy.0)
+        calls_two P usize P DP number DP X.room 𝓛 found m ! fm known-room is_found (refl, gy.0)
         (and_then ! (load ! (from ! (stop !)) (look ! 12 refl)) (and_then ! (load ! (from ! (stop !)) (look ! 14 refl)) (no_more !))) (λ is-planned.
         land ! (from ! (stop !)) (init ! 12 refl (DP.typed 𝓛 planned _ is-planned)) $
         -- where the search starts, and how many runs it finds
-        calls-one F C DF DC X.start 𝓛 f ! fm Known-start g (and_then ! (load ! (from ! (stop !)) (look ! 8 refl)) (no_more !)) (λ is-start.
+        calls_one F C DF DC X.start 𝓛 f ! fm Known-start g (and_then ! (load ! (from ! (stop !)) (look ! 8 refl)) (no_more !)) (λ is-start.
         land ! (from ! (stop !)) (init ! 14 refl (DC.typed 𝓛 (X.start f) _ is-start)) $
-        calls-one P usize DP number X.count 𝓛 planned ! fm known-count is-planned (and_then ! (load ! (from ! (stop !)) (look ! 13 refl)) (no_more !))
+        calls_one P usize DP number X.count 𝓛 planned ! fm known-count is-planned (and_then ! (load ! (from ! (stop !)) (look ! 13 refl)) (no_more !))
         (λ is-count.
         land ! (from ! (stop !)) (init ! 15 refl (number.typed 𝓛 n _ is-count)) $
         -- the records
@@ -216,7 +216,7 @@ module _ (F C P G : RattleType) (DF : Value F) (DC : Value C) (DP : Value P) (DG
         assigns ! (agg ! (and_then ! (load ! (from ! (stop !)) (look ! 16 refl))
         (and_then ! (load ! (from ! (fld ! refl (stop !))) (look_in ! 10 (sub ! 1 refl (whole !)))) (no_more !))))
         (from ! (stop !)) (init ! 17 refl (tt, (tt, (record { fits = gy.0 }, tt)))) $
-        calls-filling u64 u32 C T.the_row tt tt tt DC X.Asks X.leaves 𝓛 κ₁ κ₂ κ₃ q₁ q₂ q₃ s₁ s₂ b o γ m (X.start f) n ys ! fm known-fill is-start
+        calls_filling u64 u32 C T.the_row tt tt tt DC X.Asks X.leaves 𝓛 κ₁ κ₂ κ₃ q₁ q₂ q₃ s₁ s₂ b o γ m (X.start f) n ys ! fm known-fill is-start
         is-count.1 (X.fits f ws es ys) refl gy
         (λ ν δ. and_then ! (load ! (from ! (stop !)) (look ! 6 refl))
         (and_then ! (load ! (from ! (stop !)) (look ! 7 refl))
@@ -224,7 +224,7 @@ module _ (F C P G : RattleType) (DF : Value F) (DC : Value C) (DP : Value P) (DG
         (and_then ! (load ! (from ! (stop !)) (look ! 13 refl)) (and_then ! (load ! (from ! (stop !)) (look ! 15 refl)) (no_more !)))))) (λ same.
         land ! (from ! (stop !)) (store ! 13 refl (number.typed 𝓛 n _ is-count)) $
         -- and what is told
-        calls-one P G DP DG X.tells 𝓛 planned ! fm Known-Tells is-planned (and_then ! (load ! (from ! (stop !)) (look ! 13 refl)) (no_more !)) (λ is-told.
+        calls_one P G DP DG X.tells 𝓛 planned ! fm Known-Tells is-planned (and_then ! (load ! (from ! (stop !)) (look ! 13 refl)) (no_more !)) (λ is-told.
         land ! (from ! (stop !)) (init ! 6 refl (DG.typed 𝓛 (X.tells planned) _ is-told)) $ returns ! (look ! 6 refl) $
         forget ! 6 refl $ forget ! 7 refl $ forget ! 8 refl $ forget ! 9 refl $ forget ! 10 refl $ forget ! 11 refl $ forget ! 12 refl $
         forget ! 13 refl $ forget ! 14 refl $ forget ! 15 refl $ forget ! 16 refl $ forget ! 17 refl $
@@ -242,7 +242,7 @@ module _ (F C P G : RattleType) (DF : Value F) (DC : Value C) (DP : Value P) (DG
     open 𝓛 use {H}
 
     abbrev function : Fn
-    function = draftFn DF.ty DC.ty DP.ty DG.ty #plan #room #start #count #fill #tells
+    function = draft_fn DF.ty DC.ty DP.ty DG.ty #plan #room #start #count #fill #tells
 
     walks : Walks 𝓛 ended stayed (WpFn 𝓤 H 𝓣.C 𝓣.Λ function) (clauses 𝓤)
     walks = walked 𝓛 ended stayed (clauses 𝓤) (WpFn 𝓤 H 𝓣.C 𝓣.Λ function)
@@ -259,8 +259,8 @@ module _ (F C P G : RattleType) (DF : Value F) (DC : Value C) (DP : Value P) (DG
         a.1.1.1.0.ref_ptr.0 a.1.1.1.0.ref_ptr.1 a.1.1.1.0.ghost_name a.1.1.1.0.now
         𝓣 known-plan known-room Known-start known-count known-fill Known-Tells are.0 are.1.0.0.1 are.1.1.0.0.1 are.1.1.1.0.0.1))
 
-    pub draft-meets : Meets 𝓛 ended.signature (WpFn 𝓤 H 𝓣.C 𝓣.Λ function) (closing 𝓛 ended (clauses 𝓤))
-    draft-meets = walk_Meets 𝓛 ended stayed (
+    pub draft_meets : Meets 𝓛 ended.signature (WpFn 𝓤 H 𝓣.C 𝓣.Λ function) (closing 𝓛 ended (clauses 𝓤))
+    draft_meets = walk_Meets 𝓛 ended stayed (
       Goes-none 𝓛 3 (λ _. F) yes (λ κs x e. DF.silent x e),
       (
         Goes-none_slice 𝓛 3 (0 ∷ []) tt (plain (λ _. u64)) yes,

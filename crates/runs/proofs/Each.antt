@@ -55,8 +55,8 @@ module _ (j x : Ty) (step : Name) where
   abbrev pub after : Body
   after = seq (assign (place 0 []) (rv_opd (copy (place 4 [])))) return
 
-  abbrev pub eachFn : Fn
-  eachFn = record {
+  abbrev pub each_fn : Fn
+  each_fn = record {
     lifetimes = 2;
     outlives = [];
     params = 3;
@@ -77,14 +77,14 @@ pub record Stepping (J X : Type 0) : Type 1 where
   pub outs : List Run → J → List X → List X
   pub ready : (r : Run) (rs : List Run) (j : J) (o : List X) → Ready (r ∷ rs) j o → Asks j r.first r.past o × Ready rs (job j r.first r.past o)
       (out j r.first r.past o)
-  pub jobs-nil : (j : J) (o : List X) → jobs [] j o ≡ j
-  pub jobs-cons : (r : Run) (rs : List Run) (j : J) (o : List X) → jobs (r ∷ rs) j o ≡ jobs rs (job j r.first r.past o) (out j r.first r.past o)
-  pub outs-nil : (j : J) (o : List X) → outs [] j o ≡ o
-  pub outs-cons : (r : Run) (rs : List Run) (j : J) (o : List X) → outs (r ∷ rs) j o ≡ outs rs (job j r.first r.past o) (out j r.first r.past o)
+  pub jobs_nil : (j : J) (o : List X) → jobs [] j o ≡ j
+  pub jobs_cons : (r : Run) (rs : List Run) (j : J) (o : List X) → jobs (r ∷ rs) j o ≡ jobs rs (job j r.first r.past o) (out j r.first r.past o)
+  pub outs_nil : (j : J) (o : List X) → outs [] j o ≡ o
+  pub outs_cons : (r : Run) (rs : List Run) (j : J) (o : List X) → outs (r ∷ rs) j o ≡ outs rs (job j r.first r.past o) (out j r.first r.past o)
 
 module _ (J X : RattleType) (one : One X.mir) (D : Value J) (x : Ty) (P : Stepping J.Denot X.Denot) where
-  abbrev pub stepEnded : Ended
-  stepEnded = record {
+  abbrev pub step_ended : Ended
+  step_ended = record {
     signature = record {
       lifetimes = 1;
       outlives = [];
@@ -95,8 +95,8 @@ module _ (J X : RattleType) (one : One X.mir) (D : Value J) (x : Ty) (P : Steppi
     kept = (yes, (yes, (yes, (yes, tt))));
   }
 
-  abbrev pub eachEnded : Ended
-  eachEnded = record {
+  abbrev pub each_ended : Ended
+  each_ended = record {
     signature = record {
       lifetimes = 2;
       outlives = [];
@@ -107,20 +107,20 @@ module _ (J X : RattleType) (one : One X.mir) (D : Value J) (x : Ty) (P : Steppi
     kept = (yes, (yes, (yes, tt)));
   }
 
-  abbrev stayed : Stays eachEnded.signature.params eachEnded.kept
+  abbrev stayed : Stays each_ended.signature.params each_ended.kept
   stayed = (stay_none_slice (0 ∷ []) tt (plain (λ _. T.the_row)) yes, (stay_none (λ _. J) yes, (stay_slice (1 ∷ []) tt (plain (λ _. X)), tt)))
 
   module _ {M : Type 1} (𝓤 : Ura M) where
-    abbrev pub stepClauses : Clauses 𝓤 stepEnded
-    stepClauses κs a = record {
+    abbrev pub step_clauses : Clauses 𝓤 step_ended
+    step_clauses κs a = record {
       ghost = Unit {0};
       requires = λ g. fact 𝓤 (P.Asks a.0 a.1.0 a.1.1.0 (now a.1.1.1.0));
       ensures = λ g r e. fact 𝓤 ((r ≡ P.job a.0 a.1.0 a.1.1.0 (now a.1.1.1.0)) ×
           (now e.1.1.1.0 ≡ P.out a.0 a.1.0 a.1.1.0 (now a.1.1.1.0)));
     }
 
-    abbrev pub eachClauses : Clauses 𝓤 eachEnded
-    eachClauses κs a = record {
+    abbrev pub each_clauses : Clauses 𝓤 each_ended
+    each_clauses κs a = record {
       ghost = Unit {0};
       requires = λ g. fact 𝓤 (P.Ready (now a.0) a.1.0 (now a.1.1.0));
       ensures = λ g r e. fact 𝓤 ((r ≡ P.jobs (now a.0) a.1.0 (now a.1.1.0)) ×
@@ -129,7 +129,7 @@ module _ (J X : RattleType) (one : One X.mir) (D : Value J) (x : Ty) (P : Steppi
 
   module _ {M : Type 1} {𝓤 : Ura M} (𝓛 : Logic 𝓤) where
     abbrev pub Step : Contract 𝓤
-    Step = triple_of 𝓛 stepEnded.signature (closing 𝓛 stepEnded (stepClauses 𝓤))
+    Step = triple_of 𝓛 step_ended.signature (closing 𝓛 step_ended (step_clauses 𝓤))
 
   module _ {M : Type 1} {𝓤 : Ura M} (𝓛 : Logic 𝓤) (name : Name) (κ κ₁ : Lft) (q q₁ : Share) (b o b₁ o₁ : ℕ) (γ γ₁ : GName)
       (ys : List Run) (j₀ : J.Denot) (os : List X.Denot) where
@@ -145,14 +145,14 @@ module _ (J X : RattleType) (one : One X.mir) (D : Value J) (x : Ty) (P : Steppi
     abbrev lent : GName → List X.Denot → MutBor (List X.Denot)
     lent δ l = record { ref_ptr = (b₁, o₁); ghost_name = δ; now = l }
 
-    abbrev a : Args eachEnded.signature (κ, (κ₁, tt))
+    abbrev a : Args each_ended.signature (κ, (κ₁, tt))
     a = (record { ref_ptr = (b, o); ghost_name = γ; now = ys }, (j₀, (lent γ₁ os, tt)))
 
-    abbrev at : Vals eachEnded.signature (κ, (κ₁, tt))
+    abbrev at : Vals each_ended.signature (κ, (κ₁, tt))
     at = (slice_val (b, o) n ∷ [], (D.spell j₀ ∷ [], (slice_val (b₁, o₁) n₁ ∷ [], tt)))
 
     abbrev Post : Val → SProp 𝓤
-    Post = (walk_of 𝓛 eachEnded stayed (eachClauses 𝓤)).post (((κ, (κ₁, tt)), (q, (q₁, tt)), tt, a, at), tt)
+    Post = (walk_of 𝓛 each_ended stayed (each_clauses 𝓤)).post (((κ, (κ₁, tt)), (q, (q₁, tt)), tt, a, at), tt)
 
     abbrev Own : Fml
     Own = (ShrSlice (named 0) κ T.the_row).own_val a.0 at.0
@@ -165,7 +165,7 @@ module _ (J X : RattleType) (one : One X.mir) (D : Value J) (x : Ty) (P : Steppi
         → ent 𝓤 (⋆ 𝓛 (‵ (flft κ q) ∷ ‵ (flft κ₁ q₁) ∷ ‵ Own ∷ ‵ (Own₁ zs) ∷ [])) (Post (D.spell j))
     exits j zs g₀ g len e =
         qed 𝓛 (‵ (flft κ q) ∷ ‵ (flft κ₁ q₁) ∷ ‵ Own ∷ ‵ (Own₁ zs) ∷ []) ∵
-        suffices ! _ (ends_at 𝓛 eachEnded stayed (eachClauses 𝓤) (((κ, (κ₁, tt)), (q, (q₁, tt)), tt, a, at), tt) (D.spell j) j
+        suffices ! _ (ends_at 𝓛 each_ended stayed (each_clauses 𝓤) (((κ, (κ₁, tt)), (q, (q₁, tt)), tt, a, at), tt) (D.spell j) j
         (tt, (D.last j₀, (zs, tt))) (tt, (tt, (len, tt)))) $ says ! e $
         nothing ! $ move ! (2 ∷ 0 ∷ []) $ join ! $ move ! (1 ∷ 0 ∷ []) $ join ! $
         nothing ! $ move ! (3 ∷ 0 ∷ []) $ fjoin ! $ owned ! J (Is J) (D.makes 𝓛) j₀ _ g₀ $ fjoin ! $ move ! (2 ∷ 0 ∷ []) $ fjoin ! $
@@ -238,11 +238,11 @@ module _ (J X : RattleType) (one : One X.mir) (D : Value J) (x : Ty) (P : Steppi
         pub jobs : P.jobs (dropped i ys) j zs ≡ P.jobs ys j₀ os
         pub outs : P.outs (dropped i ys) j zs ≡ P.outs ys j₀ os
 
-      abbrev At-of : ℕ × (J.Denot × List X.Denot) → SProp 𝓤
-      At-of s = ⋆ 𝓛 (At s.0 s.1.0 s.1.1)
+      abbrev At_of : ℕ × (J.Denot × List X.Denot) → SProp 𝓤
+      At_of s = ⋆ 𝓛 (At s.0 s.1.0 s.1.1)
 
       abbrev Inv : ℕ → SProp 𝓤
-      Inv m = ex 𝓤 (λ (s : ℕ × (J.Denot × List X.Denot)). guard 𝓤 (Known m s.0 s.1.0 s.1.1) (At-of s))
+      Inv m = ex 𝓤 (λ (s : ℕ × (J.Denot × List X.Denot)). guard 𝓤 (Known m s.0 s.1.0 s.1.1) (At_of s))
 
       abbrev Below : ℕ → SProp 𝓤
       Below m = ex 𝓤 (λ (m' : ℕ). guard 𝓤 (m' < m) (Inv m'))
@@ -296,9 +296,9 @@ module _ (J X : RattleType) (one : One X.mir) (D : Value J) (x : Ty) (P : Steppi
           (and_then ! (load ! (from ! (fld ! refl (stop !))) (look_in ! 11 (sub ! 1 refl (whole !))))
           (and_then ! (load ! (from ! (stop !)) (look ! 17 refl)) (no_more !))))) (λ v.
           use1 𝓛 (later (some (λ (u : J.Denot). ((‵ (flft (ν ∷ []) full_share) ⊛ ‵ ftrue) ⊛ ‵ (J.own_val u (v ∷ []))) ⊛ raw
-          (ensured 𝓛 stepEnded (stepClauses 𝓤) (ν ∷ [], tt) (to j zs r ν δ).0.3 tt u)))) (id⊢ 𝓤 _) $ await ! tt $ pick ! (λ u.
-          split ! $ move ! (1 ∷ []) $ use1 𝓛 (some (λ (ws : Lasts stepEnded (ν ∷ [], tt) (to j zs r ν δ).0.3). ‵
-          (lasts stepEnded (ν ∷ [], tt) (to j zs r ν δ).0.3 ws) ⊛ raw
+          (ensured 𝓛 step_ended (step_clauses 𝓤) (ν ∷ [], tt) (to j zs r ν δ).0.3 tt u)))) (id⊢ 𝓤 _) $ await ! tt $ pick ! (λ u.
+          split ! $ move ! (1 ∷ []) $ use1 𝓛 (some (λ (ws : Lasts step_ended (ν ∷ [], tt) (to j zs r ν δ).0.3). ‵
+          (lasts step_ended (ν ∷ [], tt) (to j zs r ν δ).0.3 ws) ⊛ raw
           (fact 𝓤 ((u ≡ P.job j r.first r.past zs) × (ws.1.1.1.0 ≡ P.out j r.first r.past zs))))) (id⊢ 𝓤 _) $ pick ! (λ ws.
           split ! $ move ! (1 ∷ []) $ heard ! ((u ≡ P.job j r.first r.past zs) × (ws.1.1.1.0 ≡ P.out j r.first r.past zs)) (λ e.
           fsplit ! $ drop ! $ fsplit ! $ drop ! $ fsplit ! $ drop ! $ fsplit ! $ fsplit ! $ move ! (1 ∷ []) $ feq_l ! (λ same.
@@ -345,20 +345,20 @@ module _ (J X : RattleType) (one : One X.mir) (D : Value J) (x : Ty) (P : Steppi
           free1 ! $ move ! (4 ∷ 5 ∷ []) $ free1 ! $ free0 ! $
           keep ! (0 ∷ 2 ∷ 3 ∷ 1 ∷ []) $ by ! (exits j zs g₀ g len e)
 
-      into : (m : ℕ) (s : ℕ × (J.Denot × List X.Denot)) → Known m s.0 s.1.0 s.1.1 → ent 𝓤 (At-of s) (Inv m)
-      into m s h = via 𝓤 (guard 𝓤 (Known m s.0 s.1.0 s.1.1) (At-of s)) (guard_i 𝓤 (Known m s.0 s.1.0 s.1.1) (At-of s) h)
-          (ex_i 𝓤 (λ (u : ℕ × (J.Denot × List X.Denot)). guard 𝓤 (Known m u.0 u.1.0 u.1.1) (At-of u)) s)
+      into : (m : ℕ) (s : ℕ × (J.Denot × List X.Denot)) → Known m s.0 s.1.0 s.1.1 → ent 𝓤 (At_of s) (Inv m)
+      into m s h = via 𝓤 (guard 𝓤 (Known m s.0 s.1.0 s.1.1) (At_of s)) (guard_i 𝓤 (Known m s.0 s.1.0 s.1.1) (At_of s) h)
+          (ex_i 𝓤 (λ (u : ℕ × (J.Denot × List X.Denot)). guard 𝓤 (Known m u.0 u.1.0 u.1.1) (At_of u)) s)
 
       turn_at : (m i : ℕ) (j : J.Denot) (zs : List X.Denot) → Known m i j zs → ent 𝓤 (⋆ 𝓛 (At i j zs))
           (Wp 𝓤 H C Λ En (turn τ x name) (after_turn 𝓤 H (Below m) Left))
       turn_at zero i j zs h =
-          let at-end : i ≡ n = sym (add-zero i) ∙ h.left in
-          let gone : dropped i ys ≡ [] = ap (λ (c : ℕ). dropped c ys) at-end ∙ drop-length ys in
-          subst (λ (c : ℕ). ent 𝓤 (⋆ 𝓛 (At c j zs)) (Wp 𝓤 H C Λ En (turn τ x name) (after_turn 𝓤 H (Below zero) Left))) (sym at-end)
+          let at_end : i ≡ n = sym (add-zero i) ∙ h.left in
+          let gone : dropped i ys ≡ [] = ap (λ (c : ℕ). dropped c ys) at_end ∙ drop-length ys in
+          subst (λ (c : ℕ). ent 𝓤 (⋆ 𝓛 (At c j zs)) (Wp 𝓤 H C Λ En (turn τ x name) (after_turn 𝓤 H (Below zero) Left))) (sym at_end)
           (ends j zs (Below zero) h.spelt h.long (
-            sym (P.jobs-nil j zs) ∙ ap (λ (rs : List Run). P.jobs rs j zs) (sym gone)
+            sym (P.jobs_nil j zs) ∙ ap (λ (rs : List Run). P.jobs rs j zs) (sym gone)
                 ∙ h.jobs,
-            sym (P.outs-nil j zs) ∙ ap (λ (rs : List Run). P.outs rs j zs) (sym gone) ∙ h.outs,
+            sym (P.outs_nil j zs) ∙ ap (λ (rs : List Run). P.outs rs j zs) (sym gone) ∙ h.outs,
           ))
       turn_at (suc m) i j zs h =
           let r = get_or ys i no_run in
@@ -373,15 +373,15 @@ module _ (J X : RattleType) (one : One X.mir) (D : Value J) (x : Ty) (P : Steppi
             ready = subst (λ (z : List X.Denot). P.Ready (dropped (suc i) ys) j' z) (sym ez)
                 (subst (λ (z : J.Denot). P.Ready (dropped (suc i) ys) z (P.out j r.first r.past zs)) (sym ej) now-ready.1);
             jobs = ap (P.jobs (dropped (suc i) ys) j') ez ∙ ap (λ (z : J.Denot). P.jobs (dropped (suc i) ys) z (P.out j r.first r.past zs)) ej
-                ∙ sym (P.jobs-cons r (dropped (suc i) ys) j zs) ∙ ap (λ (rs : List Run). P.jobs rs j zs) (sym here) ∙ h.jobs;
+                ∙ sym (P.jobs_cons r (dropped (suc i) ys) j zs) ∙ ap (λ (rs : List Run). P.jobs rs j zs) (sym here) ∙ h.jobs;
             outs = ap (P.outs (dropped (suc i) ys) j') ez ∙ ap (λ (z : J.Denot). P.outs (dropped (suc i) ys) z (P.out j r.first r.past zs)) ej
-                ∙ sym (P.outs-cons r (dropped (suc i) ys) j zs) ∙ ap (λ (rs : List Run). P.outs rs j zs) (sym here) ∙ h.outs;
+                ∙ sym (P.outs_cons r (dropped (suc i) ys) j zs) ∙ ap (λ (rs : List Run). P.outs rs j zs) (sym here) ∙ h.outs;
           }))
           (via 𝓤 (guard 𝓤 (m < suc m) (Inv m)) (guard_i 𝓤 (m < suc m) (Inv m) (lt-suc_self m)) (ex_i 𝓤 (λ (u : ℕ). guard 𝓤 (u < suc m) (Inv u)) m)))
 
       turns : (m : ℕ) → ent 𝓤 (Inv m) (Wp 𝓤 H C Λ En (turn τ x name) (after_turn 𝓤 H (Below m) Left))
-      turns m = ex_e 𝓤 (λ (s : ℕ × (J.Denot × List X.Denot)). guard 𝓤 (Known m s.0 s.1.0 s.1.1) (At-of s))
-          (λ s. guard_e 𝓤 (Known m s.0 s.1.0 s.1.1) (At-of s) (λ h. turn_at m s.0 s.1.0 s.1.1 h))
+      turns m = ex_e 𝓤 (λ (s : ℕ × (J.Denot × List X.Denot)). guard 𝓤 (Known m s.0 s.1.0 s.1.1) (At_of s))
+          (λ s. guard_e 𝓤 (Known m s.0 s.1.0 s.1.1) (At_of s) (λ h. turn_at m s.0 s.1.0 s.1.1 h))
 
       loops : P.Ready ys j₀ os → ent 𝓤 (⋆ 𝓛 (At 0 j₀ os)) (Wp 𝓤 H C Λ En (loop (turn τ x name)) Left)
       loops ready =
@@ -389,11 +389,11 @@ module _ (J X : RattleType) (one : One X.mir) (D : Value J) (x : Ty) (P : Steppi
           (loop_rule 𝓤 H 𝓛.laws 𝓣 ◌<◌ Nat·lt-wfRel.wf En (turn τ x name) Left Inv turns n)
 
     walk : (𝓣 : Tables 𝓤 H) → Triple 𝓤 (𝓣.C name) (Step 𝓛) → Room T.the_row n → Room X n₁ → Is J j₀ (D.spell j₀ ∷ []) → P.Ready ys j₀ os
-        → ent 𝓤 (on_entry 𝓛 eachEnded.signature (κ, (κ₁, tt)) (q, (q₁, tt)) a at)
-        (WpFn 𝓤 H 𝓣.C 𝓣.Λ (eachFn D.ty x name) (slice_val (b, o) n ∷ D.spell j₀ ∷ slice_val (b₁, o₁) n₁ ∷ []) Post)
+        → ent 𝓤 (on_entry 𝓛 each_ended.signature (κ, (κ₁, tt)) (q, (q₁, tt)) a at)
+        (WpFn 𝓤 H 𝓣.C 𝓣.Λ (each_fn D.ty x name) (slice_val (b, o) n ∷ D.spell j₀ ∷ slice_val (b₁, o₁) n₁ ∷ []) Post)
     walk 𝓣 known gn gf g₀ ready =
         qed 𝓛 ((‵ (flft κ q) ⊛ (‵ (flft κ₁ q₁) ⊛ ‵ ftrue)) ∷ ‵ (owns (ShrSlice (named 0) κ T.the_row ∷ J ∷ MutSlice (named 1) κ₁ X ∷ []) a at) ∷ []) ∵ enter
-        ! 𝓣.C 𝓣.Λ (eachFn D.ty x name) (slice_val (b, o) n ∷ D.spell j₀ ∷ slice_val (b₁, o₁) n₁ ∷ []) _ $
+        ! 𝓣.C 𝓣.Λ (each_fn D.ty x name) (slice_val (b, o) n ∷ D.spell j₀ ∷ slice_val (b₁, o₁) n₁ ∷ []) _ $
         alloc1 ! (λ l₀. alloc1 ! (λ l₁. alloc1 ! (λ l₂. alloc1
         ! (λ l₃. alloc1 ! (λ l₄. alloc1 ! (λ l₅. alloc1 ! (λ l₆. alloc1
         ! (λ l₇. alloc1 ! (λ l₈. alloc1 ! (λ l₉. alloc1 ! (λ l₁₀. alloc1 ! (λ l₁₁. alloc1 ! (λ l₁₂. alloc0 ! $ params1 ! $
@@ -416,17 +416,17 @@ module _ (J X : RattleType) (one : One X.mir) (D : Value J) (x : Ty) (P : Steppi
     where
       open 𝓛 use {H}
 
-      each-walks : Walks 𝓛 eachEnded stayed (WpFn 𝓤 H 𝓣.C 𝓣.Λ (eachFn D.ty x name)) (eachClauses 𝓤)
-      each-walks = walked 𝓛 eachEnded stayed (eachClauses 𝓤) (WpFn 𝓤 H 𝓣.C 𝓣.Λ (eachFn D.ty x name))
+      each_walks : Walks 𝓛 each_ended stayed (WpFn 𝓤 H 𝓣.C 𝓣.Λ (each_fn D.ty x name)) (each_clauses 𝓤)
+      each_walks = walked 𝓛 each_ended stayed (each_clauses 𝓤) (WpFn 𝓤 H 𝓣.C 𝓣.Λ (each_fn D.ty x name))
           (λ κs. (shr_slice_vals, ((λ j. D.spell j ∷ []), (shr_slice_vals, tt))))
           (λ κs. (shr_slice_Tells (named 0) κs.0 T.the_row, (D.tells, (mut_slice_Tells (named 1) κs.1.0 X, tt))))
           (λ κs qs bounds a g are. needs 𝓤 (P.Ready (now a.0) a.1.0 (now a.1.1.0)) _
           (walk 𝓛 name κs.0 κs.1.0 qs.0 qs.1.0 a.0.ptr.0 a.0.ptr.1 a.1.1.0.ptr.0 a.1.1.0.ptr.1 a.0.name
           a.1.1.0.ghost_name a.0.now a.1.0 a.1.1.0.now 𝓣 known are.0.0.1 are.1.1.0.0.1 are.1.0))
 
-      pub each-meets : Meets 𝓛 eachEnded.signature (WpFn 𝓤 H 𝓣.C 𝓣.Λ (eachFn D.ty x name)) (closing 𝓛 eachEnded (eachClauses 𝓤))
-      each-meets = walk_Meets 𝓛 eachEnded stayed (
+      pub each_meets : Meets 𝓛 each_ended.signature (WpFn 𝓤 H 𝓣.C 𝓣.Λ (each_fn D.ty x name)) (closing 𝓛 each_ended (each_clauses 𝓤))
+      each_meets = walk_Meets 𝓛 each_ended stayed (
         Goes-none_slice 𝓛 2 (0 ∷ []) tt (plain (λ _. T.the_row)) yes,
         (Goes-none 𝓛 2 (λ _. J) yes (λ κs j f. D.silent j f), (Goes-slice 𝓛 2 1 tt (plain (λ _. X)), tt)),
-      ) (eachClauses 𝓤)
-          (WpFn 𝓤 H 𝓣.C 𝓣.Λ (eachFn D.ty x name)) (WpFn-mono 𝓤 H 𝓛.laws 𝓣 (eachFn D.ty x name)) each-walks
+      ) (each_clauses 𝓤)
+          (WpFn 𝓤 H 𝓣.C 𝓣.Λ (each_fn D.ty x name)) (WpFn-mono 𝓤 H 𝓛.laws 𝓣 (each_fn D.ty x name)) each_walks

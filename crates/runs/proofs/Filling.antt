@@ -19,8 +19,8 @@ use Rattle.runs.proofs.Plainly.{spelt}
 module _ (R₁ R₂ J X : RattleType) (one₁ : One R₁.mir) (one₂ : One R₂.mir) (one₃ : One X.mir) (D : Value J)
     (Asks : List R₁.Denot → List R₂.Denot → J.Denot → ℕ → List X.Denot → Type 0)
     (leaves : List R₁.Denot → List R₂.Denot → J.Denot → ℕ → List X.Denot → List X.Denot) where
-  abbrev pub fillsEnded : Ended
-  fillsEnded = record {
+  abbrev pub fills_ended : Ended
+  fills_ended = record {
     signature = record {
       lifetimes = 3;
       outlives = [];
@@ -31,8 +31,8 @@ module _ (R₁ R₂ J X : RattleType) (one₁ : One R₁.mir) (one₂ : One R₂
     kept = (yes, (yes, (yes, (yes, (yes, tt)))));
   }
 
-  abbrev pub fillsClauses : {M : Type 1} (𝓤 : Ura M) → Clauses 𝓤 fillsEnded
-  fillsClauses 𝓤 κs a = record {
+  abbrev pub fills_clauses : {M : Type 1} (𝓤 : Ura M) → Clauses 𝓤 fills_ended
+  fills_clauses 𝓤 κs a = record {
     ghost = Unit {0};
     requires = λ g. fact 𝓤 (Asks (now a.0) (now a.1.0) a.1.1.0 a.1.1.1.0 (now a.1.1.1.1.0));
     ensures = λ g r e. fact 𝓤 ((r ≡ a.1.1.1.0) × (now e.1.1.1.1.0 ≡ leaves (now a.0) (now a.1.0) a.1.1.0 a.1.1.1.0
@@ -40,7 +40,7 @@ module _ (R₁ R₂ J X : RattleType) (one₁ : One R₁.mir) (one₂ : One R₂
   }
 
   abbrev pub Fills : {M : Type 1} {𝓤 : Ura M} (𝓛 : Logic 𝓤) → Contract 𝓤
-  Fills {𝓤 = 𝓤} 𝓛 = triple_of 𝓛 fillsEnded.signature (closing 𝓛 fillsEnded (fillsClauses 𝓤))
+  Fills {𝓤 = 𝓤} 𝓛 = triple_of 𝓛 fills_ended.signature (closing 𝓛 fills_ended (fills_clauses 𝓤))
 
   -- m is the count in out's machine value, which its list has too
   module _ {M : Type 1} {𝓤 : Ura M} (𝓛 : Logic 𝓤) (κ₁ κ₂ κ₃ : Lft) (q₁ q₂ q₃ : Share) (s₁ : MutBor (List R₁.Denot))
@@ -100,9 +100,9 @@ module _ (R₁ R₂ J X : RattleType) (one₁ : One R₁.mir) (one₂ : One R₂
       made t fm known κ' q' δ os k =
           calls_at t fm (Fills 𝓛) known (to κ' q' δ) os (λ v.
           use1 𝓛 (later (some (λ (u : ℕ). ((‵ (flft κ₁ q₁) ⊛ (‵ (flft κ₂ q₂) ⊛ (‵ (flft κ' q') ⊛ ‵ ftrue))) ⊛ ‵ (usize.own_val u (v ∷ []))) ⊛
-          raw (ensured 𝓛 fillsEnded (fillsClauses 𝓤) (κ₁, (κ₂, (κ', tt))) (to κ' q' δ).0.3 tt u)))) (id⊢ 𝓤 _) $ await t tt $ pick t (λ u.
-          split t $ move t (1 ∷ []) $ use1 𝓛 (some (λ (ws : Lasts fillsEnded (κ₁, (κ₂, (κ', tt))) (to κ' q' δ).0.3).
-          ‵ (lasts fillsEnded (κ₁, (κ₂, (κ', tt))) (to κ' q' δ).0.3 ws) ⊛ raw (fact 𝓤 (Done u ws.1.1.1.1.0)))) (id⊢ 𝓤 _) $ pick t (λ ws.
+          raw (ensured 𝓛 fills_ended (fills_clauses 𝓤) (κ₁, (κ₂, (κ', tt))) (to κ' q' δ).0.3 tt u)))) (id⊢ 𝓤 _) $ await t tt $ pick t (λ u.
+          split t $ move t (1 ∷ []) $ use1 𝓛 (some (λ (ws : Lasts fills_ended (κ₁, (κ₂, (κ', tt))) (to κ' q' δ).0.3).
+          ‵ (lasts fills_ended (κ₁, (κ₂, (κ', tt))) (to κ' q' δ).0.3 ws) ⊛ raw (fact 𝓤 (Done u ws.1.1.1.1.0)))) (id⊢ 𝓤 _) $ pick t (λ ws.
           split t $ move t (1 ∷ []) $ heard t (Done u ws.1.1.1.1.0) (λ e.
           fsplit t $ drop t $ fsplit t $ drop t $ fsplit t $ drop t $ fsplit t $ drop t $ fsplit t $ fsplit t $ move t (1 ∷ []) $ feq_l t (λ same.
           move t (2 ∷ []) $ split t $ move t (1 ∷ []) $ peeks t usize (Is usize) (shows 𝓛 usize) u (v ∷ []) (λ is.
@@ -117,7 +117,7 @@ module _ (R₁ R₂ J X : RattleType) (one₁ : One R₁.mir) (one₂ : One R₂
 
     module _ {K : Type 0} {Γ : List (Item 𝓤)} {E : Env 𝓤 H} {C : Calls 𝓤 H} {f : Name} {xs : List Operand} {Λ : Loops 𝓤 H} {p : Post 𝓤 H}
         {d : Place} {rest : Body} where
-      pub calls-filling : K → FmC 𝓤 H 𝓛.laws C → Triple 𝓤 (C f) (Fills 𝓛) → Is J j (D.spell j ∷ []) → n < 2 ^ 64 → Asks (now s₁) (now s₂) j n zs
+      pub calls_filling : K → FmC 𝓤 H 𝓛.laws C → Triple 𝓤 (C f) (Fills 𝓛) → Is J j (D.spell j ∷ []) → n < 2 ^ 64 → Asks (now s₁) (now s₂) j n zs
           → length zs ≡ m → Room X m
           → ((ν : ℕ) (δ : GName) → Opds K 𝓛 (raw ((Fills 𝓛).pre (to (ν ∷ []) full_share δ)) ∷ ‵ Shared₂ ∷ ‵ Shared₁
           ∷ ‵ (LentAgain X κ₃ (ν ∷ []) q₃ γ b o δ zs) ∷ Γ) E xs
@@ -125,7 +125,7 @@ module _ (R₁ R₂ J X : RattleType) (one₁ : One R₁.mir) (one₂ : One R₂
           → (length last ≡ m
           → Seq K 𝓛 (‵ (Out κ₃ γ last) ∷ ‵ (flft κ₃ q₃) ∷ ‵ Shared₁ ∷ ‵ (flft κ₁ q₁) ∷ ‵ Shared₂ ∷ ‵ (flft κ₂ q₂) ∷ Γ) (lands C Λ E d (vint w64 n) rest p))
           → Seq K 𝓛 (‵ (Out κ₃ γ zs) ∷ ‵ (flft κ₃ q₃) ∷ ‵ Shared₁ ∷ ‵ (flft κ₁ q₁) ∷ ‵ Shared₂ ∷ ‵ (flft κ₂ q₂) ∷ Γ) (runs C Λ E (seq (call f xs d) rest) p)
-      calls-filling t fm known g fits asked len room os k =
+      calls_filling t fm known g fits asked len room os k =
           rewrite t 0 (λ (c : ℕ). ‵ ((MutSlice (named 0) κ₃ X).own_val (lent γ zs) (slice_val (b, o) c ∷ []))) (sym len) refl $
           lft_new t tt (λ ν. move t (1 ∷ 2 ∷ []) $
           use2 𝓛 (later (some (λ (δ : GName). ‵ ((MutSlice (named 0) (ν ∷ []) X).own_val (lent δ zs) (slice_val (b, o) (length zs) ∷ [])) ⊛

@@ -18,10 +18,10 @@ use Rattle.runs.proofs.Kit.{◌≡◌, refl, sym, ◌∙◌, subst, Bool, ℕ, z
 use Rattle.rules.specs.declared.Run.{Run}
 use Rattle.runs.specs.Numbered.{no_run}
 use Rattle.runs.proofs.Values.{number, run as record-value}
-use Rattle.runs.proofs.Walk.{Value, holds, fails, lent_at, Opened, opens_mut, closes-mut}
-use Rattle.runs.proofs.Plainly.{One, calls-one}
-use Rattle.runs.proofs.Reading.{Reads, calls-reading}
-use Rattle.runs.proofs.Filling.{fillsEnded, fillsClauses}
+use Rattle.runs.proofs.Walk.{Value, holds, fails, lent_at, Opened, opens_mut, closes_mut}
+use Rattle.runs.proofs.Plainly.{One, calls_one}
+use Rattle.runs.proofs.Reading.{Reads, calls_reading}
+use Rattle.runs.proofs.Filling.{fills_ended, fills_clauses}
 use Rattle.rules.specs.contracts.Run as T
 use Rattle.rules.proofs.Run.TheLaws as T'
 
@@ -53,8 +53,8 @@ module _ (τ : Ty) (next run : Name) where
   abbrev pub after : Body
   after = seq (assign (place 0 []) (rv_opd (copy (place 4 [])))) return
 
-  abbrev pub fillFn : Fn
-  fillFn = record {
+  abbrev pub fill_fn : Fn
+  fill_fn = record {
     lifetimes = 3;
     outlives = [];
     params = 5;
@@ -71,22 +71,22 @@ pub record Searching (J : Type 0) : Type 1 where
   pub Ready : List ℕ → List ℕ → J → ℕ → Type 0
   pub stored : List ℕ → List ℕ → ℕ → J → ℕ → List Run → List Run
   pub ready : (ws es : List ℕ) (j : J) (n : ℕ) → Ready ws es j (suc n) → Asks ws es j × Ready ws es (next ws es j) n
-  pub stored-none : (ws es : List ℕ) (i : ℕ) (j : J) (out : List Run) → stored ws es i j zero out ≡ out
+  pub stored_none : (ws es : List ℕ) (i : ℕ) (j : J) (out : List Run) → stored ws es i j zero out ≡ out
   pub stored_next : (ws es : List ℕ) (i : ℕ) (j : J) (n : ℕ) (out : List Run)
       → stored ws es i j (suc n) out ≡ stored ws es (suc i) (next ws es j) n (set out i (run (next ws es j)))
 
 module _ (J : RattleType) (D : Value J) (P : Searching J.Denot) where
-  abbrev pub fillAsks : List ℕ → List ℕ → J.Denot → ℕ → List Run → Type 0
-  fillAsks ws es j n out = P.Ready ws es j n × (n ≤ length out)
+  abbrev pub fill_asks : List ℕ → List ℕ → J.Denot → ℕ → List Run → Type 0
+  fill_asks ws es j n out = P.Ready ws es j n × (n ≤ length out)
 
-  abbrev pub fillLeaves : List ℕ → List ℕ → J.Denot → ℕ → List Run → List Run
-  fillLeaves ws es j n out = P.stored ws es 0 j n out
+  abbrev pub fill_leaves : List ℕ → List ℕ → J.Denot → ℕ → List Run → List Run
+  fill_leaves ws es j n out = P.stored ws es 0 j n out
 
   abbrev ended : Ended
-  ended = fillsEnded u64 u32 J T.the_row tt tt tt D fillAsks fillLeaves
+  ended = fills_ended u64 u32 J T.the_row tt tt tt D fill_asks fill_leaves
 
   abbrev clauses : {M : Type 1} (𝓤 : Ura M) → Clauses 𝓤 ended
-  clauses = fillsClauses u64 u32 J T.the_row tt tt tt D fillAsks fillLeaves
+  clauses = fills_clauses u64 u32 J T.the_row tt tt tt D fill_asks fill_leaves
 
   abbrev stayed : Stays ended.signature.params ended.kept
   stayed = (
@@ -180,11 +180,11 @@ module _ (J : RattleType) (D : Value J) (P : Searching J.Denot) where
         pub ready : P.Ready ws es c m
         pub outs : P.stored ws es i c m zs ≡ P.stored ws es 0 c₀ n ys
 
-      abbrev At-of : ℕ × (J.Denot × List Run) → SProp 𝓤
-      At-of s = ⋆ 𝓛 (At s.0 s.1.0 s.1.1)
+      abbrev At_of : ℕ × (J.Denot × List Run) → SProp 𝓤
+      At_of s = ⋆ 𝓛 (At s.0 s.1.0 s.1.1)
 
       abbrev Inv : ℕ → SProp 𝓤
-      Inv m = ex 𝓤 (λ (s : ℕ × (J.Denot × List Run)). guard 𝓤 (Known m s.0 s.1.0 s.1.1) (At-of s))
+      Inv m = ex 𝓤 (λ (s : ℕ × (J.Denot × List Run)). guard 𝓤 (Known m s.0 s.1.0 s.1.1) (At_of s))
 
       abbrev Below : ℕ → SProp 𝓤
       Below m = ex 𝓤 (λ (m' : ℕ). guard 𝓤 (m' < m) (Inv m'))
@@ -208,11 +208,11 @@ module _ (J : RattleType) (D : Value J) (P : Searching J.Denot) where
           rewrite ! 16 (λ (z : Bool). ‵ (fat full_share ty_bool l₈ 0 (vbool z))) (holds (ltb i n) (lt→ltb i n l)) refl $
           stays ! (load ! (from ! (stop !)) (look ! 16 refl)) $ move ! (4 ∷ 5 ∷ 6 ∷ 7 ∷ []) $
           -- the next run
-          calls-reading u64 u32 J J tt tt D D P.Asks P.next 𝓛 κ₁ κ₂ q₁ q₂ s₁ s₂ c ! fm true known_next g asked
+          calls_reading u64 u32 J J tt tt D D P.Asks P.next 𝓛 κ₁ κ₂ q₁ q₂ s₁ s₂ c ! fm true known_next g asked
           (and_then ! (load ! (from ! (stop !)) (look ! 8 refl))
           (and_then ! (load ! (from ! (stop !)) (look ! 9 refl)) (and_then ! (load ! (from ! (stop !)) (look ! 13 refl)) (no_more !))))
           (λ is-next. land ! (from ! (stop !)) (store ! 14 refl (D.typed 𝓛 nxt _ is-next)) $
-          calls-one J T.the_row D record-value P.run 𝓛 nxt ! fm known-run is-next (and_then ! (load ! (from ! (stop !)) (look ! 15 refl)) (no_more !))
+          calls_one J T.the_row D record-value P.run 𝓛 nxt ! fm known-run is-next (and_then ! (load ! (from ! (stop !)) (look ! 15 refl)) (no_more !))
           (λ is-run.
           let wt = record-value.typed 𝓛 (P.run nxt) _ is-run in
           -- [words; its token; rows; its token; the row; the open borrow; obs; auth; _0; …]
@@ -249,7 +249,7 @@ module _ (J : RattleType) (D : Value J) (P : Searching J.Denot) where
           rewrite ! 16 (λ (z : Bool). ‵ (fat full_share ty_bool l₈ 0 (vbool z))) (fails (ltb n n) (λ t. lt_irrefl n (ltb→lt n n t))) refl $
           leaves_loop ! (load ! (from ! (stop !)) (look ! 16 refl)) $ exec ! C Λ En (after D.ty #next #run) (at_ret En Post) $
           assigns ! (of_opd ! (load ! (from ! (stop !)) (look ! 12 refl))) (from ! (stop !)) (init ! 8 refl (tt, record { fits = gn })) $
-          closes-mut T.the_row (named 2) κ₃ q₃ γ b o ! tt ys zs len gy $
+          closes_mut T.the_row (named 2) κ₃ q₃ γ b o ! tt ys zs len gy $
           -- [out; its token; words; its token; rows; its token; _0; …]
           returns ! (look ! 6 refl) $
           forget ! 6 refl $ forget ! 7 refl $ forget ! 8 refl $ forget ! 9 refl $ forget ! 10 refl $ forget ! 11 refl $ forget ! 12 refl $
@@ -259,16 +259,16 @@ module _ (J : RattleType) (D : Value J) (P : Searching J.Denot) where
           move ! (6 ∷ 10 ∷ []) $ free1 ! $ move ! (6 ∷ 9 ∷ []) $ free1 ! $ move ! (6 ∷ 8 ∷ []) $ free1 ! $ move ! (6 ∷ 7 ∷ []) $ free1 ! $
           free0 ! $ keep ! (3 ∷ 5 ∷ 1 ∷ 2 ∷ 4 ∷ 0 ∷ []) $ by ! (exits zs g₀ gn len e)
 
-      into : (m : ℕ) (s : ℕ × (J.Denot × List Run)) → Known m s.0 s.1.0 s.1.1 → ent 𝓤 (At-of s) (Inv m)
-      into m s h = via 𝓤 (guard 𝓤 (Known m s.0 s.1.0 s.1.1) (At-of s)) (guard_i 𝓤 (Known m s.0 s.1.0 s.1.1) (At-of s) h)
-          (ex_i 𝓤 (λ (u : ℕ × (J.Denot × List Run)). guard 𝓤 (Known m u.0 u.1.0 u.1.1) (At-of u)) s)
+      into : (m : ℕ) (s : ℕ × (J.Denot × List Run)) → Known m s.0 s.1.0 s.1.1 → ent 𝓤 (At_of s) (Inv m)
+      into m s h = via 𝓤 (guard 𝓤 (Known m s.0 s.1.0 s.1.1) (At_of s)) (guard_i 𝓤 (Known m s.0 s.1.0 s.1.1) (At_of s) h)
+          (ex_i 𝓤 (λ (u : ℕ × (J.Denot × List Run)). guard 𝓤 (Known m u.0 u.1.0 u.1.1) (At_of u)) s)
 
       turn_at : (m i : ℕ) (c : J.Denot) (zs : List Run) → Known m i c zs → ent 𝓤 (⋆ 𝓛 (At i c zs))
           (Wp 𝓤 H C Λ En (turn D.ty #next #run) (after_turn 𝓤 H (Below m) Left))
       turn_at zero i c zs h =
           subst (λ (z : ℕ). ent 𝓤 (⋆ 𝓛 (At z c zs)) (Wp 𝓤 H C Λ En (turn D.ty #next #run) (after_turn 𝓤 H (Below zero) Left)))
           (sym (sym (add-zero i) ∙ h.left))
-          (ends c zs (Below zero) h.long (sym (P.stored-none ws es i c zs) ∙ h.outs))
+          (ends c zs (Below zero) h.long (sym (P.stored_none ws es i c zs) ∙ h.outs))
       turn_at (suc m) i c zs h =
           let nxt = P.next ws es c in
           let then = set zs i (P.run nxt) in
@@ -284,8 +284,8 @@ module _ (J : RattleType) (D : Value J) (P : Searching J.Denot) where
           (via 𝓤 (guard 𝓤 (m < suc m) (Inv m)) (guard_i 𝓤 (m < suc m) (Inv m) (lt-suc_self m)) (ex_i 𝓤 (λ (u : ℕ). guard 𝓤 (u < suc m) (Inv u)) m)))
 
       turns : (m : ℕ) → ent 𝓤 (Inv m) (Wp 𝓤 H C Λ En (turn D.ty #next #run) (after_turn 𝓤 H (Below m) Left))
-      turns m = ex_e 𝓤 (λ (s : ℕ × (J.Denot × List Run)). guard 𝓤 (Known m s.0 s.1.0 s.1.1) (At-of s))
-          (λ s. guard_e 𝓤 (Known m s.0 s.1.0 s.1.1) (At-of s) (λ h. turn_at m s.0 s.1.0 s.1.1 h))
+      turns m = ex_e 𝓤 (λ (s : ℕ × (J.Denot × List Run)). guard 𝓤 (Known m s.0 s.1.0 s.1.1) (At_of s))
+          (λ s. guard_e 𝓤 (Known m s.0 s.1.0 s.1.1) (At_of s) (λ h. turn_at m s.0 s.1.0 s.1.1 h))
 
       loops : P.Ready ws es c₀ n → ent 𝓤 (⋆ 𝓛 (At 0 c₀ ys)) (Wp 𝓤 H C Λ En (loop (turn D.ty #next #run)) Left)
       loops ready =
@@ -294,12 +294,12 @@ module _ (J : RattleType) (D : Value J) (P : Searching J.Denot) where
 
     walk : (𝓣 : Tables 𝓤 H) → Triple 𝓤 (𝓣.C #next) (Next 𝓛) → Triple 𝓤 (𝓣.C #run) (RunOf 𝓛) → Room u64 (length ws) → Room u32 (length es)
         → Is J c₀ (D.spell c₀ ∷ []) → n < 2 ^ 64 → Room T.the_row (length ys) → P.Ready ws es c₀ n × (n ≤ length ys)
-        → ent 𝓤 (on_entry 𝓛 ended.signature (κ₁, (κ₂, (κ₃, tt))) (q₁, (q₂, (q₃, tt))) a at) (WpFn 𝓤 H 𝓣.C 𝓣.Λ (fillFn D.ty #next #run)
+        → ent 𝓤 (on_entry 𝓛 ended.signature (κ₁, (κ₂, (κ₃, tt))) (q₁, (q₂, (q₃, tt))) a at) (WpFn 𝓤 H 𝓣.C 𝓣.Λ (fill_fn D.ty #next #run)
         (slice_val s₁.ptr (length ws) ∷ slice_val s₂.ptr (length es) ∷ D.spell c₀ ∷ vint w64 n ∷ slice_val (b, o) (length ys) ∷ []) Post)
     walk 𝓣 known_next known-run gw ge g₀ gn gy h =
         qed 𝓛 ((‵ (flft κ₁ q₁) ⊛ (‵ (flft κ₂ q₂) ⊛ (‵ (flft κ₃ q₃) ⊛ ‵ ftrue)))
         ∷ ‵ (owns (ShrSlice (named 0) κ₁ u64 ∷ ShrSlice (named 1) κ₂ u32 ∷ J ∷ usize ∷ MutSlice (named 2) κ₃ T.the_row ∷ []) a at) ∷ []) ∵
-        enter ! 𝓣.C 𝓣.Λ (fillFn D.ty #next #run) (slice_val s₁.ptr (length ws) ∷ slice_val s₂.ptr (length es) ∷ D.spell c₀ ∷ vint w64 n
+        enter ! 𝓣.C 𝓣.Λ (fill_fn D.ty #next #run) (slice_val s₁.ptr (length ws) ∷ slice_val s₂.ptr (length es) ∷ D.spell c₀ ∷ vint w64 n
         ∷ slice_val (b, o) (length ys) ∷ []) _ $
         alloc1 ! (λ l₀. alloc1 ! (λ l₁. alloc1 ! (λ l₂. alloc1 ! (λ l₃. alloc1 ! (λ l₄. alloc1 ! (λ l₅. alloc1 ! (λ l₆. alloc1 ! (λ l₇. alloc1 ! (λ l₈.
         alloc1 ! (λ l₉. alloc1 ! (λ l₁₀. alloc1 ! (λ l₁₁.
@@ -323,8 +323,8 @@ module _ (J : RattleType) (D : Value J) (P : Searching J.Denot) where
       (known_next : Triple 𝓤 (𝓣.C #next) (Next 𝓛)) (known-run : Triple 𝓤 (𝓣.C #run) (RunOf 𝓛)) where
     open 𝓛 use {H}
 
-    walks : Walks 𝓛 ended stayed (WpFn 𝓤 H 𝓣.C 𝓣.Λ (fillFn D.ty #next #run)) (clauses 𝓤)
-    walks = walked 𝓛 ended stayed (clauses 𝓤) (WpFn 𝓤 H 𝓣.C 𝓣.Λ (fillFn D.ty #next #run))
+    walks : Walks 𝓛 ended stayed (WpFn 𝓤 H 𝓣.C 𝓣.Λ (fill_fn D.ty #next #run)) (clauses 𝓤)
+    walks = walked 𝓛 ended stayed (clauses 𝓤) (WpFn 𝓤 H 𝓣.C 𝓣.Λ (fill_fn D.ty #next #run))
         (λ κs. (shr_slice_vals, (shr_slice_vals, ((λ x. D.spell x ∷ []), (uint_vals w64, (shr_slice_vals, tt))))))
         (λ κs. (
           shr_slice_Tells (named 0) κs.0 u64,
@@ -339,7 +339,7 @@ module _ (J : RattleType) (D : Value J) (P : Searching J.Denot) where
         a.1.1.1.1.0.ref_ptr.0 a.1.1.1.1.0.ref_ptr.1 a.1.1.1.1.0.ghost_name a.1.1.1.1.0.now
         𝓣 known_next known-run are.0.0.1 are.1.0.0.1 are.1.1.0 are.1.1.1.0.1 are.1.1.1.1.0.0.1))
 
-    pub fill_meets : Meets 𝓛 ended.signature (WpFn 𝓤 H 𝓣.C 𝓣.Λ (fillFn D.ty #next #run)) (closing 𝓛 ended (clauses 𝓤))
+    pub fill_meets : Meets 𝓛 ended.signature (WpFn 𝓤 H 𝓣.C 𝓣.Λ (fill_fn D.ty #next #run)) (closing 𝓛 ended (clauses 𝓤))
     fill_meets = walk_Meets 𝓛 ended stayed (
       Goes-none_slice 𝓛 3 (0 ∷ []) tt (plain (λ _. u64)) yes,
       (
@@ -349,4 +349,4 @@ module _ (J : RattleType) (D : Value J) (P : Searching J.Denot) where
           (Goes-none 𝓛 3 (λ _. usize) yes (λ κs x f. refl), (Goes-slice 𝓛 3 2 tt (plain (λ _. T.the_row)), tt)),
         ),
       ),
-    ) (clauses 𝓤) (WpFn 𝓤 H 𝓣.C 𝓣.Λ (fillFn D.ty #next #run)) (WpFn-mono 𝓤 H 𝓛.laws 𝓣 (fillFn D.ty #next #run)) walks
+    ) (clauses 𝓤) (WpFn 𝓤 H 𝓣.C 𝓣.Λ (fill_fn D.ty #next #run)) (WpFn-mono 𝓤 H 𝓛.laws 𝓣 (fill_fn D.ty #next #run)) walks

@@ -7,7 +7,7 @@ use Rattle.rows.specs.declared.Refusal.{Refusal}
 use Rattle.rows.specs.declared.Verdict.{Verdict}
 use Rattle.rows.specs.declared.Verdict.TheVariants.{Fine, Refused}
 use Rattle.rows.specs.Rows.{splice}
-use Rattle.rows.specs.Table.{need, first, noRefusal}
+use Rattle.rows.specs.Table.{need, first, no_refusal}
 use Rattle.rules.specs.declared.Run.{Run}
 use Rattle.rules.specs.Records.{run}
 use Rattle.runs.specs.declared.numbers.Writing.{Writing}
@@ -26,9 +26,9 @@ abbrev pub start_of : ℕ → ℕ → Writing
 start_of n room = start_by (first (need (dec_le (n * 2) room) 8 0 ∷ []))
 
 -- n runs more
-abbrev pub movedBy : ℕ → Writing → Writing
-movedBy n (At k) = At (k + n * 2)
-movedBy n (Barred x) = Barred x
+abbrev pub moved_by : ℕ → Writing → Writing
+moved_by n (At k) = At (k + n * 2)
+moved_by n (Barred x) = Barred x
 
 abbrev pub spliced : Writing → List ℕ → List ℕ → List ℕ
 spliced (At k) ns out = splice k out ns
@@ -39,6 +39,6 @@ abbrev pub HasRoom : Writing → ℕ → List ℕ → Type 0
 HasRoom (At k) n out = k + n * 2 ≤ length out
 HasRoom (Barred x) n out = Unit {0}
 
-abbrev pub toldBy : Writing → Refusal
-toldBy (At k) = noRefusal
-toldBy (Barred x) = x
+abbrev pub told_by : Writing → Refusal
+told_by (At k) = no_refusal
+told_by (Barred x) = x

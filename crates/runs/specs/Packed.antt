@@ -9,12 +9,12 @@ use Rattle.rules.specs.declared.Run.{Run}
 use Rattle.rules.specs.Records.{run}
 
 -- so many numbers, and room for so many records
-abbrev pub judgedBy : ℕ → ℕ → Refusal
-judgedBy n room = told (first (need (ℕ_discrete (n % 2) 0) 14 1 ∷ need (dec_le (n / 2) room) 8 0 ∷ []))
+abbrev pub judged_by : ℕ → ℕ → Refusal
+judged_by n room = told (first (need (ℕ_discrete (n % 2) 0) 14 1 ∷ need (dec_le (n / 2) room) 8 0 ∷ []))
 
 -- none with a refusal
-abbrev pub pairsFor : Refusal → ℕ → ℕ
-pairsFor x n = cond (eqb x.number 0) (n / 2) 0
+abbrev pub pairs_for : Refusal → ℕ → ℕ
+pairs_for x n = cond (eqb x.number 0) (n / 2) 0
 
 abbrev pub run_at : List ℕ → ℕ → Run
 run_at ns i = run (get_or ns (i + i) 0) (get_or ns (i + i + 1) 0)

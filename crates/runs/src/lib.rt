@@ -1,9 +1,11 @@
 // Runs as records at the edge: a lent slice of runs to numbers and to words, and numbers and masks to records.
+#![tactic(auto)]
+
 ghost use Rattle.std.specs.Prelude.{◌≡◌, []};
 ghost use Rattle.rules.specs.declared.Form.TheVariants.{Runs};
 ghost use Rattle.rules.specs.Operand.{lent};
-ghost use Rattle.rules.specs.Convert.{toWords, toWordsOut, toRuns, toRunsOut};
-ghost use Rattle.rules.specs.Records.{numbersOf, toNumbers, toNumbersOut, toRecords, toRecordsOut};
+ghost use Rattle.rules.specs.Convert.{to_words, to_words_out, to_runs, to_runs_out};
+ghost use Rattle.rules.specs.Records.{numbers_of, to_numbers, to_numbers_out, to_records, to_records_out};
 
 use numbers::{start_numbers, told_by, write_numbers};
 use plan::{plan_runs, runs_of, with_room, written_of};
@@ -21,7 +23,7 @@ mod words;
 
 // Records to numbers: two for each run, over the front of out; later numbers stay.
 pub fn to_numbers(runs: &[Run], out: &mut [u32]) -> Refusal
-    ensures { (result ≡ toNumbers runs.now out.old) × (out.new ≡ toNumbersOut runs.now out.old) }
+    ensures { (result ≡ to_numbers runs.now out.old) × (out.new ≡ to_numbers_out runs.now out.old) }
 {
     let started = start_numbers(runs.len(), out.len());
     let ended = write_numbers(runs, started, out);
@@ -30,7 +32,7 @@ pub fn to_numbers(runs: &[Run], out: &mut [u32]) -> Refusal
 
 // Numbers to records: one for each pair, over the front of out; later records stay.
 pub fn to_records(numbers: &[u32], out: &mut [Run]) -> Refusal
-    ensures { (result ≡ toRecords numbers.now out.old) × (out.new ≡ toRecordsOut numbers.now out.old) }
+    ensures { (result ≡ to_records numbers.now out.old) × (out.new ≡ to_records_out numbers.now out.old) }
 {
     let told = judge_records(numbers.len(), out.len());
     write_records(numbers, pairs_for(told, numbers.len()), out);
@@ -39,8 +41,8 @@ pub fn to_records(numbers: &[u32], out: &mut [Run]) -> Refusal
 
 // Records to words: what `to_words` tells and writes of their numbers.
 pub fn runs_to_words(length: u64, runs: &[Run], out: &mut [u64]) -> Answer
-    ensures { (result ≡ toWords (lent (Runs length) [] (numbersOf runs.now)) out.old)
-        × (out.new ≡ toWordsOut (lent (Runs length) [] (numbersOf runs.now)) out.old) }
+    ensures { (result ≡ to_words (lent (Runs length) [] (numbers_of runs.now)) out.old)
+        × (out.new ≡ to_words_out (lent (Runs length) [] (numbers_of runs.now)) out.old) }
 {
     let started = start_sweep(length);
     let weighed = weigh_each(runs, started, out);
@@ -51,8 +53,8 @@ pub fn runs_to_words(length: u64, runs: &[Run], out: &mut [u64]) -> Answer
 
 // Any form to records: what `to_runs` tells and writes, a record for each run; later records stay.
 pub fn to_run_records(form: Form, words: &[u64], rows: &[u32], out: &mut [Run]) -> Written
-    ensures { (result ≡ toRuns (lent form words.now rows.now) (numbersOf out.old))
-        × (numbersOf out.new ≡ toRunsOut (lent form words.now rows.now) (numbersOf out.old)) }
+    ensures { (result ≡ to_runs (lent form words.now rows.now) (numbers_of out.old))
+        × (numbers_of out.new ≡ to_runs_out (lent form words.now rows.now) (numbers_of out.old)) }
 {
     let found = plan_runs(words, rows, form);
     let plan = with_room(found, out.len());

@@ -1,7 +1,7 @@
 // The numbers of runs, pair by pair: the loop over lent records is proved by hand, and hands each run's numbers to a step that is covered.
 ghost use Rattle.std.specs.Prelude.{◌≡◌, [], ◌∷◌, length};
-ghost use Rattle.rules.specs.Records.{numbersOf};
-ghost use Rattle.runs.specs.Numbered.{start_of, movedBy, spliced, HasRoom, toldBy};
+ghost use Rattle.rules.specs.Records.{numbers_of};
+ghost use Rattle.runs.specs.Numbered.{start_of, moved_by, spliced, HasRoom, told_by};
 
 use rows::Refusal;
 use rows::inner::verdicts::{no_refusal, refusal};
@@ -26,7 +26,7 @@ pub fn start_numbers(runs: usize, room: usize) -> Writing
 
 pub fn put_pair(writing: Writing, first: u32, past: u32, out: &mut [u32]) -> Writing
     requires { HasRoom writing 1 out.old }
-    ensures { (result ≡ movedBy 1 writing) × (out.new ≡ spliced writing (first ∷ past ∷ []) out.old) }
+    ensures { (result ≡ moved_by 1 writing) × (out.new ≡ spliced writing (first ∷ past ∷ []) out.old) }
 {
     match writing {
         Writing::At(k) => {
@@ -40,8 +40,8 @@ pub fn put_pair(writing: Writing, first: u32, past: u32, out: &mut [u32]) -> Wri
 
 pub fn write_numbers(runs: &[Run], writing: Writing, out: &mut [u32]) -> Writing
     requires { HasRoom writing (length runs.now) out.old }
-    ensures { (result ≡ movedBy (length runs.now) writing)
-        × (out.new ≡ spliced writing (numbersOf runs.now) out.old) }
+    ensures { (result ≡ moved_by (length runs.now) writing)
+        × (out.new ≡ spliced writing (numbers_of runs.now) out.old) }
 {
     let mut w = writing;
     let mut i: usize = 0;
@@ -54,7 +54,7 @@ pub fn write_numbers(runs: &[Run], writing: Writing, out: &mut [u32]) -> Writing
 }
 
 pub fn told_by(writing: Writing) -> Refusal
-    ensures { result ≡ toldBy writing }
+    ensures { result ≡ told_by writing }
 {
     match writing {
         Writing::At(_) => no_refusal(),

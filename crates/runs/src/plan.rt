@@ -1,7 +1,7 @@
 // What the writer of run records will do: the operand checked and its runs counted, before anything is written.
 ghost use Rattle.std.specs.Prelude.{◌≡◌};
 ghost use Rattle.rules.specs.Operand.{lent};
-ghost use Rattle.runs.specs.Planned.{noPlan, plan_of, roomed};
+ghost use Rattle.runs.specs.Planned.{no_plan, plan_of, roomed};
 
 use mask::inner::answers::{no_runs, own_answer};
 use mask::inner::runs::count_runs;
@@ -19,7 +19,7 @@ pub struct Plan {
 }
 
 fn no_plan(refusal: Refusal) -> Plan
-    ensures { result ≡ noPlan refusal }
+    ensures { result ≡ no_plan refusal }
 {
     let written = no_runs(refusal);
     Plan { runs: 0, written }

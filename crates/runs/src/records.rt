@@ -1,6 +1,6 @@
 // The records of numbers in pairs: the loop that stores into lent records is proved by hand, and what it stores a covered function reads.
 ghost use Rattle.std.specs.Prelude.{◌≡◌, ◌+◌, ◌≤◌, ◌<◌, length};
-ghost use Rattle.runs.specs.Packed.{judgedBy, pairsFor, run_at, packed};
+ghost use Rattle.runs.specs.Packed.{judged_by, pairs_for, run_at, packed};
 
 use rows::Refusal;
 use rows::inner::verdicts::{no_refusal, refusal};
@@ -8,7 +8,7 @@ use rules::Run;
 
 // So many numbers, and room for so many records: 14 where the last number has no pair, then 8.
 pub fn judge_records(numbers: usize, room: usize) -> Refusal
-    ensures { result ≡ judgedBy numbers room }
+    ensures { result ≡ judged_by numbers room }
 {
     if numbers % 2 != 0 {
         return refusal(14, 1);
@@ -21,7 +21,7 @@ pub fn judge_records(numbers: usize, room: usize) -> Refusal
 
 // How many pairs are written: none with a refusal.
 pub fn pairs_for(refusal: Refusal, numbers: usize) -> usize
-    ensures { result ≡ pairsFor refusal numbers }
+    ensures { result ≡ pairs_for refusal numbers }
 {
     if refusal.number != 0 {
         return 0;

@@ -5,7 +5,7 @@ ghost use Rattle.rows.specs.Word.{bits_of, word_of};
 ghost use Rattle.rows.specs.Words.{view, Below};
 ghost use Rattle.rows.specs.Asks.{InView, Chunk};
 ghost use Rattle.rules.specs.Operand.{lent, Accepted};
-ghost use Rattle.runs.specs.Searched.{hits, seekRow, foundWords, foundList, foundRuns, foundBy, leftBy, cursorBy, startCursor, SearchAsks, SearchReady, runOf, storedFrom};
+ghost use Rattle.runs.specs.Searched.{hits, seek_row, found_words, found_list, found_runs, found_by, left_by, cursor_by, start_cursor, SearchAsks, SearchReady, run_of, stored_from};
 
 use lent::inner::{chunk, chunk_len, ones};
 use rules::{Form, Run};
@@ -41,7 +41,7 @@ fn matching(chunk: u64, n: u64, set: bool) -> u64
 // The first row from a row on that is set, or that is not; the length where there is none.
 fn seek(words: &[u64], start: u64, len: u64, from: u64, set: bool) -> u64
     requires { InView start len words.now × (from ≤ len) }
-    ensures { result ≡ seekRow set from (view start len words.now) }
+    ensures { result ≡ seek_row set from (view start len words.now) }
 {
     let mut row = from;
     while row < len {
@@ -57,7 +57,7 @@ fn seek(words: &[u64], start: u64, len: u64, from: u64, set: bool) -> u64
 
 fn find_in_words(words: &[u64], start: u64, len: u64, at: u64) -> Found
     requires { InView start len words.now × (at ≤ len) }
-    ensures { result ≡ foundWords at (view start len words.now) }
+    ensures { result ≡ found_words at (view start len words.now) }
 {
     let first = seek(words, start, len, at, true);
     let past = seek(words, start, len, first, false);
@@ -71,7 +71,7 @@ fn find_in_words(words: &[u64], start: u64, len: u64, at: u64) -> Found
 // Entries are passed as long as each is one above the last.
 fn find_in_list(rows: &[u32], at: usize) -> Found
     requires { (at < length rows.now) × Below 1048576 rows.now }
-    ensures { result ≡ foundList at rows.now }
+    ensures { result ≡ found_list at rows.now }
 {
     let first = rows[at];
     let mut past = first + 1;
@@ -96,7 +96,7 @@ fn find_in_list(rows: &[u32], at: usize) -> Found
 
 fn find_in_runs(runs: &[u32], at: usize) -> Found
     requires { at + 1 < length runs.now }
-    ensures { result ≡ foundRuns at runs.now }
+    ensures { result ≡ found_runs at runs.now }
 {
     let next = at + 2;
     Found {
@@ -108,8 +108,8 @@ fn find_in_runs(runs: &[u32], at: usize) -> Found
 
 // The next run of an operand that has one left.
 fn find(form: Form, words: &[u64], rows: &[u32], at: u64) -> Found
-    requires { Accepted (lent form words.now rows.now) × (2 ≤ length (leftBy form (lent form words.now rows.now) at)) }
-    ensures { result ≡ foundBy form (lent form words.now rows.now) at }
+    requires { Accepted (lent form words.now rows.now) × (2 ≤ length (left_by form (lent form words.now rows.now) at)) }
+    ensures { result ≡ found_by form (lent form words.now rows.now) at }
 {
     match form {
         Form::All { length } => Found {
@@ -133,7 +133,7 @@ fn find(form: Form, words: &[u64], rows: &[u32], at: u64) -> Found
 }
 
 pub fn start_cursor(form: Form) -> Cursor
-    ensures { result ≡ startCursor form }
+    ensures { result ≡ start_cursor form }
 {
     Cursor {
         form,
@@ -145,7 +145,7 @@ pub fn start_cursor(form: Form) -> Cursor
 
 pub fn next_run(words: &[u64], rows: &[u32], cursor: Cursor) -> Cursor
     requires { SearchAsks words.now rows.now cursor }
-    ensures { result ≡ cursorBy words.now rows.now cursor }
+    ensures { result ≡ cursor_by words.now rows.now cursor }
 {
     let form = cursor.form;
     let found = find(form, words, rows, cursor.at);
@@ -159,7 +159,7 @@ pub fn next_run(words: &[u64], rows: &[u32], cursor: Cursor) -> Cursor
 
 // The run that was found last.
 pub fn run_of(cursor: Cursor) -> Run
-    ensures { result ≡ runOf cursor }
+    ensures { result ≡ run_of cursor }
 {
     Run {
         first: cursor.first,
@@ -170,7 +170,7 @@ pub fn run_of(cursor: Cursor) -> Run
 // The records of the first n runs that are found over the front of out, and how many they are: the loop that is proved by hand.
 pub fn write_found(words: &[u64], rows: &[u32], cursor: Cursor, n: usize, out: &mut [Run]) -> usize
     requires { SearchReady words.now rows.now cursor n × (n ≤ length out.old) }
-    ensures { (result ≡ n) × (out.new ≡ storedFrom words.now rows.now 0 cursor n out.old) }
+    ensures { (result ≡ n) × (out.new ≡ stored_from words.now rows.now 0 cursor n out.old) }
 {
     let mut c = cursor;
     let mut i: usize = 0;

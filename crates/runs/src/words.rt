@@ -2,7 +2,7 @@
 // that is proved by hand, and hands each run's numbers to a step that is covered.
 ghost use Rattle.std.specs.Prelude.{◌≡◌, ◌^◌};
 ghost use Rattle.rows.specs.Words.{Below};
-ghost use Rattle.runs.specs.Swept.{startSweep, Small, weighRun, weighRuns, begun, begunOut, LayAsks, LayReady, layRun, layRunOut, layRuns, layRunsOut, FinishAsks, finished, finishedOut};
+ghost use Rattle.runs.specs.Swept.{start_sweep, Small, weigh_run, weigh_runs, begun, begun_out, LayAsks, LayReady, lay_run, lay_run_out, lay_runs, lay_runs_out, FinishAsks, finished, finished_out};
 
 use fills::inner::lay::lay_run;
 use laid::inner::{clear, clear_last};
@@ -22,7 +22,7 @@ pub enum Sweep {
 }
 
 pub fn start_sweep(length: u64) -> Sweep
-    ensures { result ≡ startSweep length }
+    ensures { result ≡ start_sweep length }
 {
     if length > 1048576 {
         return Sweep::Barred(refusal(1, 1));
@@ -37,7 +37,7 @@ pub fn start_sweep(length: u64) -> Sweep
 // One more run: past those before it and within the length, or 14.
 fn weigh_on(length: u64, from: u64, sum: u64, first: u64, past: u64) -> Sweep
     requires { Small (Sweep.On length from sum) }
-    ensures { result ≡ weighRun (Sweep.On length from sum) first past }
+    ensures { result ≡ weigh_run (Sweep.On length from sum) first past }
 {
     if !run_fits(from, first, past, length) {
         return Sweep::Barred(refusal(14, 1));
@@ -53,7 +53,7 @@ fn weigh_on(length: u64, from: u64, sum: u64, first: u64, past: u64) -> Sweep
 
 pub fn weigh_one(sweep: Sweep, first: u32, past: u32, out: &mut [u64]) -> Sweep
     requires { Small sweep }
-    ensures { (result ≡ weighRun sweep first past) × (out.new ≡ out.old) }
+    ensures { (result ≡ weigh_run sweep first past) × (out.new ≡ out.old) }
 {
     match sweep {
         Sweep::On { length, from, sum } => weigh_on(length, from, sum, first as u64, past as u64),
@@ -63,7 +63,7 @@ pub fn weigh_one(sweep: Sweep, first: u32, past: u32, out: &mut [u64]) -> Sweep
 
 pub fn weigh_each(runs: &[Run], sweep: Sweep, out: &mut [u64]) -> Sweep
     requires { Small sweep }
-    ensures { (result ≡ weighRuns runs.now sweep) × (out.new ≡ out.old) }
+    ensures { (result ≡ weigh_runs runs.now sweep) × (out.new ≡ out.old) }
 {
     let mut s = sweep;
     let mut i: usize = 0;
@@ -78,7 +78,7 @@ pub fn weigh_each(runs: &[Run], sweep: Sweep, out: &mut [u64]) -> Sweep
 // 8 where the rows have no room; else the last word that they need is cleared, and the rows are laid from row 0 on.
 pub fn begin_laying(sweep: Sweep, out: &mut [u64]) -> Sweep
     requires { Small sweep }
-    ensures { (result ≡ begun sweep out.old) × (out.new ≡ begunOut sweep out.old) × Below (2 ^ 64) out.old }
+    ensures { (result ≡ begun sweep out.old) × (out.new ≡ begun_out sweep out.old) × Below (2 ^ 64) out.old }
 {
     match sweep {
         Sweep::On {
@@ -102,7 +102,7 @@ pub fn begin_laying(sweep: Sweep, out: &mut [u64]) -> Sweep
 
 pub fn lay_one(sweep: Sweep, first: u32, past: u32, out: &mut [u64]) -> Sweep
     requires { LayAsks sweep first past out.old }
-    ensures { (result ≡ layRun sweep first past) × (out.new ≡ layRunOut sweep first past out.old) }
+    ensures { (result ≡ lay_run sweep first past) × (out.new ≡ lay_run_out sweep first past out.old) }
 {
     match sweep {
         Sweep::On { length, from, sum } => {
@@ -120,7 +120,7 @@ pub fn lay_one(sweep: Sweep, first: u32, past: u32, out: &mut [u64]) -> Sweep
 
 pub fn lay_each(runs: &[Run], sweep: Sweep, out: &mut [u64]) -> Sweep
     requires { LayReady runs.now sweep out.old }
-    ensures { (result ≡ layRuns runs.now sweep) × (out.new ≡ layRunsOut runs.now sweep out.old) }
+    ensures { (result ≡ lay_runs runs.now sweep) × (out.new ≡ lay_runs_out runs.now sweep out.old) }
 {
     let mut s = sweep;
     let mut i: usize = 0;
@@ -135,7 +135,7 @@ pub fn lay_each(runs: &[Run], sweep: Sweep, out: &mut [u64]) -> Sweep
 // The rows past the last run, and the answer.
 pub fn finish_laying(sweep: Sweep, out: &mut [u64]) -> Answer
     requires { FinishAsks sweep out.old }
-    ensures { (result ≡ finished sweep) × (out.new ≡ finishedOut sweep out.old) }
+    ensures { (result ≡ finished sweep) × (out.new ≡ finished_out sweep out.old) }
 {
     match sweep {
         Sweep::On { length, from, sum } => {

@@ -16,42 +16,42 @@ use Rattle.io.specs.Digits.{hex_digit_ascii, IsDigitCount}
 use Rattle.io.specs.Digits as ioText
 use Rattle.rows.specs.Rows.{splice}
 use Rattle.rows.specs.Word.{word_of}
-use Rattle.rows.specs.Words.{fit, bitsOfAll, view}
+use Rattle.rows.specs.Words.{fit, bits_of_all, view}
 use Rattle.rows.specs.Table.{choose}
-use Rattle.rows.proofs.SpliceLaws.{splice-one, splice-append, splice-eq}
-use Rattle.rows.proofs.WordLaws.{wordOf-lt}
+use Rattle.rows.proofs.SpliceLaws.{splice_one, splice_append, splice_eq}
+use Rattle.rows.proofs.WordLaws.{word_of_lt}
 use Rattle.rows.proofs.WordsLaws.{fit_length}
-use Rattle.rows.proofs.FitLaws.{view-step}
+use Rattle.rows.proofs.FitLaws.{view_step}
 use Rattle.rules.specs.declared.Answer.{Answer}
-use Rattle.lines.specs.Text.{digitOf, digits, line, bitsKey, decimalIn, decimal, lines, lines_of}
-use Rattle.lines.proofs.SaidLaws.{digits-length}
+use Rattle.lines.specs.Text.{digit_of, digits, line, bits_key, decimal_in, decimal, lines, lines_of}
+use Rattle.lines.proofs.SaidLaws.{digits_length}
 
 -- ---- bytes
 
 -- one more
 pub one_more : (at i y : ℕ) (out done : List ℕ) → length done ≡ i → set (splice at out done) (at + i) y ≡ splice at out (done ++ y ∷ [])
-one_more at i y out done e = sym (splice-one (at + i) (splice at out done) y) ∙ ap (λ (k : ℕ). splice (at + k) (splice at out done) (y ∷ [])) (sym e) ∙ splice-append at out done (y ∷ [])
+one_more at i y out done e = sym (splice_one (at + i) (splice at out done) y) ∙ ap (λ (k : ℕ). splice (at + k) (splice at out done) (y ∷ [])) (sym e) ∙ splice_append at out done (y ∷ [])
 
 -- bytes copied to the front of the part from `at` on
-pub put-part : (at : ℕ) (out bytes : List ℕ) → at + length bytes ≤ length out
+pub put_part : (at : ℕ) (out bytes : List ℕ) → at + length bytes ≤ length out
     → put_mid at (length out - at) out (take (length bytes) bytes ++ drop (length bytes) (mid_of at (length out - at) out)) ≡ splice at out bytes
-put-part at out bytes h =
+put_part at out bytes h =
     let few : length (drop at out) ≤ length out - at = omega (arith, length-drop at out) in
-    rw (splice-eq at out bytes h, take-length bytes, take_all (length out - at) (drop at out) few, drop_of_length-le (drop at out) few, append-nil, drop-drop)
+    rw (splice_eq at out bytes h, take-length bytes, take_all (length out - at) (drop at out) few, drop_of_length-le (drop at out) few, append-nil, drop-drop)
     (sym (append_assoc (take at out) bytes (drop (at + length bytes) out)))
 
 -- parts one after the other: the next part stands where the last one ended
-pub put-after : (at next : ℕ) (out xs ys : List ℕ) → next ≡ at + length xs → splice next (splice at out xs) ys ≡ splice at out (xs ++ ys)
-put-after at next out xs ys e = ap (λ (k : ℕ). splice k (splice at out xs) ys) e ∙ splice-append at out xs ys
+pub put_after : (at next : ℕ) (out xs ys : List ℕ) → next ≡ at + length xs → splice next (splice at out xs) ys ≡ splice at out (xs ++ ys)
+put_after at next out xs ys e = ap (λ (k : ℕ). splice k (splice at out xs) ys) e ∙ splice_append at out xs ys
 
 -- ---- a number
 
-low-glyph : (d : ℕ) → d < 10 → hex_digit_ascii d ≡ 48 + d
-low-glyph d h = rw (lt-ltb d 10 h)
+low_glyph : (d : ℕ) → d < 10 → hex_digit_ascii d ≡ 48 + d
+low_glyph d h = rw (lt-ltb d 10 h)
 
 -- what it is for n to have more than one digit
-more-digits : (j n : ℕ) → IsDigitCount 10 1 n (suc (suc j)) → 10 ^ j * 10 ≤ n
-more-digits j n f =
+more_digits : (j n : ℕ) → IsDigitCount 10 1 n (suc (suc j)) → 10 ^ j * 10 ≤ n
+more_digits j n f =
     let e : suc (suc j) - 1 ≡ suc j = omega arith in
     rw (e, pow-suc) at (f.2 (omega arith))
 
@@ -59,37 +59,37 @@ fewer : (j n : ℕ) → IsDigitCount 10 1 n (suc (suc j)) → IsDigitCount 10 1 
 fewer j n f = (
   omega arith,
   omega (arith, rw pow-suc at f.1),
-  λ h. let e : suc j - 1 ≡ j = omega arith in rw e (omega (arith, more-digits j n f)),
+  λ h. let e : suc j - 1 ≡ j = omega arith in rw e (omega (arith, more_digits j n f)),
 )
 
 one_place : (n : ℕ) → n < 10 → ◌≡◌ {A = List ℕ} (hex_digit_ascii (n % 10) ∷ []) ((48 + n) ∷ [])
-one_place n h = ap (λ (d : ℕ). d ∷ []) (low-glyph (n % 10) (mod-lt n (zero-lt-suc 9)) ∙ ap (λ (d : ℕ). 48 + d) (mod-eq_of_lt h))
+one_place n h = ap (λ (d : ℕ). d ∷ []) (low_glyph (n % 10) (mod-lt n (zero-lt-suc 9)) ∙ ap (λ (d : ℕ). 48 + d) (mod-eq_of_lt h))
 
 -- the fewest digits that hold the number are the number in decimal
-digits_are : (k most n : ℕ) → n < 10 ^ suc most → IsDigitCount 10 1 n (suc k) → ioText.last_digits 10 (suc k) n ≡ decimalIn most n
-unfolding decimalIn
+digits_are : (k most n : ℕ) → n < 10 ^ suc most → IsDigitCount 10 1 n (suc k) → ioText.last_digits 10 (suc k) n ≡ decimal_in most n
+unfolding decimal_in
 digits_are zero zero n m f = one_place n f.1
-digits_are (suc j) zero n m f = absurd (omega (arith, more-digits j n f, one-le-pow j 10 (zero-lt-suc 9)))
+digits_are (suc j) zero n m f = absurd (omega (arith, more_digits j n f, one-le-pow j 10 (zero-lt-suc 9)))
 digits_are zero (suc most) n m f = rw (lt-ltb n 10 f.1) (one_place n f.1)
 digits_are (suc j) (suc most) n m f =
-    rw (le-ltb n 10 (omega (arith, more-digits j n f, one-le-pow j 10 (zero-lt-suc 9))))
+    rw (le-ltb n 10 (omega (arith, more_digits j n f, one-le-pow j 10 (zero-lt-suc 9))))
     (ap₂ (λ (l : List ℕ) (d : ℕ). l ++ d ∷ [])
     (digits_are j most (n / 10) (omega (arith, rw (pow-suc 10 (suc most)) at m)) (fewer j n f))
-    (low-glyph (n % 10) (mod-lt n (zero-lt-suc 9))))
+    (low_glyph (n % 10) (mod-lt n (zero-lt-suc 9))))
 
 -- n digits are enough for n
 enough : (n : ℕ) → n < 10 ^ suc n
 enough zero = omega arith
 enough (suc n) = omega (arith, enough n, pow-suc 10 (suc n))
 
-pub decimal-is : (k n : ℕ) → IsDigitCount 10 1 n k → ioText.last_digits 10 k n ≡ decimal n
+pub decimal_is : (k n : ℕ) → IsDigitCount 10 1 n k → ioText.last_digits 10 k n ≡ decimal n
 unfolding decimal
-decimal-is zero n f = absurd (omega (arith, f.0))
-decimal-is (suc k) n f = digits_are k n n (enough n) f
+decimal_is zero n f = absurd (omega (arith, f.0))
+decimal_is (suc k) n f = digits_are k n n (enough n) f
 
 -- a number of 64 bits has at most 20 digits
-pub few-places : (n k : ℕ) → n < 2 ^ 64 → IsDigitCount 10 1 n k → k ≤ 20
-few-places n k h f = go (dec_le k 20)
+pub few_places : (n k : ℕ) → n < 2 ^ 64 → IsDigitCount 10 1 n k → k ≤ 20
+few_places n k h f = go (dec_le k 20)
   where
     go : Dec (k ≤ 20) → k ≤ 20
     go (yes le) = le
@@ -99,38 +99,38 @@ few-places n k h f = go (dec_le k 20)
 
 pub digits_append : (xs ys : List Bool) → digits (xs ++ ys) ≡ digits xs ++ digits ys
 digits_append [] ys = refl
-digits_append (x ∷ xs) ys = ap (λ (l : List ℕ). digitOf x ∷ l) (digits_append xs ys)
+digits_append (x ∷ xs) ys = ap (λ (l : List ℕ). digit_of x ∷ l) (digits_append xs ys)
 
-pub bits-line : (rows : List Bool) → length (line bitsKey (digits rows)) ≡ 6 + length rows
-bits-line rows = length-append (bitsKey ++ digits rows) (10 ∷ []) ∙ omega (arith, length-append bitsKey (digits rows), digits-length rows)
+pub bits_line : (rows : List Bool) → length (line bits_key (digits rows)) ≡ 6 + length rows
+bits_line rows = length-append (bits_key ++ digits rows) (10 ∷ []) ∙ omega (arith, length-append bits_key (digits rows), digits_length rows)
 
-one-digit : (bits : List Bool) → digits (fit 1 bits) ≡ (48 + word_of (fit 1 bits)) ∷ []
+one_digit : (bits : List Bool) → digits (fit 1 bits) ≡ (48 + word_of (fit 1 bits)) ∷ []
 unfolding word_of
-one-digit [] = refl
-one-digit (false ∷ bits) = refl
-one-digit (true ∷ bits) = refl
+one_digit [] = refl
+one_digit (false ∷ bits) = refl
+one_digit (true ∷ bits) = refl
 
-pub bit-small : (bits : List Bool) → word_of (fit 1 bits) < 2
-bit-small bits = rw (fit_length 1 bits) at (wordOf-lt (fit 1 bits))
+pub bit_small : (bits : List Bool) → word_of (fit 1 bits) < 2
+bit_small bits = rw (fit_length 1 bits) at (word_of_lt (fit 1 bits))
 
-pub digit-next : (i bit : ℕ) (ws : List ℕ) → i + 1 ≤ length ws * 64 → bit ≡ word_of (fit 1 (drop (0 + i) (bitsOfAll 64 ws))) → digits (view 0 (i + 1) ws) ≡ digits (view 0 i ws) ++ (48 + bit) ∷ []
-digit-next i bit ws h e =
-    let bits = fit 1 (drop (0 + i) (bitsOfAll 64 ws)) in
-    ap digits (view-step 0 i 1 ws (omega arith)) ∙ digits_append (view 0 i ws) bits
-    ∙ ap (λ (l : List ℕ). digits (view 0 i ws) ++ l) (one-digit (drop (0 + i) (bitsOfAll 64 ws)) ∙ ap (λ (b : ℕ). (48 + b) ∷ []) (sym e))
+pub digit_next : (i bit : ℕ) (ws : List ℕ) → i + 1 ≤ length ws * 64 → bit ≡ word_of (fit 1 (drop (0 + i) (bits_of_all 64 ws))) → digits (view 0 (i + 1) ws) ≡ digits (view 0 i ws) ++ (48 + bit) ∷ []
+digit_next i bit ws h e =
+    let bits = fit 1 (drop (0 + i) (bits_of_all 64 ws)) in
+    ap digits (view_step 0 i 1 ws (omega arith)) ∙ digits_append (view 0 i ws) bits
+    ∙ ap (λ (l : List ℕ). digits (view 0 i ws) ++ l) (one_digit (drop (0 + i) (bits_of_all 64 ws)) ∙ ap (λ (b : ℕ). (48 + b) ∷ []) (sym e))
 
 -- ---- an answer's lines
 
-pub choose-le : {A : Type 0} (d : Dec A) (n : ℕ) → choose d n 0 ≤ n
-choose-le (yes a) n = omega arith
-choose-le (no h) n = omega arith
+pub choose_le : {A : Type 0} (d : Dec A) (n : ℕ) → choose d n 0 ≤ n
+choose_le (yes a) n = omega arith
+choose_le (no h) n = omega arith
 
-shown-view : {A : Type 0} (d : Dec A) (n : ℕ) (ws : List ℕ) → view 0 (choose d n 0) ws ≡ choose d (view 0 n ws) []
-shown-view (yes a) n ws = refl
-shown-view (no h) n ws = refl
+shown_view : {A : Type 0} (d : Dec A) (n : ℕ) (ws : List ℕ) → view 0 (choose d n 0) ws ≡ choose d (view 0 n ws) []
+shown_view (yes a) n ws = refl
+shown_view (no h) n ws = refl
 
-pub answer-lines : (a : Answer) (n k : ℕ) (ws : List ℕ) → k ≡ choose (ℕ_discrete a.refusal.number 0) n 0
+pub answer_lines : (a : Answer) (n k : ℕ) (ws : List ℕ) → k ≡ choose (ℕ_discrete a.refusal.number 0) n 0
     → lines a.refusal.number a.summary.route a.summary.count (view 0 k ws) ≡ lines_of a (view 0 n ws)
 unfolding lines_of
-answer-lines a n k ws e =
-    ap (lines a.refusal.number a.summary.route a.summary.count) (ap (λ (m : ℕ). view 0 m ws) e ∙ shown-view (ℕ_discrete a.refusal.number 0) n ws)
+answer_lines a n k ws e =
+    ap (lines a.refusal.number a.summary.route a.summary.count) (ap (λ (m : ℕ). view 0 m ws) e ∙ shown_view (ℕ_discrete a.refusal.number 0) n ws)

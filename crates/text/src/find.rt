@@ -1,7 +1,7 @@
 // The two masks of an input: where their digits lie, or that it is malformed.
 ghost use Rattle.std.specs.Prelude.{◌≡◌, ◌+◌, ◌≤◌, length, drop};
-ghost use Rattle.lines.specs.Text.{isDigit, rowsIn};
-ghost use Rattle.lines.specs.Parts.{begins, foundIn};
+ghost use Rattle.lines.specs.Text.{is_digit, rows_in};
+ghost use Rattle.lines.specs.Parts.{begins, found_in};
 
 use lines::Found;
 
@@ -24,7 +24,7 @@ fn has_key(input: &[u8], at: usize, key: &[u8]) -> bool
 }
 
 fn is_digit(byte: u8) -> bool
-    ensures { result ≡ isDigit byte }
+    ensures { result ≡ is_digit byte }
 {
     if byte == b'0' {
         return true;
@@ -35,7 +35,7 @@ fn is_digit(byte: u8) -> bool
 // How many digits stand from index at on, up to the first byte that is none.
 fn count_digits(input: &[u8], at: usize) -> usize
     requires { at ≤ length input.now }
-    ensures { result ≡ length (rowsIn (drop at input.now)) }
+    ensures { result ≡ length (rows_in (drop at input.now)) }
 {
     let mut n: usize = 0;
     while n < input.len() - at {
@@ -49,7 +49,7 @@ fn count_digits(input: &[u8], at: usize) -> usize
 
 // The two lines, of at most 8,192 digits each, and then the end.
 pub fn find(input: &[u8]) -> Found
-    ensures { result ≡ foundIn input.now }
+    ensures { result ≡ found_in input.now }
 {
     if !has_key(input, 0, b"self=") {
         return Found::Malformed;

@@ -4,7 +4,7 @@ ghost use Rattle.std.proofs.Math.Decide.{ℕ_discrete};
 ghost use Rattle.rows.specs.Rows.{splice};
 ghost use Rattle.rows.specs.Words.{view};
 ghost use Rattle.rows.specs.Table.{choose};
-ghost use Rattle.lines.specs.Text.{digits, line, bitsKey, decimal, lines, lines_of, withText};
+ghost use Rattle.lines.specs.Text.{digits, line, bits_key, decimal, lines, lines_of, with_text};
 
 use lines::Written;
 use rules::Answer;
@@ -56,8 +56,8 @@ fn put_digits(words: &[u64], n: usize, at: usize, out: &mut [u8]) -> usize
 // A line with the first n bits of words.
 fn put_bits(words: &[u64], n: usize, at: usize, out: &mut [u8]) -> usize
     requires { (n ≤ length words.now * 64) × (at + n + 6 ≤ length out.old) }
-    ensures { (result ≡ at + length (line bitsKey (digits (view 0 n words.now))))
-        × (out.new ≡ splice at out.old (line bitsKey (digits (view 0 n words.now)))) }
+    ensures { (result ≡ at + length (line bits_key (digits (view 0 n words.now))))
+        × (out.new ≡ splice at out.old (line bits_key (digits (view 0 n words.now)))) }
 {
     let value = put_bytes(b"bits=", at, out);
     let end = put_digits(words, n, value, out);
@@ -90,7 +90,7 @@ fn shown(refusal: u8, n: usize) -> usize
 // The lines of an answer, whose rows are the first n bits of words.
 pub fn put_answer(answer: Answer, words: &[u64], n: usize, out: &mut [u8]) -> Written
     requires { (n ≤ length words.now * 64) × (n + 89 ≤ length out.old) }
-    ensures { (result ≡ withText answer (lines_of answer (view 0 n words.now)))
+    ensures { (result ≡ with_text answer (lines_of answer (view 0 n words.now)))
         × (out.new ≡ splice 0 out.old (lines_of answer (view 0 n words.now)))
         × (result.len ≤ n + 89) }
 {

@@ -2,9 +2,9 @@
 ghost use Rattle.std.specs.Prelude.{◌≡◌, ◌+◌, ◌*◌, ◌≤◌, length, take, drop};
 ghost use Rattle.rows.specs.Rows.{count, splice};
 ghost use Rattle.rows.specs.Words.{view};
-ghost use Rattle.rows.specs.Laid.{wordsFor, written};
-ghost use Rattle.lines.specs.Text.{rowsIn, answerFor, text_of, withText};
-ghost use Rattle.lines.specs.Parts.{answerWords, toldWords, foundIn};
+ghost use Rattle.rows.specs.Laid.{words_for, written};
+ghost use Rattle.lines.specs.Text.{rows_in, answer_for, text_of, with_text};
+ghost use Rattle.lines.specs.Parts.{answer_words, told_words, found_in};
 
 use super::find::find;
 use super::put::put_answer;
@@ -18,8 +18,8 @@ use rules::Form;
 
 // The n digits from index at on as words, row 0 in bit 0.
 fn pack(input: &[u8], at: usize, n: usize, words: &mut [u64])
-    requires { (at ≤ length input.now) × (n ≡ length (rowsIn (drop at input.now))) × (wordsFor n ≤ length words.old) }
-    ensures { words.new ≡ written n (rowsIn (drop at input.now)) words.old }
+    requires { (at ≤ length input.now) × (n ≡ length (rows_in (drop at input.now))) × (words_for n ≤ length words.old) }
+    ensures { words.new ≡ written n (rows_in (drop at input.now)) words.old }
 {
     clear_last(words, n as u64);
     let mut i: usize = 0;
@@ -53,9 +53,9 @@ fn tell_words(
     words: &mut [u64],
     out: &mut [u8],
 ) -> Written
-    requires { (s ≤ 8192) × (s ≤ length swords.now * 64) × (r ≤ 8192) × (r ≤ length rwords.now * 64) × (wordsFor s ≤ length words.old) × (8281 ≤ length out.old) }
-    ensures { (result ≡ withText (answerWords swords.now s rwords.now r words.old) (toldWords swords.now s rwords.now r words.old))
-        × (out.new ≡ splice 0 out.old (toldWords swords.now s rwords.now r words.old))
+    requires { (s ≤ 8192) × (s ≤ length swords.now * 64) × (r ≤ 8192) × (r ≤ length rwords.now * 64) × (words_for s ≤ length words.old) × (8281 ≤ length out.old) }
+    ensures { (result ≡ with_text (answer_words swords.now s rwords.now r words.old) (told_words swords.now s rwords.now r words.old))
+        × (out.new ≡ splice 0 out.old (told_words swords.now s rwords.now r words.old))
         × (result.len ≤ 8281) }
 {
     // words ignore the rows that are lent beside them
@@ -74,8 +74,8 @@ fn tell_words(
 
 // The composition of the two masks that were found, told.
 fn tell_masks(input: &[u8], s: usize, r: usize, out: &mut [u8]) -> Written
-    requires { (foundIn input.now ≡ Found.Masks s r) × (8281 ≤ length out.old) }
-    ensures { (result ≡ withText (answerFor input.now) (text_of input.now))
+    requires { (found_in input.now ≡ Found.Masks s r) × (8281 ≤ length out.old) }
+    ensures { (result ≡ with_text (answer_for input.now) (text_of input.now))
         × (out.new ≡ splice 0 out.old (text_of input.now))
         × (result.len ≤ 8281) }
 {
@@ -93,7 +93,7 @@ fn tell_masks(input: &[u8], s: usize, r: usize, out: &mut [u8]) -> Written
 // The text, from the start of out on.
 pub fn tell(input: &[u8], out: &mut [u8]) -> Written
     requires { 8281 ≤ length out.old }
-    ensures { (result ≡ withText (answerFor input.now) (text_of input.now)) × (take result.len out.new ≡ text_of input.now) × (result.len ≤ 8281) }
+    ensures { (result ≡ with_text (answer_for input.now) (text_of input.now)) × (take result.len out.new ≡ text_of input.now) × (result.len ≤ 8281) }
 {
     match find(input) {
         Found::Malformed => {

@@ -1,5 +1,7 @@
 // Runs the cases of data/, which scripts/texts.py wrote: `names` has their names, a file of that name the input, and one with `.answer`
 // after the name the text that is to be written for it.
+#![tactic(auto)]
+
 ghost use Rattle.std.specs.Prelude.{◌≤◌, length};
 
 use case::{Finding, differs, run_case};

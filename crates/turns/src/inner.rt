@@ -2,10 +2,10 @@
 // rows are the word against itself moved up by one, with the row before it carried in.
 ghost use Rattle.std.specs.Prelude.{◌≡◌, [], ◌+◌, ◌-◌, ◌*◌, ◌/◌, ◌%◌, ◌≤◌, ◌<◌, min, length};
 ghost use Rattle.rows.specs.Rows.{count, splice};
-ghost use Rattle.rows.specs.Word.{isOne, bits_of, word_of};
+ghost use Rattle.rows.specs.Word.{is_one, bits_of, word_of};
 ghost use Rattle.rows.specs.Words.{view};
-ghost use Rattle.rows.specs.Lists.{listed, Ascending, setRows};
-ghost use Rattle.rows.specs.Runs.{Apart, runLengths, turns, runsOf};
+ghost use Rattle.rows.specs.Lists.{listed, Ascending, set_rows};
+ghost use Rattle.rows.specs.Runs.{Apart, run_lengths, turns, runs_of};
 ghost use Rattle.rows.specs.Edges.{edges};
 ghost use Rattle.rows.specs.Asks.{InView, Chunk};
 ghost use Rattle.turns.specs.Gaps.{between};
@@ -15,7 +15,7 @@ use lent::inner::{chunk, chunk_len, ones};
 // Which of a chunk's n rows differ from the row before them, the row before the first being carry.
 fn edge_word(chunk: u64, carry: u64, n: u64) -> u64
     requires { Chunk n × (carry < 2) }
-    ensures { result ≡ word_of (edges (isOne carry) (bits_of n chunk)) }
+    ensures { result ≡ word_of (edges (is_one carry) (bits_of n chunk)) }
 {
     (chunk ^ ((chunk << 1) | carry)) & ones(n)
 }
@@ -23,7 +23,7 @@ fn edge_word(chunk: u64, carry: u64, n: u64) -> u64
 // How many numbers the runs of a view are. A run that goes on to the view's end has its end there: that is the last row, carried out.
 pub fn count_turns(words: &[u64], start: u64, len: u64) -> u64
     requires { InView start len words.now }
-    ensures { result ≡ length (runsOf (view start len words.now)) }
+    ensures { result ≡ length (runs_of (view start len words.now)) }
 {
     let mut sum: u64 = 0;
     let mut carry: u64 = 0;
@@ -42,7 +42,7 @@ pub fn count_turns(words: &[u64], start: u64, len: u64) -> u64
 // The set bits of a chunk whose first row is base, from entry k of out on; the entry after them.
 pub fn list_chunk(chunk: u64, base: u32, k: usize, out: &mut [u32]) -> usize
     requires { (base ≤ 1048576) × (k + count (bits_of 64 chunk) ≤ length out.old) }
-    ensures { (result ≡ k + count (bits_of 64 chunk)) × (out.new ≡ splice k out.old (setRows base (bits_of 64 chunk))) }
+    ensures { (result ≡ k + count (bits_of 64 chunk)) × (out.new ≡ splice k out.old (set_rows base (bits_of 64 chunk))) }
 {
     let mut rest = chunk;
     let mut p = k;
@@ -56,8 +56,8 @@ pub fn list_chunk(chunk: u64, base: u32, k: usize, out: &mut [u32]) -> usize
 
 // The end of a run that goes on to the last row, at entry k of out.
 fn write_end(carry: u64, past: u32, k: usize, out: &mut [u32])
-    requires { k + length (turns (isOne carry) past []) ≤ length out.old }
-    ensures { out.new ≡ splice k out.old (turns (isOne carry) past []) }
+    requires { k + length (turns (is_one carry) past []) ≤ length out.old }
+    ensures { out.new ≡ splice k out.old (turns (is_one carry) past []) }
 {
     if carry == 0 {
         return;
@@ -67,8 +67,8 @@ fn write_end(carry: u64, past: u32, k: usize, out: &mut [u32])
 
 // The runs of a view, over the front of out; later entries stay.
 pub fn write_turns(words: &[u64], start: u64, len: u64, out: &mut [u32])
-    requires { InView start len words.now × (length (runsOf (view start len words.now)) ≤ length out.old) }
-    ensures { out.new ≡ splice 0 out.old (runsOf (view start len words.now)) }
+    requires { InView start len words.now × (length (runs_of (view start len words.now)) ≤ length out.old) }
+    ensures { out.new ≡ splice 0 out.old (runs_of (view start len words.now)) }
 {
     let mut k: usize = 0;
     let mut carry: u64 = 0;
@@ -97,7 +97,7 @@ fn gap(past: u32, row: u32) -> u64
 // How many numbers the runs of a list of row numbers are.
 pub fn count_list_turns(rows: &[u32], len: u64) -> u64
     requires { (len ≤ 1048576) × Ascending 0 len rows.now }
-    ensures { result ≡ length (runsOf (listed len rows.now)) }
+    ensures { result ≡ length (runs_of (listed len rows.now)) }
 {
     if rows.len() == 0 {
         return 0;
@@ -129,8 +129,8 @@ fn write_gap(past: u32, row: u32, k: usize, out: &mut [u32]) -> usize
 
 // The runs of a list of row numbers, over the front of out; later entries stay.
 pub fn write_list_turns(rows: &[u32], len: u64, out: &mut [u32])
-    requires { (len ≤ 1048576) × Ascending 0 len rows.now × (length (runsOf (listed len rows.now)) ≤ length out.old) }
-    ensures { out.new ≡ splice 0 out.old (runsOf (listed len rows.now)) }
+    requires { (len ≤ 1048576) × Ascending 0 len rows.now × (length (runs_of (listed len rows.now)) ≤ length out.old) }
+    ensures { out.new ≡ splice 0 out.old (runs_of (listed len rows.now)) }
 {
     if rows.len() == 0 {
         return;
@@ -170,7 +170,7 @@ fn excess(sum: u64) -> u64
 // the firsts of 2,048 runs, or their pasts, summed.
 fn sum_block(runs: &[u32]) -> u64
     requires { (length runs.now % 4 ≡ 0) × (length runs.now ≤ 8192) × Apart 0 1048576 runs.now }
-    ensures { result ≡ runLengths runs.now }
+    ensures { result ≡ run_lengths runs.now }
 {
     let half = runs.len() / 2;
     let mut one: u64 = 0;
@@ -198,7 +198,7 @@ fn block_end(len: usize, i: usize) -> usize
 // How many rows runs of a mask have: block by block, as far as the runs go in pairs, and then the last.
 pub fn sum_runs(runs: &[u32]) -> u64
     requires { Apart 0 1048576 runs.now }
-    ensures { result ≡ runLengths runs.now }
+    ensures { result ≡ run_lengths runs.now }
 {
     let paired = runs.len() / 4 * 4;
     let mut sum: u64 = 0;

@@ -13,31 +13,31 @@ use lib.ListN.{length, drop, get_or, replicate, length-append, length-replicate,
 use lib.Seq.{drop-cons}
 use Rattle.rows.specs.Rows.{count, compose}
 use Rattle.rows.specs.Words.{Below}
-use Rattle.rows.specs.Lists.{member, listed, Ascending, setRows, select}
-use Rattle.rows.specs.Runs.{held, inRuns, runLengths, Apart}
+use Rattle.rows.specs.Lists.{member, listed, Ascending, set_rows, select}
+use Rattle.rows.specs.Runs.{held, in_runs, run_lengths, Apart}
 use Rattle.rows.specs.Laid.{laid, marked}
-use Rattle.rows.proofs.RowLaws.{count-append, count-le-length, compose-count}
-use Rattle.rows.proofs.SelectLaws.{select-unset, select-set, select_in, select-skip}
-use Rattle.rows.proofs.ListLaws.{tab-length, listed-count}
-use Rattle.rows.proofs.MarkLaws.{marked_append, marked-length, ascending-below, below_at}
-use Rattle.rows.proofs.RunLaws.{runRows, in-runs, rows-sum, runs-count, runs-few}
-use Rattle.rows.proofs.RunTurnLaws.{NextRun, next-run, rows_next, rows_none}
-use Rattle.marks.proofs.DrivenLaws.{ascending-in, rows_at}
+use Rattle.rows.proofs.RowLaws.{count_append, count_le_length, compose_count}
+use Rattle.rows.proofs.SelectLaws.{select_unset, select_set, select_in, select_skip}
+use Rattle.rows.proofs.ListLaws.{tab_length, listed_count}
+use Rattle.rows.proofs.MarkLaws.{marked_append, marked_length, ascending_below, below_at}
+use Rattle.rows.proofs.RunLaws.{run_rows, in_runs_lem, rows_sum, runs_count, runs_few}
+use Rattle.rows.proofs.RunTurnLaws.{NextRun, next_run, rows_next, rows_none}
+use Rattle.marks.proofs.DrivenLaws.{ascending_in, rows_at}
 use Rattle.under.specs.Taken.{Taken}
 
 -- ---- the ranks that a run takes
 
-below-snoc : (e r : ℕ) (rs : List ℕ) → Below e rs → r < e → Below e (rs ++ (r ∷ []))
-below-snoc e r [] b h = (h, tt)
-below-snoc e r (x ∷ rs) b h = (b.0, below-snoc e r rs b.1 h)
+below_snoc : (e r : ℕ) (rs : List ℕ) → Below e rs → r < e → Below e (rs ++ (r ∷ []))
+below_snoc e r [] b h = (h, tt)
+below_snoc e r (x ∷ rs) b h = (b.0, below_snoc e r rs b.1 h)
 
 module _ (ranks : List ℕ) (row : ℕ → ℕ) (at next end from : ℕ) (out₀ : List ℕ) where
   pub taken_none : next ≤ length ranks → Ascending from (2 ^ 32) (drop next ranks) → Taken ranks row at next next end from out₀ out₀
   taken_none h a = record { taken = []; parts = refl; within = h; below = tt; ahead = a; marks = refl }
 
   module _ (past : ℕ) (out : List ℕ) (t : Taken ranks row at next past end from out₀ out) where
-    pub taken-length : length out ≡ length out₀
-    taken-length = ap length t.marks ∙ marked-length at (map row t.taken) out₀
+    pub taken_length : length out ≡ length out₀
+    taken_length = ap length t.marks ∙ marked_length at (map row t.taken) out₀
 
     module _ (h : past < length ranks) where
       abbrev rank : ℕ
@@ -47,20 +47,20 @@ module _ (ranks : List ℕ) (row : ℕ → ℕ) (at next end from : ℕ) (out₀
       is = drop-cons ranks past 0 h ∙ ap (λ (j : ℕ). get_or ranks past 0 ∷ drop j ranks) (sym (add-one past))
 
       -- the next that is left
-      pub taken-ahead : Ascending from (2 ^ 32) (get_or ranks past 0 ∷ drop (past + 1) ranks)
-      taken-ahead = subst (Ascending from (2 ^ 32)) is t.ahead
+      pub taken_ahead : Ascending from (2 ^ 32) (get_or ranks past 0 ∷ drop (past + 1) ranks)
+      taken_ahead = subst (Ascending from (2 ^ 32)) is t.ahead
 
       -- one more
       pub taken_next : (then : List ℕ) → get_or ranks past 0 < end → then ≡ laid (at + row (get_or ranks past 0)) (true ∷ []) out
           → Taken ranks row at next (past + 1) end from out₀ then
       taken_next then l e =
-          let a = taken-ahead in
+          let a = taken_ahead in
           record {
             taken = t.taken ++ (rank ∷ []);
             parts = t.parts ∙ ap (λ (rs : List ℕ). t.taken ++ rs) is ∙ sym (append_assoc t.taken (rank ∷ []) (drop (past + 1) ranks));
             within = omega arith;
-            below = below-snoc end rank t.taken t.below l;
-            ahead = ascending-in from (suc rank) (2 ^ 32) (2 ^ 32) (drop (past + 1) ranks) (omega (arith, a.0)) (omega arith) a.2;
+            below = below_snoc end rank t.taken t.below l;
+            ahead = ascending_in from (suc rank) (2 ^ 32) (2 ^ 32) (drop (past + 1) ranks) (omega (arith, a.0)) (omega arith) a.2;
             marks =
                 e ∙ ap (laid (at + row rank) (true ∷ [])) t.marks
                 ∙ sym (ap (λ (rs : List ℕ). marked at rs out₀) (map-append row t.taken (rank ∷ []))
@@ -71,13 +71,13 @@ module _ (ranks : List ℕ) (row : ℕ → ℕ) (at next end from : ℕ) (out₀
     left : Ascending end (2 ^ 32) (drop past ranks) → Taken ranks row at next past end end out₀ out
     left a = record { taken = t.taken; parts = t.parts; within = t.within; below = t.below; ahead = a; marks = t.marks }
 
-    pub taken-past : past < length ranks → end ≤ get_or ranks past 0 → Taken ranks row at next past end end out₀ out
-    taken-past h l =
-        let a = taken-ahead h in
+    pub taken_past : past < length ranks → end ≤ get_or ranks past 0 → Taken ranks row at next past end end out₀ out
+    taken_past h l =
+        let a = taken_ahead h in
         left (subst (Ascending end (2 ^ 32)) (sym (is h)) (l, a.1, a.2))
 
-    pub taken-all : length ranks ≤ past → Taken ranks row at next past end end out₀ out
-    taken-all h = left (subst (Ascending end (2 ^ 32)) (sym (drop_of_length-le ranks {i = past} h)) tt)
+    pub taken_all : length ranks ≤ past → Taken ranks row at next past end end out₀ out
+    taken_all h = left (subst (Ascending end (2 ^ 32)) (sym (drop_of_length-le ranks {i = past} h)) tt)
 
 -- their rows by another function that has the same ones
 same_rows : (f g : ℕ → ℕ) (b e top : ℕ) (ps rs : List ℕ) → ((k : ℕ) → b ≤ k → k < e → f k ≡ g k) → Below e ps → Ascending b top (ps ++ rs)
@@ -85,20 +85,20 @@ same_rows : (f g : ℕ → ℕ) (b e top : ℕ) (ps rs : List ℕ) → ((k : ℕ
 same_rows f g b e top [] rs s l a = refl
 same_rows f g b e top (p ∷ ps) rs s l a =
     ap₂ (λ (x : ℕ) (l : List ℕ). x ∷ l) (s p a.0 l.0)
-    (same_rows f g b e top ps rs s l.1 (ascending-in b (suc p) top top (ps ++ rs) (omega (arith, a.0)) (omega arith) a.2))
+    (same_rows f g b e top ps rs s l.1 (ascending_in b (suc p) top top (ps ++ rs) (omega (arith, a.0)) (omega arith) a.2))
 
 -- ---- a run: unset rows and then set ones
 
-select-run : (m n k : ℕ) → k < n → select (replicate m false ++ replicate n true) k ≡ m + k
-select-run zero zero k h = absurd (omega arith)
-select-run zero (suc n) zero h = refl
-select-run zero (suc n) (suc k) h = select-set (replicate n true) k ∙ ap suc (select-run zero n k (le_of_suc-le-suc h)) ∙ omega arith
-select-run (suc m) n k h = select-unset (replicate m false ++ replicate n true) k ∙ ap suc (select-run m n k h) ∙ omega arith
+select_run : (m n k : ℕ) → k < n → select (replicate m false ++ replicate n true) k ≡ m + k
+select_run zero zero k h = absurd (omega arith)
+select_run zero (suc n) zero h = refl
+select_run zero (suc n) (suc k) h = select_set (replicate n true) k ∙ ap suc (select_run zero n k (le_of_suc-le-suc h)) ∙ omega arith
+select_run (suc m) n k h = select_unset (replicate m false ++ replicate n true) k ∙ ap suc (select_run m n k h) ∙ omega arith
 
-count-run : (m n : ℕ) → count (replicate m false ++ replicate n true) ≡ n
-count-run zero zero = refl
-count-run zero (suc n) = ap suc (count-run zero n)
-count-run (suc m) n = count-run m n
+count_run : (m n : ℕ) → count (replicate m false ++ replicate n true) ≡ n
+count_run zero zero = refl
+count_run zero (suc n) = ap suc (count_run zero n)
+count_run (suc m) n = count_run m n
 
 length_run : (m n : ℕ) → length (replicate m false ++ replicate n true) ≡ m + n
 length_run m n =
@@ -108,38 +108,38 @@ length_run m n =
 
 module _ (runs : List ℕ) (len : ℕ) where
   abbrev self : List Bool
-  self = inRuns len runs
+  self = in_runs len runs
 
   -- the runs from number i on are left, and so many ranks are passed
   pub record Walk (i passed : ℕ) : Type 0 where
     pub row : ℕ
     pub front : List Bool
-    pub parts : inRuns len runs ≡ front ++ runRows row len (drop i runs)
+    pub parts : in_runs len runs ≡ front ++ run_rows row len (drop i runs)
     pub long : length front ≡ row
     pub counted : count front ≡ passed
     pub ahead : Apart row len (drop i runs)
 
   pub walk_none : Apart 0 len runs → Walk 0 0
-  walk_none a = record { row = 0; front = []; parts = in-runs len runs a; long = refl; counted = refl; ahead = a }
+  walk_none a = record { row = 0; front = []; parts = in_runs_lem len runs a; long = refl; counted = refl; ahead = a }
 
   module _ (i passed : ℕ) (w : Walk i passed) where
     abbrev rest : List Bool
-    rest = runRows w.row len (drop i runs)
+    rest = run_rows w.row len (drop i runs)
 
     counts : count self ≡ passed + count rest
-    counts = ap count w.parts ∙ count-append w.front rest ∙ ap (λ (n : ℕ). n + count rest) w.counted
+    counts = ap count w.parts ∙ count_append w.front rest ∙ ap (λ (n : ℕ). n + count rest) w.counted
 
     -- a rank that self has and that is not passed is in a run that is left
-    pub walk-on : (rank : ℕ) → passed ≤ rank → rank < count (inRuns len runs) → i < length runs
-    walk-on rank l h = go (dec_lt i (length runs))
+    pub walk_on : (rank : ℕ) → passed ≤ rank → rank < count (in_runs len runs) → i < length runs
+    walk_on rank l h = go (dec_lt i (length runs))
       where
         go : Dec (i < length runs) → i < length runs
         go (yes p) = p
-        go (no p) = absurd (omega (arith, counts, ap count (rows_none w.row len i runs (omega arith)), rows-sum w.row len []))
+        go (no p) = absurd (omega (arith, counts, ap count (rows_none w.row len i runs (omega arith)), rows_sum w.row len []))
 
     module _ (h : i < length runs) where
-      pub walk-next : NextRun w.row len i runs
-      walk-next = next-run w.row len i runs h w.ahead
+      pub walk_next : NextRun w.row len i runs
+      walk_next = next_run w.row len i runs h w.ahead
 
       abbrev first : ℕ
       first = get_or runs i 0
@@ -157,37 +157,37 @@ module _ (runs : List ℕ) (len : ℕ) where
       run = replicate gap false ++ replicate own true
 
       abbrev others : List Bool
-      others = runRows past len (drop (i + 2) runs)
+      others = run_rows past len (drop (i + 2) runs)
 
       split : rest ≡ run ++ others
-      split = rows_next w.row len i runs walk-next ∙ sym (append_assoc (replicate gap false) (replicate own true) others)
+      split = rows_next w.row len i runs walk_next ∙ sym (append_assoc (replicate gap false) (replicate own true) others)
 
       -- a rank that the run has
-      pub walk-row : (k : ℕ) → passed ≤ k → k < passed + (get_or runs (i + 1) 0 - get_or runs i 0) → select (inRuns len runs) k ≡ get_or runs i 0 + (k - passed)
-      walk-row k l u =
+      pub walk_row : (k : ℕ) → passed ≤ k → k < passed + (get_or runs (i + 1) 0 - get_or runs i 0) → select (in_runs len runs) k ≡ get_or runs i 0 + (k - passed)
+      walk_row k l u =
           let here : k - count w.front ≡ k - passed = ap (λ (n : ℕ). k - n) w.counted in
-          let within : k - passed < count run = omega (arith, count-run gap own) in
-          let place : w.row + (gap + (k - passed)) ≡ first + (k - passed) = omega (arith, walk-next.from) in
-          ap (λ (s : List Bool). select s k) w.parts ∙ select-skip w.front rest k (omega (arith, w.counted))
+          let within : k - passed < count run = omega (arith, count_run gap own) in
+          let place : w.row + (gap + (k - passed)) ≡ first + (k - passed) = omega (arith, walk_next.from) in
+          ap (λ (s : List Bool). select s k) w.parts ∙ select_skip w.front rest k (omega (arith, w.counted))
           ∙ ap₂ (λ (n : ℕ) (s : List Bool). n + select s (k - count w.front)) w.long split
           ∙ ap (λ (n : ℕ). w.row + select (run ++ others) n) here
-          ∙ ap (λ (n : ℕ). w.row + n) (select_in run others (k - passed) within ∙ select-run gap own (k - passed) (omega arith)) ∙ place
+          ∙ ap (λ (n : ℕ). w.row + n) (select_in run others (k - passed) within ∙ select_run gap own (k - passed) (omega arith)) ∙ place
 
       -- its ranks are no more than the rows
-      pub walk-few : passed + (get_or runs (i + 1) 0 - get_or runs i 0) ≤ len
-      walk-few =
+      pub walk_few : passed + (get_or runs (i + 1) 0 - get_or runs i 0) ≤ len
+      walk_few =
           omega
-          (arith, counts, ap count split, count-append run others, count-run gap own, count-le-length self, tab-length 0 len (λ j. held j runs))
+          (arith, counts, ap count split, count_append run others, count_run gap own, count_le_length self, tab_length 0 len (λ j. held j runs))
 
-      pub walk-run : Walk (i + 2) (passed + (get_or runs (i + 1) 0 - get_or runs i 0))
-      walk-run =
-          let r = walk-next in
+      pub walk_run : Walk (i + 2) (passed + (get_or runs (i + 1) 0 - get_or runs i 0))
+      walk_run =
+          let r = walk_next in
           record {
             row = past;
             front = w.front ++ run;
             parts = w.parts ∙ ap (λ (s : List Bool). w.front ++ s) split ∙ sym (append_assoc w.front run others);
             long = length-append w.front run ∙ omega (arith, w.long, length_run gap own, r.from, r.some);
-            counted = count-append w.front run ∙ ap₂ (λ (x y : ℕ). x + y) w.counted (count-run gap own);
+            counted = count_append w.front run ∙ ap₂ (λ (x y : ℕ). x + y) w.counted (count_run gap own);
             ahead = r.left;
           }
 
@@ -199,41 +199,41 @@ module _ (runs ranks : List ℕ) (len at : ℕ) where
     pub walk : Walk runs len i passed
     pub within : next ≤ length ranks
     pub ahead : Ascending passed (2 ^ 32) (drop next ranks)
-    pub marks : marked at (map (select (inRuns len runs)) (drop next ranks)) out ≡ goal
+    pub marks : marked at (map (select (in_runs len runs)) (drop next ranks)) out ≡ goal
 
-  pub marking-none : (out : List ℕ) → Apart 0 len runs → len ≤ 1048576 → Ascending 0 (runLengths runs) ranks
-      → Marking 0 0 0 out (marked at (map (select (inRuns len runs)) ranks) out)
-  marking-none out a h up = record {
+  pub marking_none : (out : List ℕ) → Apart 0 len runs → len ≤ 1048576 → Ascending 0 (run_lengths runs) ranks
+      → Marking 0 0 0 out (marked at (map (select (in_runs len runs)) ranks) out)
+  marking_none out a h up = record {
     walk = walk_none runs len a;
     within = omega arith;
-    ahead = ascending-in 0 0 (runLengths runs) (2 ^ 32) ranks (omega arith) (omega (arith, runs-few 0 len runs a (omega arith))) up;
+    ahead = ascending_in 0 0 (run_lengths runs) (2 ^ 32) ranks (omega arith) (omega (arith, runs_few 0 len runs a (omega arith))) up;
     marks = refl;
   }
 
   module _ (i next passed : ℕ) (out goal : List ℕ) (m : Marking i next passed out goal) where
     -- a run is left where a rank is
-    pub marking-on : Apart 0 len runs → Ascending 0 (runLengths runs) ranks → next < length ranks → i < length runs
-    marking-on a up h =
+    pub marking_on : Apart 0 len runs → Ascending 0 (run_lengths runs) ranks → next < length ranks → i < length runs
+    marking_on a up h =
         let head = subst (Ascending passed (2 ^ 32)) (drop-cons ranks next 0 h) m.ahead in
-        let few = below_at (runLengths runs) ranks next (ascending-below 0 (runLengths runs) ranks up) h in
-        walk-on runs len i passed m.walk (get_or ranks next 0) head.0 (omega (arith, few, runs-count len runs a))
+        let few = below_at (run_lengths runs) ranks next (ascending_below 0 (run_lengths runs) ranks up) h in
+        walk_on runs len i passed m.walk (get_or ranks next 0) head.0 (omega (arith, few, runs_count len runs a))
 
-    pub marking-run : (h : i < length runs) (past : ℕ) (then : List ℕ)
+    pub marking_run : (h : i < length runs) (past : ℕ) (then : List ℕ)
         → Taken ranks (λ k. get_or runs i 0 + (k - passed)) at next past (passed + (get_or runs (i + 1) 0 - get_or runs i 0))
         (passed + (get_or runs (i + 1) 0 - get_or runs i 0)) out then
         → Marking (i + 2) past (passed + (get_or runs (i + 1) 0 - get_or runs i 0)) then goal
-    marking-run h past then t =
+    marking_run h past then t =
         let end : ℕ = passed + (get_or runs (i + 1) 0 - get_or runs i 0) in
         let here : ℕ → ℕ = λ k. get_or runs i 0 + (k - passed) in
-        let row : ℕ → ℕ = select (inRuns len runs) in
+        let row : ℕ → ℕ = select (in_runs len runs) in
         let others = drop past ranks in
         let same : map row t.taken ≡ map here t.taken =
-        same_rows row here passed end (2 ^ 32) t.taken others (walk-row runs len i passed m.walk h) t.below
+        same_rows row here passed end (2 ^ 32) t.taken others (walk_row runs len i passed m.walk h) t.below
         (subst (Ascending passed (2 ^ 32)) t.parts m.ahead) in
         let parts : map row (drop next ranks) ≡ map here t.taken ++ map row others =
         ap (map row) t.parts ∙ map-append row t.taken others ∙ ap (λ (l : List ℕ). l ++ map row others) same in
         record {
-          walk = walk-run runs len i passed m.walk h;
+          walk = walk_run runs len i passed m.walk h;
           within = t.within;
           ahead = t.ahead;
           marks =
@@ -241,21 +241,21 @@ module _ (runs ranks : List ℕ) (len at : ℕ) where
               ∙ sym (ap (λ (l : List ℕ). marked at l out) parts) ∙ m.marks;
         }
 
-    pub marking-all : length ranks ≤ next → out ≡ goal
-    marking-all h =
-        sym (ap (λ (rs : List ℕ). marked at (map (select (inRuns len runs)) rs) out) (drop_of_length-le ranks {i = next} h)) ∙ m.marks
+    pub marking_all : length ranks ≤ next → out ≡ goal
+    marking_all h =
+        sym (ap (λ (rs : List ℕ). marked at (map (select (in_runs len runs)) rs) out) (drop_of_length-le ranks {i = next} h)) ∙ m.marks
 
 -- the rows of a composition by listed ranks, and how many they are
-module _ (runs ranks : List ℕ) (len : ℕ) (apart : Apart 0 len runs) (up : Ascending 0 (runLengths runs) ranks) where
-  few : count (inRuns len runs) ≡ runLengths runs
-  few = runs-count len runs apart
+module _ (runs ranks : List ℕ) (len : ℕ) (apart : Apart 0 len runs) (up : Ascending 0 (run_lengths runs) ranks) where
+  few : count (in_runs len runs) ≡ run_lengths runs
+  few = runs_count len runs apart
 
-  pub entry-rows : setRows 0 (compose (inRuns len runs) (listed (runLengths runs) ranks)) ≡ map (select (inRuns len runs)) ranks
-  entry-rows =
-      ap (λ (n : ℕ). setRows 0 (compose (inRuns len runs) (listed n ranks))) (sym few)
-      ∙ rows_at (inRuns len runs) ranks (subst (λ (n : ℕ). Ascending 0 n ranks) (sym few) up)
+  pub entry_rows : set_rows 0 (compose (in_runs len runs) (listed (run_lengths runs) ranks)) ≡ map (select (in_runs len runs)) ranks
+  entry_rows =
+      ap (λ (n : ℕ). set_rows 0 (compose (in_runs len runs) (listed n ranks))) (sym few)
+      ∙ rows_at (in_runs len runs) ranks (subst (λ (n : ℕ). Ascending 0 n ranks) (sym few) up)
 
-  pub entry-count : length ranks ≡ count (compose (inRuns len runs) (listed (runLengths runs) ranks))
-  entry-count =
-      sym (compose-count (inRuns len runs) (listed (runLengths runs) ranks) (tab-length 0 (runLengths runs) (λ i. member i ranks) ∙ sym few)
-      ∙ listed-count (runLengths runs) ranks up)
+  pub entry_count : length ranks ≡ count (compose (in_runs len runs) (listed (run_lengths runs) ranks))
+  entry_count =
+      sym (compose_count (in_runs len runs) (listed (run_lengths runs) ranks) (tab_length 0 (run_lengths runs) (λ i. member i ranks) ∙ sym few)
+      ∙ listed_count (run_lengths runs) ranks up)

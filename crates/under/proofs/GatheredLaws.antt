@@ -12,10 +12,10 @@ use Rattle.rows.specs.Word.{bits_of}
 use Rattle.rows.specs.Words.{Below}
 use Rattle.rows.specs.Lists.{tab, member}
 use Rattle.rows.specs.Laid.{laid}
-use Rattle.rows.proofs.WordLaws.{bitsOf-wordOf-at}
-use Rattle.rows.proofs.ListLaws.{tab-length}
-use Rattle.rows.proofs.RunLaws.{tab-add}
-use Rattle.rows.proofs.ProgressLaws.{Progress, progress-none, progress-as, progress-part}
+use Rattle.rows.proofs.WordLaws.{bits_of_word_of_at}
+use Rattle.rows.proofs.ListLaws.{tab_length}
+use Rattle.rows.proofs.RunLaws.{tab_add}
+use Rattle.rows.proofs.ProgressLaws.{Progress, progress_none, progress_as, progress_part}
 use Rattle.books.specs.Gathers.{Parted, Gathers}
 
 module _ (ranks : List ℕ) (rank n at : ℕ) where
@@ -37,29 +37,29 @@ module _ (ranks : List ℕ) (rank n at : ℕ) where
       record {
         within = omega arith;
         parted = subst (λ (k : ℕ). Parted k next ranks) (sym (add-zero rank)) p;
-        progress = progress-as (bits rank n) (bits rank n) (rest 0) at 0 out out whole (progress-none (bits rank n) at out small);
+        progress = progress_as (bits rank n) (bits rank n) (rest 0) at 0 out out whole (progress_none (bits rank n) at out small);
       }
 
   module _ (done next : ℕ) (out₀ out : List ℕ) (c : Copied done next out₀ out) where
     -- m more, gathered as the word x; the list is then parted at `past`
-    pub copied-part : (m x past : ℕ) (then : List ℕ) → done + m ≤ n → Gathers (rank + done) m ranks x past
+    pub copied_part : (m x past : ℕ) (then : List ℕ) → done + m ≤ n → Gathers (rank + done) m ranks x past
         → then ≡ laid (at + done) (bits_of m x) out → Copied (done + m) past out₀ then
-    copied-part m x past then h g t =
+    copied_part m x past then h g t =
         let part = bits (rank + done) m in
-        let long : length part ≡ m = tab-length (rank + done) m (λ i. member i ranks) in
-        let is : bits_of m x ≡ part = ap (bits_of m) g.is ∙ bitsOf-wordOf-at m part long in
+        let long : length part ≡ m = tab_length (rank + done) m (λ i. member i ranks) in
+        let is : bits_of m x ≡ part = ap (bits_of m) g.is ∙ bits_of_word_of_at m part long in
         let place : rank + done + m ≡ rank + (done + m) = omega arith in
         let sum : n - done ≡ m + (n - (done + m)) = omega arith in
         let split : rest done ≡ part ++ rest (done + m) =
-        ap (λ (k : ℕ). bits (rank + done) k) sum ∙ tab-add (rank + done) m (n - (done + m)) (λ i. member i ranks)
+        ap (λ (k : ℕ). bits (rank + done) k) sum ∙ tab_add (rank + done) m (n - (done + m)) (λ i. member i ranks)
         ∙ ap (λ (k : ℕ). part ++ bits k (n - (done + m))) place in
         record {
           within = h;
           parted = subst (λ (k : ℕ). Parted k past ranks) place g.parted;
           progress =
-              progress-part (bits rank n) part (rest (done + m)) at done (done + m) out₀ out then (ap (λ (k : ℕ). done + k) (sym long))
+              progress_part (bits rank n) part (rest (done + m)) at done (done + m) out₀ out then (ap (λ (k : ℕ). done + k) (sym long))
               (t ∙ ap (λ (l : List Bool). laid (at + done) l out) is)
-              (progress-as (bits rank n) (rest done) (part ++ rest (done + m)) at done out₀ out split c.progress);
+              (progress_as (bits rank n) (rest done) (part ++ rest (done + m)) at done out₀ out split c.progress);
         }
 
     pub copied_all : n ≤ done → Parted (rank + n) next ranks × (out ≡ laid at (tab rank n (λ i. member i ranks)) out₀)

@@ -1,8 +1,8 @@
 // A rank list on self in runs: each run of self takes the ranks that it has, one after the other.
 ghost use Rattle.std.specs.Prelude.{◌≡◌, ◌+◌, ◌-◌, ◌^◌, ◌≤◌, length, drop};
 ghost use Rattle.rows.specs.Rows.{compose};
-ghost use Rattle.rows.specs.Lists.{listed, Ascending, setRows};
-ghost use Rattle.rows.specs.Runs.{inRuns, runLengths, Apart};
+ghost use Rattle.rows.specs.Lists.{listed, Ascending, set_rows};
+ghost use Rattle.rows.specs.Runs.{in_runs, run_lengths, Apart};
 ghost use Rattle.rows.specs.Laid.{marked};
 ghost use Rattle.rows.specs.Asks.{Room};
 ghost use Rattle.under.specs.Taken.{Taken};
@@ -39,9 +39,9 @@ fn mark_in_run(
 
 // Self's rows at the listed ranks, marked, run by run: row 0 of self at bit at. While a rank is left, so is a run that has it.
 pub fn mark_entries(runs: &[u32], ranks: &[u32], len: u64, at: u64, out: &mut [u64])
-    requires { Apart 0 len runs.now × Ascending 0 (runLengths runs.now) ranks.now × (len ≤ 1048576) × Room at len out.old }
-    ensures { out.new ≡ marked at (setRows 0 (compose (inRuns len runs.now)
-        (listed (runLengths runs.now) ranks.now))) out.old }
+    requires { Apart 0 len runs.now × Ascending 0 (run_lengths runs.now) ranks.now × (len ≤ 1048576) × Room at len out.old }
+    ensures { out.new ≡ marked at (set_rows 0 (compose (in_runs len runs.now)
+        (listed (run_lengths runs.now) ranks.now))) out.old }
 {
     let mut passed: u64 = 0;
     let mut next: usize = 0;

@@ -3,7 +3,7 @@
 ghost use Rattle.std.specs.Prelude.{◌≡◌, ◌+◌, ◌≤◌};
 ghost use Rattle.rows.specs.Rows.{compose};
 ghost use Rattle.rows.specs.Lists.{tab, member, listed, Ascending};
-ghost use Rattle.rows.specs.Runs.{inRuns, runLengths, Apart};
+ghost use Rattle.rows.specs.Runs.{in_runs, run_lengths, Apart};
 ghost use Rattle.rows.specs.Laid.{laid};
 ghost use Rattle.rows.specs.Asks.{Room};
 ghost use Rattle.books.specs.Gathers.{Parted};
@@ -42,9 +42,9 @@ fn copy_entries(
 
 // Each run takes the rank bits of as many ranks as it has rows, and what is between is cleared.
 pub fn gather_under_runs(runs: &[u32], ranks: &[u32], len: u64, at: u64, out: &mut [u64])
-    requires { Apart 0 len runs.now × Ascending 0 (runLengths runs.now) ranks.now × (len ≤ 1048576) × Room at len out.old }
-    ensures { out.new ≡ laid at (compose (inRuns len runs.now)
-        (listed (runLengths runs.now) ranks.now)) out.old }
+    requires { Apart 0 len runs.now × Ascending 0 (run_lengths runs.now) ranks.now × (len ≤ 1048576) × Room at len out.old }
+    ensures { out.new ≡ laid at (compose (in_runs len runs.now)
+        (listed (run_lengths runs.now) ranks.now)) out.old }
 {
     let mut done: u64 = 0;
     let mut rank: u64 = 0;

@@ -1,9 +1,9 @@
 // The kernels: each lays the composition from bit at on, and tells how many rows it has laid.
 ghost use Rattle.std.specs.Prelude.{◌≡◌, ◌+◌, ◌*◌, ◌≤◌, length, drop};
 ghost use Rattle.rows.specs.Rows.{count, compose};
-ghost use Rattle.rows.specs.Words.{bitsOfAll};
+ghost use Rattle.rows.specs.Words.{bits_of_all};
 ghost use Rattle.rows.specs.Lists.{listed, Ascending};
-ghost use Rattle.rows.specs.Runs.{inRuns, runLengths, Apart};
+ghost use Rattle.rows.specs.Runs.{in_runs, run_lengths, Apart};
 ghost use Rattle.rows.specs.Laid.{laid};
 ghost use Rattle.rows.specs.Asks.{Room};
 
@@ -24,9 +24,9 @@ pub fn lay_ranks_under_runs(
     at: u64,
     out: &mut [u64],
 ) -> u64
-    requires { Apart 0 len runs.now × (len ≤ 1048576) × (from ≤ 63) × (from + runLengths runs.now ≤ length ranks.now * 64) × Room at len out.old }
-    ensures { (result ≡ count (compose (inRuns len runs.now) (drop from (bitsOfAll 64 ranks.now))))
-        × (out.new ≡ laid at (compose (inRuns len runs.now) (drop from (bitsOfAll 64 ranks.now))) out.old) }
+    requires { Apart 0 len runs.now × (len ≤ 1048576) × (from ≤ 63) × (from + run_lengths runs.now ≤ length ranks.now * 64) × Room at len out.old }
+    ensures { (result ≡ count (compose (in_runs len runs.now) (drop from (bits_of_all 64 ranks.now))))
+        × (out.new ≡ laid at (compose (in_runs len runs.now) (drop from (bits_of_all 64 ranks.now))) out.old) }
 {
     let mut done: u64 = 0;
     let mut rank: u64 = 0;
@@ -59,10 +59,10 @@ pub fn lay_entries_in_runs(
     at: u64,
     out: &mut [u64],
 ) -> u64
-    requires { Apart 0 len runs.now × Ascending 0 (runLengths runs.now) ranks.now × (len ≤ 1048576) × Room at len out.old }
-    ensures { (result ≡ count (compose (inRuns len runs.now) (listed (runLengths runs.now) ranks.now)))
-        × (out.new ≡ laid at (compose (inRuns len runs.now)
-        (listed (runLengths runs.now) ranks.now)) out.old) }
+    requires { Apart 0 len runs.now × Ascending 0 (run_lengths runs.now) ranks.now × (len ≤ 1048576) × Room at len out.old }
+    ensures { (result ≡ count (compose (in_runs len runs.now) (listed (run_lengths runs.now) ranks.now)))
+        × (out.new ≡ laid at (compose (in_runs len runs.now)
+        (listed (run_lengths runs.now) ranks.now)) out.old) }
 {
     let listed = ranks.len() as u64;
     if listed > ranklen / 4 {
@@ -76,10 +76,10 @@ pub fn lay_entries_in_runs(
 
 // Self and the rank mask in runs: that part of the output is cleared, and run by run the rows are marked whose ranks the rank mask has.
 pub fn lay_runs_in_runs(runs: &[u32], ranks: &[u32], len: u64, at: u64, out: &mut [u64]) -> u64
-    requires { Apart 0 len runs.now × Apart 0 (runLengths runs.now) ranks.now × (len ≤ 1048576) × Room at len out.old }
-    ensures { (result ≡ count (compose (inRuns len runs.now) (inRuns (runLengths runs.now) ranks.now)))
-        × (out.new ≡ laid at (compose (inRuns len runs.now)
-        (inRuns (runLengths runs.now) ranks.now)) out.old) }
+    requires { Apart 0 len runs.now × Apart 0 (run_lengths runs.now) ranks.now × (len ≤ 1048576) × Room at len out.old }
+    ensures { (result ≡ count (compose (in_runs len runs.now) (in_runs (run_lengths runs.now) ranks.now)))
+        × (out.new ≡ laid at (compose (in_runs len runs.now)
+        (in_runs (run_lengths runs.now) ranks.now)) out.old) }
 {
     clear(out, at, len);
     mark_runs(runs, ranks, len, at, out)

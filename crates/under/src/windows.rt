@@ -2,8 +2,8 @@
 // marked which lies in it, from the run's first row on. Both are walked once, from the first run to the last.
 ghost use Rattle.std.specs.Prelude.{◌≡◌, true, ◌+◌, ◌-◌, ◌≤◌, replicate};
 ghost use Rattle.rows.specs.Rows.{count, compose};
-ghost use Rattle.rows.specs.Lists.{setRows};
-ghost use Rattle.rows.specs.Runs.{inRuns, runLengths, Apart};
+ghost use Rattle.rows.specs.Lists.{set_rows};
+ghost use Rattle.rows.specs.Runs.{in_runs, run_lengths, Apart};
 ghost use Rattle.rows.specs.Laid.{marked};
 ghost use Rattle.rows.specs.Asks.{Room};
 ghost use Rattle.books.specs.Windows.{window, into, Reached};
@@ -23,7 +23,7 @@ fn ranks_into(from: Rank, n: u64, rank: Rank) -> u64
 fn mark_part(first: Rank, past: Rank, from: Rank, n: u64, at: u64, row: Row, out: &mut [u64]) -> u64
     requires { (first.0 ≤ past.0) × Room (at + row.0) n out.old }
     ensures { (result ≡ into from.0 n past.0 - into from.0 n first.0)
-        × (out.new ≡ marked at (setRows (row.0 + into from.0 n first.0)
+        × (out.new ≡ marked at (set_rows (row.0 + into from.0 n first.0)
         (replicate (into from.0 n past.0 - into from.0 n first.0) true)) out.old) }
 {
     let begin = ranks_into(from, n, first);
@@ -56,7 +56,7 @@ fn mark_window(
 ) -> Marked
     requires { Reached ranks.now next from.0 × (from.0 + n ≤ 1048576) × Room (at + row.0) n out.old }
     ensures { Reached ranks.now result.next (from.0 + n) × (result.set ≡ count (window from.0 n ranks.now))
-        × (out.new ≡ marked at (setRows row.0 (window from.0 n ranks.now)) out.old) }
+        × (out.new ≡ marked at (set_rows row.0 (window from.0 n ranks.now)) out.old) }
 {
     let end = from.0 + n;
     let mut set: u64 = 0;
@@ -76,10 +76,10 @@ fn mark_window(
 
 // Self's rows whose ranks the rank mask has, marked: row 0 of self at bit at. How many they are.
 pub fn mark_runs(runs: &[u32], ranks: &[u32], len: u64, at: u64, out: &mut [u64]) -> u64
-    requires { Apart 0 len runs.now × Apart 0 (runLengths runs.now) ranks.now × (len ≤ 1048576) × Room at len out.old }
-    ensures { (result ≡ count (compose (inRuns len runs.now) (inRuns (runLengths runs.now) ranks.now)))
-        × (out.new ≡ marked at (setRows 0 (compose (inRuns len runs.now)
-        (inRuns (runLengths runs.now) ranks.now))) out.old) }
+    requires { Apart 0 len runs.now × Apart 0 (run_lengths runs.now) ranks.now × (len ≤ 1048576) × Room at len out.old }
+    ensures { (result ≡ count (compose (in_runs len runs.now) (in_runs (run_lengths runs.now) ranks.now)))
+        × (out.new ≡ marked at (set_rows 0 (compose (in_runs len runs.now)
+        (in_runs (run_lengths runs.now) ranks.now))) out.old) }
 {
     let mut sum: u64 = 0;
     let mut rank: u64 = 0;

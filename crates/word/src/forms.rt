@@ -1,7 +1,7 @@
 // The closed forms of word deposit and extract: masks of at most two set bits, and of at most two clear bits.
 ghost use Rattle.std.specs.Prelude.{◌≡◌, ◌/◌, ◌≤◌, count_ones};
 ghost use Rattle.rows.specs.Pdep.{pdep, pext};
-ghost use Rattle.network.specs.Lowest.{closed, pastHole, withoutLowest};
+ghost use Rattle.network.specs.Lowest.{closed, past_hole, without_lowest};
 
 use super::num::{any, if_odd, lowest};
 
@@ -25,7 +25,7 @@ pub struct Moved {
 
 // The source moved up by one from the lowest hole on; that hole is then filled.
 pub fn past_hole(source: u64, holes: u64) -> Moved
-    ensures { result ≡ record { source = pastHole 64 holes 0 source; holes = withoutLowest 64 holes } }
+    ensures { result ≡ record { source = past_hole 64 holes 0 source; holes = without_lowest 64 holes } }
 {
     let hole = lowest(holes);
     let below = std::num::wrapping_sub_u64(hole, 1);
@@ -57,7 +57,7 @@ pub fn extract_two_lowest(source: u64, mask: u64) -> u64
 
 // The source's bit at the lowest hole goes, and those above it move down by one; the holes above go with them.
 pub fn close_hole(source: u64, holes: u64) -> Moved
-    ensures { result ≡ record { source = closed 64 holes source; holes = withoutLowest 64 holes / 2 } }
+    ensures { result ≡ record { source = closed 64 holes source; holes = without_lowest 64 holes / 2 } }
 {
     let hole = lowest(holes);
     let below = std::num::wrapping_sub_u64(hole, 1);

@@ -1,4 +1,6 @@
 // The word layer: word deposit, in the crate's portable forms, and select. The two entry points take any numbers.
+#![tactic(auto)]
+
 ghost use Rattle.std.specs.Prelude.{◌≡◌};
 ghost use Rattle.rows.specs.WordAnswer.{deposited, selected};
 

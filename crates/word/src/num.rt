@@ -1,6 +1,6 @@
 // Zero minus a word, modulo 2^64, and one bit of a word or whether it has any.
 ghost use Rattle.std.specs.Prelude.{◌≡◌, ◌-◌, ◌*◌, ◌%◌, ◌^◌, min};
-ghost use Rattle.network.specs.Lowest.{lowestSet};
+ghost use Rattle.network.specs.Lowest.{lowest_set};
 
 // Zero minus x, modulo 2^64.
 pub fn zero_minus(x: u64) -> u64
@@ -11,7 +11,7 @@ pub fn zero_minus(x: u64) -> u64
 
 // The lowest set bit of x, by itself; 0 where none is set.
 pub fn lowest(x: u64) -> u64
-    ensures { result ≡ lowestSet 64 x }
+    ensures { result ≡ lowest_set 64 x }
 {
     x & zero_minus(x)
 }

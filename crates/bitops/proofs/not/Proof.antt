@@ -10,11 +10,11 @@ use Rattle.rows.specs.declared.Verdict.TheVariants.{Fine}
 use Rattle.rows.specs.Laid.{written}
 use Rattle.rows.specs.Table.{first}
 use Rattle.rules.specs.Operand.{Operand, lent, rows_of, length_of}
-use Rattle.rules.specs.Answer.{answered, noRoute}
-use Rattle.rules.specs.SetOps.{notChecks, negated, negatedOut}
-use Rattle.rules.proofs.AnswerLaws.{by-fine, by-refusal}
-use Rattle.rules.proofs.SetOperations.{one-fine}
-use Rattle.bitops.proofs.VerdictLaws.{taken-flat, flat-not}
+use Rattle.rules.specs.Answer.{answered, no_route}
+use Rattle.rules.specs.SetOps.{not_checks, negated, negated_out}
+use Rattle.rules.proofs.AnswerLaws.{by_fine, by_refusal}
+use Rattle.rules.proofs.SetOperations.{one_fine}
+use Rattle.bitops.proofs.VerdictLaws.{taken_flat, flat_not}
 use borrow.Author.Rules.{rules}
 use Rattle.bitops.proofs.not.Statement.{statement}
 use Rattle.bitops.proofs.not.Tie as tie
@@ -28,7 +28,7 @@ abbrev out : tie.Start → List ℕ
 out s = s.args.out.now
 
 abbrev verdict : tie.Start → Verdict
-verdict s = first (notChecks (operand s) (length (out s)))
+verdict s = first (not_checks (operand s) (length (out s)))
 
 abbrev result : tie.Start → List Bool
 result s = map not (rows_of (operand s))
@@ -55,37 +55,37 @@ answer-requires : tie.Need-answer-requires
 answer-requires c κs =
     let judged = c.before.before.before in
     let s = start judged in
-    let t = (one-fine (operand s) (length (out s))).0 (sym judged.judge-one.ensures ∙ c.before.enum_told.given.1) in
-    let flat = taken-flat (operand s) t.0 in
+    let t = (one_fine (operand s) (length (out s))).0 (sym judged.judge-one.ensures ∙ c.before.enum_told.given.1) in
+    let flat = taken_flat (operand s) t.0 in
     ((flat, flat, refl), t.1)
 
 returns : tie.Need-returns
-unfolding negated negatedOut
+unfolding negated negated_out
 returns c =
     let judged = c.before.before.before.before in
     let s = start judged in
-    let p = by-refusal (verdict s) (result s) noRoute (left s) (out s) _ (sym judged.judge-one.ensures ∙ c.before.before.refusal.given.1) in
+    let p = by_refusal (verdict s) (result s) no_route (left s) (out s) _ (sym judged.judge-one.ensures ∙ c.before.before.refusal.given.1) in
     (c.refused.ensures ∙ p.0, p.1)
 
 same_length : tie.Need-same-length
 same_length c = search rules
 
 returns-2 : tie.Need-returns-2
-unfolding negated negatedOut
+unfolding negated negated_out
 returns-2 c =
     let gave = c.before.before in
     let judged = gave.before.before.before.before in
     let s = start judged in
     let fine = sym judged.judge-one.ensures ∙ gave.before.before.enum_told.given.1 in
-    let t = (one-fine (operand s) (length (out s))).0 fine in
-    let same = flat-not (operand s) t.0 in
-    let p = by-fine (verdict s) (result s) noRoute (left s) (out s) fine in (
-      gave.answer.ensures.0 ∙ ap (λ (l : List Bool). answered Fine l noRoute) same ∙ p.0,
+    let t = (one_fine (operand s) (length (out s))).0 fine in
+    let same = flat_not (operand s) t.0 in
+    let p = by_fine (verdict s) (result s) no_route (left s) (out s) fine in (
+      gave.answer.ensures.0 ∙ ap (λ (l : List Bool). answered Fine l no_route) same ∙ p.0,
       gave.answer.ensures.1 ∙ ap (λ (l : List Bool). written (length_of s.args.a) l (out s)) same ∙ p.1,
     )
 
-pub not-spec : {M : Type 1} → statement M
-not-spec =
+pub not_spec : {M : Type 1} → statement M
+not_spec =
     tie.close
     (tie.spec
     judge-one-requires

@@ -8,7 +8,7 @@ use Rattle.rows.specs.declared.Verdict.TheVariants.{Fine, Refused}
 use Rattle.rules.specs.Operand.{lent}
 use Rattle.rules.specs.Stream.{Pair, pair_of, judged}
 use Rattle.intersect_by_rank.specs.declared.inner.judge.Judged.{Judged}
-use Rattle.composer.proofs.OpeningLaws.{judged-counts}
+use Rattle.composer.proofs.OpeningLaws.{judged_counts}
 use Rattle.composer.proofs.feed.Statement.{statement}
 use Rattle.composer.proofs.feed.Tie as tie
 
@@ -62,7 +62,7 @@ step-requires : tie.Need-step-requires
 step-requires c κs =
     let j = passed c.before in
     let s = start j in
-    let own = judged-counts s.args.state (pair s) (length s.args.out.now) (fine c.before) in
+    let own = judged_counts s.args.state (pair s) (length s.args.out.now) (fine c.before) in
     (fine c.before, ap (λ (x : Judged). x.rows) j.judge.ensures ∙ own.0, ap (λ (x : Judged). x.ranks) j.judge.ensures ∙ own.1)
 
 returns : tie.Need-returns
@@ -79,8 +79,8 @@ returns-2 c =
     let e = fine k.before.before in
     (k.step.ensures.0 ∙ rw e refl, k.step.ensures.1 ∙ rw e refl)
 
-pub feed-spec : {M : Type 1} → statement M
-feed-spec =
+pub feed_spec : {M : Type 1} → statement M
+feed_spec =
     tie.close
     (tie.spec
     judge-requires

@@ -38,8 +38,8 @@ loop-again c = search rules
 returns : tie.Need-returns invariant-loop decreases-loop
 returns c = search rules
 
-pub compare-lengths-spec : {M : Type 1} → statement M
-compare-lengths-spec =
+pub compare_lengths_spec : {M : Type 1} → statement M
+compare_lengths_spec =
     tie.close
     (tie.spec
     invariant-loop

@@ -11,5 +11,5 @@ density-requires c κs = search rules
 returns : tie.Need-returns
 returns c = ap (λ (d : Float). lt d c.before.args.bound) c.density.ensures
 
-pub thin-spec : {M : Type 1} → statement M
-thin-spec = tie.close (tie.spec density-requires returns)
+pub thin_spec : {M : Type 1} → statement M
+thin_spec = tie.close (tie.spec density-requires returns)

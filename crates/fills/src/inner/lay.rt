@@ -1,6 +1,6 @@
 // The rows of runs over lent words, from any bit on: zeros and ones by turns, each filled as far as it goes; or ones where all was cleared.
 ghost use Rattle.std.specs.Prelude.{◌≡◌, true, false, ◌++◌, ◌+◌, ◌-◌, ◌≤◌, ◌<◌, replicate};
-ghost use Rattle.rows.specs.Runs.{inRuns, Apart};
+ghost use Rattle.rows.specs.Runs.{in_runs, Apart};
 ghost use Rattle.rows.specs.Laid.{laid};
 ghost use Rattle.rows.specs.Asks.{Room};
 
@@ -18,7 +18,7 @@ pub fn lay_run(done: u64, first: u64, past: u64, at: u64, out: &mut [u64])
 // The len rows that the runs say, where they are few: each gap and each run as far as it goes, so that no word between is written twice.
 fn lay_in_turn(runs: &[u32], len: u64, at: u64, out: &mut [u64])
     requires { Apart 0 len runs.now × Room at len out.old }
-    ensures { out.new ≡ laid at (inRuns len runs.now) out.old }
+    ensures { out.new ≡ laid at (in_runs len runs.now) out.old }
 {
     let mut done: u64 = 0;
     let mut i: usize = 0;
@@ -53,7 +53,7 @@ pub fn set_run(out: &mut [u64], at: u64, first: u64, past: u64)
 // The same where they are many: all is cleared at once, and then each run is set.
 fn fill_runs(runs: &[u32], len: u64, at: u64, out: &mut [u64])
     requires { Apart 0 len runs.now × Room at len out.old }
-    ensures { out.new ≡ laid at (inRuns len runs.now) out.old }
+    ensures { out.new ≡ laid at (in_runs len runs.now) out.old }
 {
     clear(out, at, len);
     let mut i: usize = 0;
@@ -69,7 +69,7 @@ fn fill_runs(runs: &[u32], len: u64, at: u64, out: &mut [u64])
 // each gap.
 pub fn lay_runs(runs: &[u32], len: u64, at: u64, out: &mut [u64])
     requires { Apart 0 len runs.now × Room at len out.old }
-    ensures { out.new ≡ laid at (inRuns len runs.now) out.old }
+    ensures { out.new ≡ laid at (in_runs len runs.now) out.old }
 {
     if runs.len() as u64 > len / 4096 {
         fill_runs(runs, len, at, out);

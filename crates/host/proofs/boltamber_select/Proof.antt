@@ -5,16 +5,16 @@ use Prim.Native.Nat.{ℕ}
 use native.Mathlib.Omega.{arith}
 use borrow.Author.Rules.{rules}
 use Rattle.rows.specs.Word.{bits_of}
-use Rattle.rows.proofs.WordLaws.{bitsOf-length}
-use Rattle.rows.proofs.RowLaws.{count-le-length}
-use Rattle.rows.proofs.SelectLaws.{select-none}
+use Rattle.rows.proofs.WordLaws.{bits_of_length}
+use Rattle.rows.proofs.RowLaws.{count_le_length}
+use Rattle.rows.proofs.SelectLaws.{select_none}
 use Rattle.host.proofs.boltamber_select.Statement.{statement}
 use Rattle.host.proofs.boltamber_select.Tie as tie
 
 returns : tie.Need-returns
 returns c =
     let n : ℕ = c.before.args.word in
-    sym (select-none (bits_of 64 n) c.before.args.rank (omega (arith, count-le-length (bits_of 64 n), bitsOf-length 64 n)) ∙ bitsOf-length 64 n)
+    sym (select_none (bits_of 64 n) c.before.args.rank (omega (arith, count_le_length (bits_of 64 n), bits_of_length 64 n)) ∙ bits_of_length 64 n)
 
 cast-select-bit-position : tie.Need-overflow-cast-select-bit-position
 cast-select-bit-position c = search rules
@@ -28,8 +28,8 @@ cast-result c = search rules
 returns-2 : tie.Need-returns-2
 returns-2 c = search rules
 
-pub boltamber-select-spec : {M : Type 1} → statement M
-boltamber-select-spec =
+pub boltamber_select_spec : {M : Type 1} → statement M
+boltamber_select_spec =
     tie.close
     (tie.spec
     returns

@@ -4,7 +4,7 @@ use mathlib.Core.Path.{sym}
 use native.Mathlib.Omega.{arith}
 use lib.Seq.{length-take-le}
 use borrow.Author.Rules.{rules}
-use Rattle.lines.proofs.Theorems.{written-within}
+use Rattle.lines.proofs.Theorems.{written_within}
 use Rattle.intersect.proofs.main.Statement.{statement}
 use Rattle.intersect.proofs.main.Tie as tie
 
@@ -29,12 +29,12 @@ answer-requires c κs = search rules
 array-share-prefix-out : tie.Need-array-share-prefix-out
 array-share-prefix-out c =
     let a = c.before.answer in
-    omega (arith, written-within _ _ a.result a.ensures.0, a.auto.1.0)
+    omega (arith, written_within _ _ a.result a.ensures.0, a.auto.1.0)
 
 slice-aggregate-write-all : tie.Need-slice-aggregate-write-all
 slice-aggregate-write-all c =
     let a = c.before.before.answer in
-    sym (length-take-le a.result.len a.new.1.0 (omega (arith, written-within _ _ a.result a.ensures.0, a.auto.1.0)))
+    sym (length-take-le a.result.len a.new.1.0 (omega (arith, written_within _ _ a.result a.ensures.0, a.auto.1.0)))
 
 write-all-requires : tie.Need-write-all-requires
 write-all-requires c κs = search rules

@@ -16,6 +16,6 @@ same_length c = search rules
 returns : tie.Need-returns
 returns c = rw (← c.before.before.before.before.document-factors.ensures) c.before.before.compose-with.ensures
 
-pub intersect-by-rank-spec : {M : Type 1} → statement M
-intersect-by-rank-spec =
+pub intersect_by_rank_spec : {M : Type 1} → statement M
+intersect_by_rank_spec =
     tie.close (tie.spec document-factors-requires compose-with-requires same_length returns)

@@ -1,11 +1,11 @@
 // A whole composition, with the factors handed in: its checks, the rows written, and the answer.
 ghost use Rattle.std.specs.Prelude.{◌≡◌, ◌≤◌, length};
 ghost use Rattle.rows.specs.declared.Verdict.TheVariants.{Fine};
-ghost use Rattle.rows.specs.Laid.{wordsFor, written};
+ghost use Rattle.rows.specs.Laid.{words_for, written};
 ghost use Rattle.rules.specs.Operand.{lent, length_of};
 ghost use Rattle.rules.specs.Answer.{answered};
 ghost use Rattle.operand.specs.Counts.{Counts};
-ghost use Rattle.rules.specs.Compose.{Paired, result, routed, composed, composedOut};
+ghost use Rattle.rules.specs.Compose.{Paired, result, routed, composed, composed_out};
 
 use super::judge::judge;
 use super::lay::lay_composition;
@@ -28,7 +28,7 @@ fn compose_accepted(
     out: &mut [u64],
 ) -> Answer
     requires { Paired (lent s.form swords.now srows.now) (lent r.form rwords.now rrows.now)
-        × Counts s swords.now srows.now × Counts r rwords.now rrows.now × (wordsFor (length_of s.form) ≤ length out.old) }
+        × Counts s swords.now srows.now × Counts r rwords.now rrows.now × (words_for (length_of s.form) ≤ length out.old) }
     ensures* { λ a. ⌜ (a ≡ answered Fine (result (lent s.form swords.now srows.now) (lent r.form rwords.now rrows.now)) (routed factors (lent s.form swords.now srows.now) (lent r.form rwords.now rrows.now)))
         × (out.new ≡ written (length_of s.form) (result (lent s.form swords.now srows.now) (lent r.form rwords.now rrows.now)) out.old) ⌝ }
 {
@@ -49,7 +49,7 @@ pub fn compose_with(
     out: &mut [u64],
 ) -> Answer
     ensures* { λ a. ⌜ (a ≡ composed factors (lent s swords.now srows.now) (lent r rwords.now rrows.now) out.old)
-        × (out.new ≡ composedOut (lent s swords.now srows.now) (lent r rwords.now rrows.now) out.old) ⌝ }
+        × (out.new ≡ composed_out (lent s swords.now srows.now) (lent r rwords.now rrows.now) out.old) ⌝ }
 {
     let judged = judge(s, swords, srows, r, rwords, rrows, out.len() as u64);
     let verdict = judged.verdict;

@@ -2,7 +2,7 @@
 // told beside it.
 ghost use Rattle.std.specs.Prelude.{◌≡◌};
 ghost use Rattle.rules.specs.Operand.{lent};
-ghost use Rattle.intersect_by_rank.specs.Judged.{judgedBoth, judgedAll};
+ghost use Rattle.intersect_by_rank.specs.Judged.{judged_both, judged_all};
 
 use lent::inner::words_for;
 use operand::inner::checks::check;
@@ -28,7 +28,7 @@ pub fn judge_both(
     rwords: &[u64],
     rrows: &[u32],
 ) -> Judged
-    ensures { result ≡ judgedBoth (lent s swords.now srows.now) (lent r rwords.now rrows.now) }
+    ensures { result ≡ judged_both (lent s swords.now srows.now) (lent r rwords.now rrows.now) }
 {
     let one = check(1, s, swords, srows);
     let two = check(2, r, rwords, rrows);
@@ -52,7 +52,7 @@ pub fn judge(
     rrows: &[u32],
     room: u64,
 ) -> Judged
-    ensures { result ≡ judgedAll (lent s swords.now srows.now) (lent r rwords.now rrows.now) room }
+    ensures { result ≡ judged_all (lent s swords.now srows.now) (lent r rwords.now rrows.now) room }
 {
     let both = judge_both(s, swords, srows, r, rwords, rrows);
     let matched = equal(length_of(r), both.rows);

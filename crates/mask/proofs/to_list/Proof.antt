@@ -7,14 +7,14 @@ use lib.ListN.{length, drop}
 use borrow.Author.Rules.{rules}
 use Rattle.rows.specs.declared.Verdict.{Verdict}
 use Rattle.rows.specs.declared.Verdict.TheVariants.{Fine, Refused}
-use Rattle.rows.specs.Lists.{setRows}
+use Rattle.rows.specs.Lists.{set_rows}
 use Rattle.rules.specs.Operand.{Operand, lent, rows_of, count_of}
-use Rattle.rules.specs.Answer.{noRoute}
-use Rattle.rules.specs.Convert.{toListVerdict, to_list, toListOut}
-use Rattle.rules.proofs.AnswerLaws.{by-fine, by-refusal}
-use Rattle.rules.proofs.Conversions.{convert-fine}
+use Rattle.rules.specs.Answer.{no_route}
+use Rattle.rules.specs.Convert.{to_list_verdict, to_list, to_list_out}
+use Rattle.rules.proofs.AnswerLaws.{by_fine, by_refusal}
+use Rattle.rules.proofs.Conversions.{convert_fine}
 use Rattle.operand.specs.declared.inner.counts.Checked.{Checked}
-use Rattle.mask.proofs.JudgeLaws.{judged-count}
+use Rattle.mask.proofs.JudgeLaws.{judged_count}
 use Rattle.mask.proofs.to_list.Statement.{statement}
 use Rattle.mask.proofs.to_list.Tie as tie
 
@@ -52,10 +52,10 @@ module _ (c : tie.Start) where
 
   -- what an accepted operand leaves there
   abbrev to : List ℕ
-  to = setRows 0 (rows_of operand) ++ drop (count_of operand) out
+  to = set_rows 0 (rows_of operand) ++ drop (count_of operand) out
 
   abbrev verdict : Verdict
-  verdict = toListVerdict operand out
+  verdict = to_list_verdict operand out
 
 fine : (c : tie.After-enum-told) → verdict (start (passed c)) ≡ Fine
 fine c = sym (ap (λ (d : Checked). d.verdict) (passed c).judge-list.ensures) ∙ c.enum_told.given.1
@@ -85,30 +85,30 @@ convert-to-list-requires c κs =
     let s = start (passed c.before) in
     let room = length (out s) in
     let needed = count_of (operand s) in
-    let well = (convert-fine (operand s) needed room).0 (fine c.before) in
-    let own = ap (λ (d : Checked). d.count) (passed c.before).judge-list.ensures ∙ judged-count (operand s) room needed (fine c.before) in
+    let well = (convert_fine (operand s) needed room).0 (fine c.before) in
+    let own = ap (λ (d : Checked). d.count) (passed c.before).judge-list.ensures ∙ judged_count (operand s) room needed (fine c.before) in
     (well.0, own, well.1)
 
 returns : tie.Need-returns
-unfolding to_list toListOut
+unfolding to_list to_list_out
 returns c =
     let s = start (barred (told c)) in
-    let p = by-refusal (verdict s) (rows_of (operand s)) noRoute (to s) (out s) _ (refuses (told c)) in
+    let p = by_refusal (verdict s) (rows_of (operand s)) no_route (to s) (out s) _ (refuses (told c)) in
     (c.refused.ensures ∙ p.0, p.1)
 
 same_length : tie.Need-same-length
 same_length c = search rules
 
 returns-2 : tie.Need-returns-2
-unfolding to_list toListOut
+unfolding to_list to_list_out
 returns-2 c =
     let g = gave c in
     let s = start (passed (asked g)) in
-    let p = by-fine (verdict s) (rows_of (operand s)) noRoute (to s) (out s) (fine (asked g)) in
+    let p = by_fine (verdict s) (rows_of (operand s)) no_route (to s) (out s) (fine (asked g)) in
     (g.convert-to-list.ensures.0 ∙ p.0, left g ∙ p.1)
 
-pub to-list-spec : {M : Type 1} → statement M
-to-list-spec =
+pub to_list_spec : {M : Type 1} → statement M
+to_list_spec =
     tie.close
     (tie.spec
     judge-list-requires

@@ -6,12 +6,12 @@ use mathlib.Core.List.{List}
 use borrow.Author.Rules.{rules}
 use Rattle.rows.specs.declared.Verdict.{Verdict}
 use Rattle.rows.specs.declared.Verdict.TheVariants.{Fine, Refused}
-use Rattle.rows.specs.Table.{first, ifFine}
-use Rattle.rows.proofs.TableLaws.{fine-exactly}
-use Rattle.rules.specs.Operand.{Operand, lent, count_of, operandChecks, Accepted}
-use Rattle.rules.proofs.OperandLaws.{accepted-as}
+use Rattle.rows.specs.Table.{first, if_fine}
+use Rattle.rows.proofs.TableLaws.{fine_exactly}
+use Rattle.rules.specs.Operand.{Operand, lent, count_of, operand_checks, Accepted}
+use Rattle.rules.proofs.OperandLaws.{accepted_as}
 use Rattle.operand.specs.declared.inner.counts.Checked.{Checked}
-use Rattle.mask.proofs.RunOutLaws.{runs-barred, runs-refused}
+use Rattle.mask.proofs.RunOutLaws.{runs_barred, runs_refused}
 use Rattle.mask.proofs.to_runs.Statement.{statement}
 use Rattle.mask.proofs.to_runs.Tie as tie
 
@@ -42,7 +42,7 @@ module _ (c : tie.Start) where
   out = c.args.out.now
 
   abbrev verdict : Verdict
-  verdict = first (operandChecks 1 operand)
+  verdict = first (operand_checks 1 operand)
 
 refuses : (c : tie.After-verdict) → verdict (start (barred c)) ≡ Refused c.verdict.given.0.0
 refuses c = sym (ap (λ (d : Checked). d.verdict) (barred c).check.ensures) ∙ c.verdict.given.1
@@ -55,10 +55,10 @@ module _ (c : tie.After-enum-told) where
   fine = sym (ap (λ (d : Checked). d.verdict) (passed c).check.ensures) ∙ c.enum_told.given.1
 
   well : Accepted o
-  well = (accepted-as 1 o).0 ((fine-exactly (operandChecks 1 o)).0 fine)
+  well = (accepted_as 1 o).0 ((fine_exactly (operand_checks 1 o)).0 fine)
 
   counted : (passed c).check.result.count ≡ count_of o
-  counted = ap (λ (d : Checked). d.count) (passed c).check.ensures ∙ ap (λ (v : Verdict). ifFine v (count_of o) 0) fine
+  counted = ap (λ (d : Checked). d.count) (passed c).check.ensures ∙ ap (λ (v : Verdict). if_fine v (count_of o) 0) fine
 
 -- ---- the answers
 
@@ -80,8 +80,8 @@ convert-to-runs-requires c κs = (well c.before, counted c.before)
 returns : tie.Need-returns
 returns c =
     let s = start (barred (told c)) in
-    let p = runs-refused (operand s) (out s) _ (runs-barred (operand s) (out s) _ (refuses (told c))) in
-    (c.no-runs.ensures ∙ p.0, p.1)
+    let p = runs_refused (operand s) (out s) _ (runs_barred (operand s) (out s) _ (refuses (told c))) in
+    (c.no_runs_lem.ensures ∙ p.0, p.1)
 
 same_length : tie.Need-same-length
 same_length c = search rules
@@ -89,8 +89,8 @@ same_length c = search rules
 returns-2 : tie.Need-returns-2
 returns-2 c = search rules
 
-pub to-runs-spec : {M : Type 1} → statement M
-to-runs-spec =
+pub to_runs_spec : {M : Type 1} → statement M
+to_runs_spec =
     tie.close
     (tie.spec
     check-requires

@@ -7,14 +7,14 @@ use lib.ListN.{length}
 use borrow.Author.Rules.{rules}
 use Rattle.rows.specs.declared.Verdict.{Verdict}
 use Rattle.rows.specs.declared.Verdict.TheVariants.{Fine, Refused}
-use Rattle.rows.specs.Laid.{wordsFor, written}
+use Rattle.rows.specs.Laid.{words_for, written}
 use Rattle.rules.specs.Operand.{Operand, lent, rows_of, length_of}
-use Rattle.rules.specs.Answer.{noRoute}
-use Rattle.rules.specs.Convert.{toWordsVerdict, toWords, toWordsOut}
-use Rattle.rules.proofs.AnswerLaws.{by-fine, by-refusal}
-use Rattle.rules.proofs.Conversions.{convert-fine}
+use Rattle.rules.specs.Answer.{no_route}
+use Rattle.rules.specs.Convert.{to_words_verdict, to_words, to_words_out}
+use Rattle.rules.proofs.AnswerLaws.{by_fine, by_refusal}
+use Rattle.rules.proofs.Conversions.{convert_fine}
 use Rattle.operand.specs.declared.inner.counts.Checked.{Checked}
-use Rattle.mask.proofs.JudgeLaws.{judged-count}
+use Rattle.mask.proofs.JudgeLaws.{judged_count}
 use Rattle.mask.proofs.to_words.Statement.{statement}
 use Rattle.mask.proofs.to_words.Tie as tie
 
@@ -55,7 +55,7 @@ module _ (c : tie.Start) where
   to = written (length_of operand.form) (rows_of operand) out
 
   abbrev verdict : Verdict
-  verdict = toWordsVerdict operand out
+  verdict = to_words_verdict operand out
 
 fine : (c : tie.After-enum-told) → verdict (start (passed c)) ≡ Fine
 fine c = sym (ap (λ (d : Checked). d.verdict) (passed c).judge-words.ensures) ∙ c.enum_told.given.1
@@ -84,31 +84,31 @@ convert-to-words-requires : tie.Need-convert-to-words-requires
 convert-to-words-requires c κs =
     let s = start (passed c.before) in
     let room = length (out s) in
-    let needed = wordsFor (length_of (operand s).form) in
-    let well = (convert-fine (operand s) needed room).0 (fine c.before) in
-    let own = ap (λ (d : Checked). d.count) (passed c.before).judge-words.ensures ∙ judged-count (operand s) room needed (fine c.before) in
+    let needed = words_for (length_of (operand s).form) in
+    let well = (convert_fine (operand s) needed room).0 (fine c.before) in
+    let own = ap (λ (d : Checked). d.count) (passed c.before).judge-words.ensures ∙ judged_count (operand s) room needed (fine c.before) in
     (well.0, own, well.1)
 
 returns : tie.Need-returns
-unfolding toWords toWordsOut
+unfolding to_words to_words_out
 returns c =
     let s = start (barred (told c)) in
-    let p = by-refusal (verdict s) (rows_of (operand s)) noRoute (to s) (out s) _ (refuses (told c)) in
+    let p = by_refusal (verdict s) (rows_of (operand s)) no_route (to s) (out s) _ (refuses (told c)) in
     (c.refused.ensures ∙ p.0, p.1)
 
 same_length : tie.Need-same-length
 same_length c = search rules
 
 returns-2 : tie.Need-returns-2
-unfolding toWords toWordsOut
+unfolding to_words to_words_out
 returns-2 c =
     let g = gave c in
     let s = start (passed (asked g)) in
-    let p = by-fine (verdict s) (rows_of (operand s)) noRoute (to s) (out s) (fine (asked g)) in
+    let p = by_fine (verdict s) (rows_of (operand s)) no_route (to s) (out s) (fine (asked g)) in
     (g.convert-to-words.ensures.0 ∙ p.0, left g ∙ p.1)
 
-pub to-words-spec : {M : Type 1} → statement M
-to-words-spec =
+pub to_words_spec : {M : Type 1} → statement M
+to_words_spec =
     tie.close
     (tie.spec
     judge-words-requires

@@ -2,10 +2,10 @@
 ghost use Rattle.std.specs.Prelude.{◌≡◌, false, [], ◌+◌, ◌*◌, ◌%◌, ◌≤◌, length};
 ghost use Rattle.rows.specs.Lists.{listed, Ascending};
 ghost use Rattle.rows.specs.Words.{view, Below};
-ghost use Rattle.rows.specs.Laid.{wordsFor, written, laid, marked};
+ghost use Rattle.rows.specs.Laid.{words_for, written, laid, marked};
 ghost use Rattle.rows.specs.Asks.{Room};
 ghost use Rattle.rules.specs.Operand.{lent, rows_of, length_of, Accepted};
-ghost use Rattle.operand.specs.Flat.{Flat, hasRuns};
+ghost use Rattle.operand.specs.Flat.{Flat, has_runs};
 
 use fills::inner::lay::lay_runs;
 use laid::inner::{clear, clear_last, copy_words, put, set_bit};
@@ -87,7 +87,7 @@ fn lay_list(len: u64, rows: &[u32], at: u64, out: &mut [u64])
 
 // An operand that is no runs.
 fn lay_other(form: Form, words: &[u64], rows: &[u32], at: u64, out: &mut [u64])
-    requires { Accepted (lent form words.now rows.now) × Room at (length_of form) out.old × (hasRuns form ≡ false) }
+    requires { Accepted (lent form words.now rows.now) × Room at (length_of form) out.old × (has_runs form ≡ false) }
     ensures { out.new ≡ laid at (rows_of (lent form words.now rows.now)) out.old }
 {
     if has_row_numbers(form) {
@@ -111,7 +111,7 @@ pub fn lay_rows(form: Form, words: &[u64], rows: &[u32], at: u64, out: &mut [u64
 
 // The operand's rows as whole words from the start on.
 pub fn write_rows(form: Form, words: &[u64], rows: &[u32], out: &mut [u64])
-    requires { Accepted (lent form words.now rows.now) × (wordsFor (length_of form) ≤ length out.old) }
+    requires { Accepted (lent form words.now rows.now) × (words_for (length_of form) ≤ length out.old) }
     ensures { out.new ≡ written (length_of form) (rows_of (lent form words.now rows.now)) out.old }
 {
     clear_last(out, length_of(form));

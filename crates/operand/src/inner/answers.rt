@@ -1,6 +1,6 @@
 // An answer is made here, and nowhere else: of an accepted input, and of a refused one.
 ghost use Rattle.std.specs.Prelude.{◌≡◌, ◌≤◌};
-ghost use Rattle.rules.specs.Answer.{densityOf, answer, accepted, refused};
+ghost use Rattle.rules.specs.Answer.{density_of, answer, accepted, refused};
 
 use rows::Refusal;
 use rows::inner::verdicts::no_refusal;
@@ -12,7 +12,7 @@ pub const NO_ROUTE: u8 = 0;
 // The quotient of count and length: one division of two numbers that the format holds, and 0.0 at length 0.
 pub fn density(count: u64, length: u64) -> f64
     requires { (count ≤ 1048576) × (length ≤ 1048576) }
-    ensures { result ≡ densityOf count length }
+    ensures { result ≡ density_of count length }
 {
     if length == 0 {
         return 0.0;

@@ -1,9 +1,9 @@
 // The checks of one operand, form by form: early returns in document 01's order.
 ghost use Rattle.std.specs.Prelude.{◌≡◌, ◌&&◌, leb, ltb, ◌≤◌};
-ghost use Rattle.rows.specs.Runs.{runLengths};
-ghost use Rattle.operand.specs.Counts.{checkedBy, checkedOf};
+ghost use Rattle.rows.specs.Runs.{run_lengths};
+ghost use Rattle.operand.specs.Counts.{checked_by, checked_of};
 ghost use Rattle.rows.specs.Table.{first};
-ghost use Rattle.rules.specs.Operand.{lent, climbs, lastBelow, runsFit, lengthChecks, wordsChecks, listChecks, runsChecks, setChecks};
+ghost use Rattle.rules.specs.Operand.{lent, climbs, last_below, runs_fit, length_checks, words_checks, list_checks, runs_checks, set_checks};
 
 use super::counts::{Checked, tell};
 use super::forms::counts_as_list;
@@ -14,7 +14,7 @@ use rules::Form;
 use turns::inner::sum_runs;
 
 fn check_length(operand: u8, length: u64) -> Verdict
-    ensures { result ≡ first (lengthChecks operand length) }
+    ensures { result ≡ first (length_checks operand length) }
 {
     if length > 1048576 {
         return refuse(1, operand);
@@ -23,7 +23,7 @@ fn check_length(operand: u8, length: u64) -> Verdict
 }
 
 fn check_words(operand: u8, start: u64, length: u64, claimed: u64, words: &[u64]) -> Verdict
-    ensures { result ≡ first (wordsChecks operand start length claimed words.now) }
+    ensures { result ≡ first (words_checks operand start length claimed words.now) }
 {
     if length > 1048576 {
         return refuse(1, operand);
@@ -57,7 +57,7 @@ fn ascends(rows: &[u32]) -> bool
 
 // The last entry, if there is one, is below the length.
 fn last_below(length: u64, rows: &[u32]) -> bool
-    ensures { result ≡ lastBelow length rows.now }
+    ensures { result ≡ last_below length rows.now }
 {
     let n = rows.len();
     if n == 0 {
@@ -67,7 +67,7 @@ fn last_below(length: u64, rows: &[u32]) -> bool
 }
 
 fn check_list(operand: u8, length: u64, rows: &[u32]) -> Verdict
-    ensures { result ≡ first (listChecks operand length rows.now) }
+    ensures { result ≡ first (list_checks operand length rows.now) }
 {
     if length > 1048576 {
         return refuse(1, operand);
@@ -98,7 +98,7 @@ pub fn run_fits(least: u64, first: u64, past: u64, length: u64) -> bool
 // pair.
 fn runs_fit(length: u64, runs: &[u32]) -> bool
     requires { length ≤ 1048576 }
-    ensures { result ≡ runsFit 0 length runs.now }
+    ensures { result ≡ runs_fit 0 length runs.now }
 {
     if runs.len() % 2 != 0 {
         return false;
@@ -111,7 +111,7 @@ fn runs_fit(length: u64, runs: &[u32]) -> bool
 
 // The one check that sums. It does so once the runs are accepted: so the sum is at most the length, and wraps nowhere.
 fn check_runs(operand: u8, length: u64, runs: &[u32]) -> Checked
-    ensures { result ≡ checkedBy (first (runsChecks operand length runs.now)) (runLengths runs.now) }
+    ensures { result ≡ checked_by (first (runs_checks operand length runs.now)) (run_lengths runs.now) }
 {
     if length > 1048576 {
         return tell(refuse(1, operand), 0);
@@ -124,7 +124,7 @@ fn check_runs(operand: u8, length: u64, runs: &[u32]) -> Checked
 
 // All checks of one operand, in document 01's order, and its count.
 pub fn check(operand: u8, form: Form, words: &[u64], rows: &[u32]) -> Checked
-    ensures { result ≡ checkedOf operand (lent form words.now rows.now) }
+    ensures { result ≡ checked_of operand (lent form words.now rows.now) }
 {
     match form {
         Form::All { length } => tell(check_length(operand, length), length),
@@ -141,7 +141,7 @@ pub fn check(operand: u8, form: Form, words: &[u64], rows: &[u32]) -> Checked
 
 // The same for a set operation's operand, which may be no list and no runs. Nobody asks for its count.
 pub fn check_set(operand: u8, form: Form, words: &[u64], rows: &[u32]) -> Verdict
-    ensures { result ≡ first (setChecks operand (lent form words.now rows.now)) }
+    ensures { result ≡ first (set_checks operand (lent form words.now rows.now)) }
 {
     if counts_as_list(form) {
         return refuse(12, operand);

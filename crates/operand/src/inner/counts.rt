@@ -1,7 +1,7 @@
 // An operand's count: told once, by its checks, and handed on by value beside the form. Nothing counts or sums again.
 ghost use Rattle.std.specs.Prelude.{◌≡◌};
-ghost use Rattle.rules.specs.Operand.{emptyBy, fullBy};
-ghost use Rattle.operand.specs.Counts.{checkedBy};
+ghost use Rattle.rules.specs.Operand.{empty_by, full_by};
+ghost use Rattle.operand.specs.Counts.{checked_by};
 
 use super::forms::length_of;
 use rows::Verdict;
@@ -22,7 +22,7 @@ pub struct Checked {
 }
 
 pub fn tell(verdict: Verdict, count: u64) -> Checked
-    ensures { result ≡ checkedBy verdict count }
+    ensures { result ≡ checked_by verdict count }
 {
     match verdict {
         Verdict::Fine => Checked {
@@ -38,14 +38,14 @@ pub fn tell(verdict: Verdict, count: u64) -> Checked
 
 // Its count is 0.
 pub fn is_empty(operand: Counted) -> bool
-    ensures { result ≡ emptyBy operand.count }
+    ensures { result ≡ empty_by operand.count }
 {
     operand.count == 0
 }
 
 // Its length is above 0, and its count equals it.
 pub fn is_full(operand: Counted) -> bool
-    ensures { result ≡ fullBy operand.form operand.count }
+    ensures { result ≡ full_by operand.form operand.count }
 {
     let form = operand.form;
     let length = length_of(form);

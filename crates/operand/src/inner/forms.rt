@@ -1,7 +1,7 @@
 // What is asked of an operand's form: its length, where its words start, and what kind of mask it is.
 ghost use Rattle.std.specs.Prelude.{◌≡◌};
-ghost use Rattle.rules.specs.Operand.{length_of, countsAsList};
-ghost use Rattle.operand.specs.Flat.{hasRowNumbers, hasRuns, hasWords, start_of};
+ghost use Rattle.rules.specs.Operand.{length_of, counts_as_list};
+ghost use Rattle.operand.specs.Flat.{has_row_numbers, has_runs, has_words, start_of};
 
 use rules::Form;
 
@@ -40,7 +40,7 @@ pub fn start_of(form: Form) -> u64
 
 // It counts as a list: for the route, and a set operation takes none.
 pub fn counts_as_list(form: Form) -> bool
-    ensures { result ≡ countsAsList form }
+    ensures { result ≡ counts_as_list form }
 {
     match form {
         Form::All { length: _ } => false,
@@ -57,7 +57,7 @@ pub fn counts_as_list(form: Form) -> bool
 
 // The numbers lent beside it are its set rows.
 pub fn has_row_numbers(form: Form) -> bool
-    ensures { result ≡ hasRowNumbers form }
+    ensures { result ≡ has_row_numbers form }
 {
     match form {
         Form::All { length: _ } => false,
@@ -74,7 +74,7 @@ pub fn has_row_numbers(form: Form) -> bool
 
 // They are its runs, in pairs.
 pub fn has_runs(form: Form) -> bool
-    ensures { result ≡ hasRuns form }
+    ensures { result ≡ has_runs form }
 {
     match form {
         Form::All { length: _ } => false,
@@ -91,7 +91,7 @@ pub fn has_runs(form: Form) -> bool
 
 // Its rows are bits of the words lent.
 pub fn has_words(form: Form) -> bool
-    ensures { result ≡ hasWords form }
+    ensures { result ≡ has_words form }
 {
     match form {
         Form::All { length: _ } => false,

@@ -4,7 +4,7 @@ use mathlib.Core.Path.{sym, ◌∙◌}
 use borrow.Author.Rules.{rules}
 use borrow.Author.Tests.{not-true, not-false}
 use Rattle.cells.specs.Probe.{memory}
-use Rattle.cells.proofs.TellLaws.{enough-room, does-over}
+use Rattle.cells.proofs.TellLaws.{enough_room, does_over}
 use Rattle.probe.proofs.probe_feed.Statement.{statement}
 use Rattle.probe.proofs.probe_feed.Tie as tie
 
@@ -24,7 +24,7 @@ feed-requires : tie.Need-feed-requires
 feed-requires c κs = search rules
 
 tell-requires : tie.Need-tell-requires
-tell-requires c κs = enough-room _ _ (sym c.before.before.before.before.before.before.before.before.before.ready.ensures ∙ not-false _ c.before.before.before.before.before.before.before.before.if1.false)
+tell-requires c κs = enough_room _ _ (sym c.before.before.before.before.before.before.before.before.before.ready.ensures ∙ not-false _ c.before.before.before.before.before.before.before.before.if1.false)
 
 same_length : tie.Need-same-length
 same_length c = search rules
@@ -40,10 +40,10 @@ returns-2 c =
     let a = c.before.before.before.before.before.before.before.before.before.before.before.before.before.before.before.before.before.before.before.before.before.before.args in
     let room = sym c.before.before.before.before.before.before.before.before.before.before.before.before.before.before.ready.ensures ∙ not-false _ c.before.before.before.before.before.before.before.before.before.before.before.before.before.if1.false in
     let did = rw (c.before.before.before.before.before.before.before.before.before.before.before.before.form_of.ensures, c.before.before.before.before.before.before.before.before.before.before.before.form-of2.ensures) at c.before.before.before.before.before.before.before.before.before.feed.ensures in
-    does-over _ _ _ (memory a.out.now a.ans.now a.den.now) _ room did c.before.before.before.before.tell.ensures
+    does_over _ _ _ (memory a.out.now a.ans.now a.den.now) _ room did c.before.before.before.before.tell.ensures
 
-pub probe-feed-spec : {M : Type 1} → statement M
-probe-feed-spec =
+pub probe_feed_spec : {M : Type 1} → statement M
+probe_feed_spec =
     tie.close
     (tie.spec
     ready-requires

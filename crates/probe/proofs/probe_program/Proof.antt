@@ -3,7 +3,7 @@
 use mathlib.Core.Path.{sym, ◌∙◌}
 use borrow.Author.Tests.{not-true, not-false}
 use Rattle.cells.specs.Probe.{memory}
-use Rattle.cells.proofs.TellLaws.{enough-room, does-over}
+use Rattle.cells.proofs.TellLaws.{enough_room, does_over}
 use borrow.Author.Rules.{rules}
 use Rattle.probe.proofs.probe_program.Statement.{statement}
 use Rattle.probe.proofs.probe_program.Tie as tie
@@ -18,7 +18,7 @@ program-requires : tie.Need-program-requires
 program-requires c κs = search rules
 
 tell-requires : tie.Need-tell-requires
-tell-requires c κs = enough-room _ _ (sym c.before.before.before.before.before.before.before.ready.ensures ∙ not-false _ c.before.before.before.before.before.before.if1.false)
+tell-requires c κs = enough_room _ _ (sym c.before.before.before.before.before.before.before.ready.ensures ∙ not-false _ c.before.before.before.before.before.before.if1.false)
 
 same_length : tie.Need-same-length
 same_length c = search rules
@@ -32,10 +32,10 @@ same-length-3 c = search rules
 returns-2 : tie.Need-returns-2
 returns-2 c =
     let a = c.before.before.before.before.before.before.before.before.before.before.before.before.before.before.before.before.before.args in
-    does-over _ _ _ (memory a.out.now a.ans.now a.den.now) _ (sym c.before.before.before.before.before.before.before.before.before.before.before.before.ready.ensures ∙ not-false _ c.before.before.before.before.before.before.before.before.before.before.before.if1.false) c.before.before.before.before.before.before.before.before.before.program.ensures c.before.before.before.before.tell.ensures
+    does_over _ _ _ (memory a.out.now a.ans.now a.den.now) _ (sym c.before.before.before.before.before.before.before.before.before.before.before.before.ready.ensures ∙ not-false _ c.before.before.before.before.before.before.before.before.before.before.before.if1.false) c.before.before.before.before.before.before.before.before.before.program.ensures c.before.before.before.before.tell.ensures
 
-pub probe-program-spec : {M : Type 1} → statement M
-probe-program-spec =
+pub probe_program_spec : {M : Type 1} → statement M
+probe_program_spec =
     tie.close
     (tie.spec
     ready-requires

@@ -7,8 +7,8 @@ use borrow.Author.Rules.{rules}
 use borrow.Author.Tests.{not-true, not-false}
 use Rattle.rules.specs.Operand.{Operand}
 use Rattle.cells.specs.declared.Given.{Given}
-use Rattle.cells.specs.Probe.{Memory, memory, ready, Done, given, recoverDone}
-use Rattle.cells.proofs.TellLaws.{enough-room, does-over}
+use Rattle.cells.specs.Probe.{Memory, memory, ready, Done, given, recover_done}
+use Rattle.cells.proofs.TellLaws.{enough_room, does_over}
 use Rattle.probe.proofs.probe_recover.Statement.{statement}
 use Rattle.probe.proofs.probe_recover.Tie as tie
 
@@ -51,7 +51,7 @@ module _ (c : tie.After-ready) where
   other y = given y s.args.bwords.now s.args.brows.now
 
   abbrev done : Given → Given → Done
-  done x y = recoverDone (self x) (other y) s.args.out.now
+  done x y = recover_done (self x) (other y) s.args.out.now
 
 room : (c : tie.Else1) → ready (held c.before).answer ≡ true
 room c = sym c.before.ready.ensures ∙ not-false _ c.if1.false
@@ -74,7 +74,7 @@ recover-requires : tie.Need-recover-requires
 recover-requires c κs = search rules
 
 tell-requires : tie.Need-tell-requires
-tell-requires c κs = enough-room _ _ (room (chosen (formed (called c))))
+tell-requires c κs = enough_room _ _ (room (chosen (formed (called c))))
 
 same_length : tie.Need-same-length
 same_length c = search rules
@@ -92,10 +92,10 @@ returns-2 c =
     let f = formed k in
     let e = (chosen f).before in
     let did = k.before.recover.ensures ∙ ap₂ (done e) f.before.form_of.ensures f.form-of2.ensures in
-    does-over _ _ _ (held e) _ (room (chosen f)) did t.tell.ensures
+    does_over _ _ _ (held e) _ (room (chosen f)) did t.tell.ensures
 
-pub probe-recover-spec : {M : Type 1} → statement M
-probe-recover-spec =
+pub probe_recover_spec : {M : Type 1} → statement M
+probe_recover_spec =
     tie.close
     (tie.spec
     ready-requires

@@ -8,8 +8,8 @@ use borrow.Author.Tests.{not-true, not-false}
 use Rattle.rules.specs.Operand.{Operand}
 use Rattle.rules.specs.RecoverStream.{state_of}
 use Rattle.cells.specs.declared.Given.{Given}
-use Rattle.cells.specs.Probe.{Memory, memory, ready, Done, given, recoverFeedDone}
-use Rattle.cells.proofs.TellLaws.{enough-room, does-over}
+use Rattle.cells.specs.Probe.{Memory, memory, ready, Done, given, recover_feed_done}
+use Rattle.cells.proofs.TellLaws.{enough_room, does_over}
 use Rattle.probe.proofs.probe_recover_feed.Statement.{statement}
 use Rattle.probe.proofs.probe_recover_feed.Tie as tie
 
@@ -52,7 +52,7 @@ module _ (c : tie.After-ready) where
   other y = given y s.args.bwords.now s.args.brows.now
 
   abbrev done : Given → Given → Done
-  done x y = recoverFeedDone (state_of s.args.done s.args.ranks s.args.kept) (self x) (other y) s.args.out.now
+  done x y = recover_feed_done (state_of s.args.done s.args.ranks s.args.kept) (self x) (other y) s.args.out.now
 
 room : (c : tie.Else1) → ready (held c.before).answer ≡ true
 room c = sym c.before.ready.ensures ∙ not-false _ c.if1.false
@@ -75,7 +75,7 @@ recover-feed-requires : tie.Need-recover-feed-requires
 recover-feed-requires c κs = search rules
 
 tell-requires : tie.Need-tell-requires
-tell-requires c κs = enough-room _ _ (room (chosen (formed (called c))))
+tell-requires c κs = enough_room _ _ (room (chosen (formed (called c))))
 
 same_length : tie.Need-same-length
 same_length c = search rules
@@ -93,10 +93,10 @@ returns-2 c =
     let f = formed k in
     let e = (chosen f).before in
     let did = k.before.recover-feed.ensures ∙ ap₂ (done e) f.before.form_of.ensures f.form-of2.ensures in
-    does-over _ _ _ (held e) _ (room (chosen f)) did t.tell.ensures
+    does_over _ _ _ (held e) _ (room (chosen f)) did t.tell.ensures
 
-pub probe-recover-feed-spec : {M : Type 1} → statement M
-probe-recover-feed-spec =
+pub probe_recover_feed_spec : {M : Type 1} → statement M
+probe_recover_feed_spec =
     tie.close
     (tie.spec
     ready-requires

@@ -3,8 +3,8 @@
 use mathlib.Core.Path.{sym, ◌∙◌}
 use borrow.Author.Rules.{rules}
 use borrow.Author.Tests.{not-true, not-false}
-use Rattle.cells.specs.Probe.{answerCells}
-use Rattle.cells.proofs.TellLaws.{enough-room, tells-over}
+use Rattle.cells.specs.Probe.{answer_cells}
+use Rattle.cells.proofs.TellLaws.{enough_room, tells_over}
 use Rattle.probe.proofs.probe_select.Statement.{statement}
 use Rattle.probe.proofs.probe_select.Tie as tie
 
@@ -18,7 +18,7 @@ select-requires : tie.Need-select-requires
 select-requires c κs = search rules
 
 tell-requires : tie.Need-tell-requires
-tell-requires c κs = enough-room _ _ (sym c.before.before.before.before.ready.ensures ∙ not-false _ c.before.before.before.if1.false)
+tell-requires c κs = enough_room _ _ (sym c.before.before.before.before.ready.ensures ∙ not-false _ c.before.before.before.if1.false)
 
 same_length : tie.Need-same-length
 same_length c = search rules
@@ -30,10 +30,10 @@ returns-2 : tie.Need-returns-2
 returns-2 c =
     let a = c.before.before.before.before.before.before.before.before.before.before.before.before.args in
     let room = sym c.before.before.before.before.before.before.before.before.before.ready.ensures ∙ not-false _ c.before.before.before.before.before.before.before.before.if1.false in
-    tells-over _ _ (answerCells a.ans.now a.den.now) _ room c.before.before.before.before.before.before.before.select.ensures c.before.before.before.before.tell.ensures
+    tells_over _ _ (answer_cells a.ans.now a.den.now) _ room c.before.before.before.before.before.before.before.select.ensures c.before.before.before.before.tell.ensures
 
-pub probe-select-spec : {M : Type 1} → statement M
-probe-select-spec =
+pub probe_select_spec : {M : Type 1} → statement M
+probe_select_spec =
     tie.close
     (tie.spec
     ready-requires

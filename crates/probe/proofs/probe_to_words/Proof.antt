@@ -4,7 +4,7 @@ use mathlib.Core.Path.{sym, ◌∙◌}
 use borrow.Author.Rules.{rules}
 use borrow.Author.Tests.{not-true, not-false}
 use Rattle.cells.specs.Probe.{memory}
-use Rattle.cells.proofs.TellLaws.{enough-room, does-over}
+use Rattle.cells.proofs.TellLaws.{enough_room, does_over}
 use Rattle.probe.proofs.probe_to_words.Statement.{statement}
 use Rattle.probe.proofs.probe_to_words.Tie as tie
 
@@ -21,7 +21,7 @@ to-words-requires : tie.Need-to-words-requires
 to-words-requires c κs = search rules
 
 tell-requires : tie.Need-tell-requires
-tell-requires c κs = enough-room _ _ (sym c.before.before.before.before.before.before.before.before.ready.ensures ∙ not-false _ c.before.before.before.before.before.before.before.if1.false)
+tell-requires c κs = enough_room _ _ (sym c.before.before.before.before.before.before.before.before.ready.ensures ∙ not-false _ c.before.before.before.before.before.before.before.if1.false)
 
 same_length : tie.Need-same-length
 same_length c = search rules
@@ -37,10 +37,10 @@ returns-2 c =
     let a = c.before.before.before.before.before.before.before.before.before.before.before.before.before.before.before.before.before.before.before.args in
     let room = sym c.before.before.before.before.before.before.before.before.before.before.before.before.before.ready.ensures ∙ not-false _ c.before.before.before.before.before.before.before.before.before.before.before.before.if1.false in
     let did = rw c.before.before.before.before.before.before.before.before.before.before.before.form_of.ensures at c.before.before.before.before.before.before.before.before.before.to-words.ensures in
-    does-over _ _ _ (memory a.out.now a.ans.now a.den.now) _ room did c.before.before.before.before.tell.ensures
+    does_over _ _ _ (memory a.out.now a.ans.now a.den.now) _ room did c.before.before.before.before.tell.ensures
 
-pub probe-to-words-spec : {M : Type 1} → statement M
-probe-to-words-spec =
+pub probe_to_words_spec : {M : Type 1} → statement M
+probe_to_words_spec =
     tie.close
     (tie.spec
     ready-requires

@@ -46,8 +46,8 @@ print-tally-requires c κs = search rules
 returns-2 : tie.Need-returns-2
 returns-2 c = search rules
 
-pub run-file-spec : {M : Type 1} → statement M
-run-file-spec =
+pub run_file_spec : {M : Type 1} → statement M
+run_file_spec =
     tie.close
     (tie.spec
     open-read-requires

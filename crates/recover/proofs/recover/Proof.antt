@@ -9,16 +9,16 @@ use Rattle.rows.specs.declared.Row.{Row}
 use Rattle.rows.specs.declared.Verdict.{Verdict}
 use Rattle.rows.specs.declared.Verdict.TheVariants.{Fine, Refused}
 use Rattle.rows.specs.Laid.{written}
-use Rattle.rows.specs.Table.{first, ifFine}
+use Rattle.rows.specs.Table.{first, if_fine}
 use Rattle.rules.specs.declared.Answer.{Answer}
 use Rattle.rules.specs.declared.Recovered.{Recovered}
 use Rattle.rules.specs.Operand.{Operand, lent, count_of}
 use Rattle.rules.specs.Answer.{answered}
-use Rattle.rules.specs.Recover.{strays, recoverChecks, recovery, rowTold, recoveredBy, recovered, recoveredOut}
-use Rattle.rules.proofs.Recoveries.{recover-fine}
+use Rattle.rules.specs.Recover.{strays, recover_checks, recovery, row_told, recovered_by, recovered, recovered_out}
+use Rattle.rules.proofs.Recoveries.{recover_fine}
 use Rattle.recover.specs.declared.inner.judge.Judged.{Judged}
-use Rattle.recover.specs.Judged.{judgedOf}
-use Rattle.recover.proofs.JudgeLaws.{all-counts}
+use Rattle.recover.specs.Judged.{judged_of}
+use Rattle.recover.proofs.JudgeLaws.{all_counts}
 use Rattle.recover.proofs.recover.Statement.{statement}
 use Rattle.recover.proofs.recover.Tie as tie
 
@@ -61,12 +61,12 @@ module _ (c : tie.After-judge) where
   out = s.args.out.now
 
   abbrev verdict : Verdict
-  verdict = first (recoverChecks self other (length out))
+  verdict = first (recover_checks self other (length out))
 
   abbrev to : List ℕ
   to = written (count_of self) (recovery self other) out
 
-  told : c.judge.result ≡ judgedOf self other (length out)
+  told : c.judge.result ≡ judged_of self other (length out)
   told = c.judge.ensures
 
 fine : (c : tie.After-enum-told) → verdict (passed c) ≡ Fine
@@ -95,21 +95,21 @@ enum_told c = search rules
 recover-within-requires : tie.Need-recover-within-requires
 recover-within-requires c κs =
     let j = passed c.before in
-    let well = (recover-fine (self j) (other j) (length (out j))).0 (fine c.before) in
-    let own = all-counts (self j) (other j) (length (out j)) (fine c.before) in
+    let well = (recover_fine (self j) (other j) (length (out j))).0 (fine c.before) in
+    let own = all_counts (self j) (other j) (length (out j)) (fine c.before) in
     (well.0, ap (λ (x : Judged). x.set) (told j) ∙ own.0, ap (λ (x : Judged). x.kept) (told j) ∙ own.1, well.1)
 
 returns : tie.Need-returns
-unfolding recovered recoveredOut
+unfolding recovered recovered_out
 returns c =
     let v = refusing c.before in
     let j = barred v in
     let rows = recovery (self j) (other j) in
-    let row : Row = record { 0 = rowTold (verdict j) (strays (self j) (other j)) } in (
+    let row : Row = record { 0 = row_told (verdict j) (strays (self j) (other j)) } in (
       c.tell.ensures
           ∙ (λ i. gives (c.before.refused.ensures i) (told j i).outside)
           ∙ (λ i. gives (answered (sym (refuses v) i) rows 0) row),
-      ap (λ (w : Verdict). ifFine w (to j) (out j)) (sym (refuses v)),
+      ap (λ (w : Verdict). if_fine w (to j) (out j)) (sym (refuses v)),
     )
   where
     gives : Answer → Row → Recovered
@@ -119,17 +119,17 @@ same_length : tie.Need-same-length
 same_length c = search rules
 
 returns-2 : tie.Need-returns-2
-unfolding recovered recoveredOut
+unfolding recovered recovered_out
 returns-2 c =
     let g = gave c in
     let j = passed (asked g) in
     let v = sym (fine (asked g)) in (
-      g.recover-within.ensures.0 ∙ ap (λ (w : Verdict). recoveredBy w (self j) (other j)) v,
-      g.recover-within.ensures.1 ∙ ap (λ (w : Verdict). ifFine w (to j) (out j)) v,
+      g.recover-within.ensures.0 ∙ ap (λ (w : Verdict). recovered_by w (self j) (other j)) v,
+      g.recover-within.ensures.1 ∙ ap (λ (w : Verdict). if_fine w (to j) (out j)) v,
     )
 
-pub recover-spec : {M : Type 1} → statement M
-recover-spec =
+pub recover_spec : {M : Type 1} → statement M
+recover_spec =
     tie.close
     (tie.spec
     judge-requires

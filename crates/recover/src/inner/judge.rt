@@ -2,7 +2,7 @@
 // and with 17 the first row outside self.
 ghost use Rattle.std.specs.Prelude.{◌≡◌};
 ghost use Rattle.rules.specs.Operand.{lent, length_of, Accepted};
-ghost use Rattle.recover.specs.Judged.{matchedOf, foundOf, judgedOf};
+ghost use Rattle.recover.specs.Judged.{matched_of, found_of, judged_of};
 
 use lent::inner::words_for;
 use operand::inner::checks::check;
@@ -29,7 +29,7 @@ pub fn judge_masks(
     kwords: &[u64],
     krows: &[u32],
 ) -> Matched
-    ensures { result ≡ matchedOf (lent s swords.now srows.now) (lent k kwords.now krows.now) }
+    ensures { result ≡ matched_of (lent s swords.now srows.now) (lent k kwords.now krows.now) }
 {
     let one = check(1, s, swords, srows);
     let two = check(2, k, kwords, krows);
@@ -63,7 +63,7 @@ pub fn judge_inside(
     room: u64,
 ) -> Found
     requires { Accepted (lent s swords.now srows.now) × Accepted (lent k kwords.now krows.now) × (length_of k ≡ length_of s) }
-    ensures { result ≡ foundOf (lent s swords.now srows.now) (lent k kwords.now krows.now) bits room }
+    ensures { result ≡ found_of (lent s swords.now srows.now) (lent k kwords.now krows.now) bits room }
 {
     let row = first_outside(s, swords, srows, k, kwords, krows);
     if row.0 != length_of(s) {
@@ -97,7 +97,7 @@ pub fn judge(
     krows: &[u32],
     room: u64,
 ) -> Judged
-    ensures { result ≡ judgedOf (lent s swords.now srows.now) (lent k kwords.now krows.now) room }
+    ensures { result ≡ judged_of (lent s swords.now srows.now) (lent k kwords.now krows.now) room }
 {
     let matched = judge_masks(s, swords, srows, k, kwords, krows);
     let set = matched.set;

@@ -6,7 +6,7 @@ ghost use Rattle.rows.specs.Asks.{Room};
 ghost use Rattle.rules.specs.Operand.{lent, count_of};
 ghost use Rattle.rules.specs.Recover.{Within, recovery};
 ghost use Rattle.operand.specs.Counts.{Counts};
-ghost use Rattle.operand.specs.Flat.{hasWords};
+ghost use Rattle.operand.specs.Flat.{has_words};
 
 use extracts::inner::{recover_chunks, recover_words};
 use in_runs::inner::{recover_runs, recover_under_runs};
@@ -34,7 +34,7 @@ fn lay_kept_words(
     at: u64,
     out: &mut [u64],
 )
-    requires { Within (lent s.form swords.now srows.now) (lent k kwords.now krows.now) × (hasWords k ≡ true) × Counts s swords.now srows.now
+    requires { Within (lent s.form swords.now srows.now) (lent k kwords.now krows.now) × (has_words k ≡ true) × Counts s swords.now srows.now
         × Room at (count_of (lent s.form swords.now srows.now)) out.old }
     ensures { out.new ≡ laid at (recovery (lent s.form swords.now srows.now) (lent k kwords.now krows.now)) out.old }
 {

@@ -1,9 +1,9 @@
 // A whole recovery that is accepted: its rows written from the start on, and what is told.
 ghost use Rattle.std.specs.Prelude.{◌≡◌, ◌≤◌, length};
 ghost use Rattle.rows.specs.declared.Verdict.TheVariants.{Fine};
-ghost use Rattle.rows.specs.Laid.{wordsFor, written};
+ghost use Rattle.rows.specs.Laid.{words_for, written};
 ghost use Rattle.rules.specs.Operand.{lent, count_of};
-ghost use Rattle.rules.specs.Recover.{Within, recovery, recoveredBy};
+ghost use Rattle.rules.specs.Recover.{Within, recovery, recovered_by};
 ghost use Rattle.operand.specs.Counts.{Counts};
 
 use super::lay::lay_recovery;
@@ -31,8 +31,8 @@ pub fn recover_within(
     out: &mut [u64],
 ) -> Recovered
     requires { Within (lent s.form swords.now srows.now) (lent k.form kwords.now krows.now)
-        × Counts s swords.now srows.now × Counts k kwords.now krows.now × (wordsFor (count_of (lent s.form swords.now srows.now)) ≤ length out.old) }
-    ensures { (result ≡ recoveredBy Fine (lent s.form swords.now srows.now) (lent k.form kwords.now krows.now))
+        × Counts s swords.now srows.now × Counts k kwords.now krows.now × (words_for (count_of (lent s.form swords.now srows.now)) ≤ length out.old) }
+    ensures { (result ≡ recovered_by Fine (lent s.form swords.now srows.now) (lent k.form kwords.now krows.now))
         × (out.new ≡ written (count_of (lent s.form swords.now srows.now)) (recovery (lent s.form swords.now srows.now) (lent k.form kwords.now krows.now)) out.old) }
 {
     let other = k.form;

@@ -6,17 +6,17 @@ use borrow.Author.Rules.{rules}
 use Rattle.rows.specs.declared.Row.{Row}
 use Rattle.rows.specs.declared.Verdict.{Verdict}
 use Rattle.rows.specs.declared.Verdict.TheVariants.{Fine, Refused}
-use Rattle.rows.specs.Table.{ifFine}
+use Rattle.rows.specs.Table.{if_fine}
 use Rattle.rules.specs.declared.Answer.{Answer}
 use Rattle.rules.specs.declared.RecoveryState.{RecoveryState}
 use Rattle.rules.specs.declared.RecoveryFed.{RecoveryFed}
 use Rattle.rules.specs.Operand.{lent}
 use Rattle.rules.specs.Answer.{answered}
-use Rattle.rules.specs.Recover.{strays, rowTold}
-use Rattle.rules.specs.RecoverStream.{Masks, masksOf, ranks, moved, judged, fedBy, outBy}
+use Rattle.rules.specs.Recover.{strays, row_told}
+use Rattle.rules.specs.RecoverStream.{Masks, masks_of, ranks, moved, judged, fed_by, out_by}
 use Rattle.recover.specs.declared.inner.judge.Judged.{Judged}
-use Rattle.recover.specs.Judged.{judgedBy}
-use Rattle.recoverer.proofs.OpeningLaws.{judged-counts}
+use Rattle.recover.specs.Judged.{judged_by}
+use Rattle.recoverer.proofs.OpeningLaws.{judged_counts}
 use Rattle.recoverer.proofs.feed.Statement.{statement}
 use Rattle.recoverer.proofs.feed.Tie as tie
 
@@ -46,12 +46,12 @@ module _ (c : tie.After-judge) where
   abbrev masks : Masks
   masks =
       let a = s.args in
-      masksOf (lent a.s a.swords.now a.srows.now) (lent a.k a.kwords.now a.krows.now)
+      masks_of (lent a.s a.swords.now a.srows.now) (lent a.k a.kwords.now a.krows.now)
 
   abbrev verdict : Verdict
   verdict = judged s.args.state masks (length s.args.out.now)
 
-  told : c.judge.result ≡ judgedBy verdict masks.self masks.kept
+  told : c.judge.result ≡ judged_by verdict masks.self masks.kept
   told = c.judge.ensures
 
 fine : (c : tie.After-enum-told) → verdict (passed c) ≡ Fine
@@ -77,7 +77,7 @@ enum_told c = search rules
 step-requires : tie.Need-step-requires
 step-requires c κs =
     let j = passed c.before in
-    let own = judged-counts (s j).args.state (masks j) (length (s j).args.out.now) (fine c.before) in
+    let own = judged_counts (s j).args.state (masks j) (length (s j).args.out.now) (fine c.before) in
     (fine c.before, ap (λ (x : Judged). x.set) (told j) ∙ own.0, ap (λ (x : Judged). x.kept) (told j) ∙ own.1)
 
 returns : tie.Need-returns
@@ -87,10 +87,10 @@ returns c =
     let m = masks j in
     let st = (s j).args.state in
     let out = (s j).args.out.now in
-    let row : Row = record { 0 = rowTold (verdict j) (strays m.self m.kept) } in (
+    let row : Row = record { 0 = row_told (verdict j) (strays m.self m.kept) } in (
       (λ i. gives (c.refused.ensures i) (told j i).outside st)
-          ∙ (λ i. gives (answered (sym (refuses v) i) (ranks m) 0) row (ifFine (sym (refuses v) i) (moved st m) st)),
-      ap (λ (w : Verdict). outBy w st m out) (sym (refuses v)),
+          ∙ (λ i. gives (answered (sym (refuses v) i) (ranks m) 0) row (if_fine (sym (refuses v) i) (moved st m) st)),
+      ap (λ (w : Verdict). out_by w st m out) (sym (refuses v)),
     )
   where
     gives : Answer → Row → RecoveryState → RecoveryFed
@@ -107,10 +107,10 @@ returns-2 c =
     let st = (s j).args.state in
     let out = (s j).args.out.now in
     let v = sym (fine t) in
-    (k.step.ensures.0 ∙ ap (λ (w : Verdict). fedBy w st (masks j)) v, k.step.ensures.1 ∙ ap (λ (w : Verdict). outBy w st (masks j) out) v)
+    (k.step.ensures.0 ∙ ap (λ (w : Verdict). fed_by w st (masks j)) v, k.step.ensures.1 ∙ ap (λ (w : Verdict). out_by w st (masks j) out) v)
 
-pub feed-spec : {M : Type 1} → statement M
-feed-spec =
+pub feed_spec : {M : Type 1} → statement M
+feed_spec =
     tie.close
     (tie.spec
     judge-requires

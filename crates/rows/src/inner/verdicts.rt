@@ -1,7 +1,7 @@
 // A refusal is made here and handed up whole; and the ways to make and to join verdicts, as tables of checks have them.
 ghost use Rattle.std.specs.Prelude.{◌≡◌, [], ◌∷◌};
 ghost use Rattle.std.proofs.Math.Decide.{ℕ_discrete, dec_le};
-ghost use Rattle.rows.specs.Table.{first, need, refusal, noRefusal, ifFine};
+ghost use Rattle.rows.specs.Table.{first, need, refusal, no_refusal, if_fine};
 
 use super::super::{Refusal, Verdict};
 
@@ -13,7 +13,7 @@ pub fn refusal(number: u8, operand: u8) -> Refusal
 
 // What an accepted answer says in a refusal's place.
 pub fn no_refusal() -> Refusal
-    ensures { result ≡ noRefusal }
+    ensures { result ≡ no_refusal }
 {
     refusal(0, 0)
 }
@@ -53,7 +53,7 @@ pub fn equal(a: u64, b: u64) -> Verdict
 
 // The earlier verdict where it refuses, and else the later.
 pub fn then(earlier: Verdict, later: Verdict) -> Verdict
-    ensures { result ≡ ifFine earlier later earlier }
+    ensures { result ≡ if_fine earlier later earlier }
 {
     match earlier {
         Verdict::Refused(refusal) => Verdict::Refused(refusal),

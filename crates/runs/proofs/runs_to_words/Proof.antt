@@ -11,16 +11,16 @@ use Rattle.rules.specs.declared.Answer.{Answer}
 use Rattle.rules.specs.declared.Form.TheVariants.{Runs}
 use Rattle.rules.specs.declared.Run.{Run}
 use Rattle.rules.specs.Operand.{lent}
-use Rattle.rules.specs.Convert.{toWords, toWordsOut}
-use Rattle.rules.specs.Records.{numbersOf}
+use Rattle.rules.specs.Convert.{to_words, to_words_out}
+use Rattle.rules.specs.Records.{numbers_of}
 use Rattle.runs.specs.declared.words.Sweep.{Sweep}
-use Rattle.runs.specs.Swept.{startSweep, weighRuns, Small, begun, begunOut, layRuns, layRunsOut, LayReady, finished, finishedOut, FinishAsks}
+use Rattle.runs.specs.Swept.{start_sweep, weigh_runs, Small, begun, begun_out, lay_runs, lay_runs_out, LayReady, finished, finished_out, FinishAsks}
 use Rattle.runs.proofs.Kit.{◌≡◌, refl, ℕ, ◌^◌, ◌<◌, List, [], ◌∷◌, length, Ura, named, Val, SProp, ent, via, Lft, GName, Share, Fml, ftrue, flft, Memory, Routine, WpFn, Tables, Fun, tables, ‵, ◌⊛◌, ⋆, ◌$◌, ◌∵◌, !, qed, by, move, keep, drop, split, join, fsplit, fjoin, suffices, frame, done, whole, sub, look_in, agg, look, init, forget, stop, hop, fld, from, load, addr, and_then, no_more, assigns, land, returns, enter, alloc1, alloc0, params1, pass1, pass0, free1, free0, fm_of, WpFn-mono, owns, Is, RefT, now, w64, vint, slice_val, ShrSlice, MutSlice, Room, slice-vals, shr_slice_Tells, mut_slice_Tells, plain, u64, nothing, owned, Contract, Triple, Vals, on_entry, Meets, triple_of, entered, cited, says, Stays, stay_none_slice, stay_none, stay_slice, walk_of, Walks, ends_at, walked, Goes-none_slice, Goes-none, Goes-slice, walk_Meets, yes}
-use Rattle.runs.proofs.SweepLaws.{start_small, weighed-small, lay-ready, finish-asks, words-told, words_left}
+use Rattle.runs.proofs.SweepLaws.{start_small, weighed_small, lay_ready, finish_asks, words_told, words_left}
 use Rattle.runs.proofs.Values.{length as rows, sweep, answer}
-use Rattle.runs.proofs.Plainly.{One, calls-one}
-use Rattle.runs.proofs.Passing.{Doing, Doer, calls-lent}
-use Rattle.runs.proofs.Acting.{Acting, Acts, calls-acting}
+use Rattle.runs.proofs.Plainly.{One, calls_one}
+use Rattle.runs.proofs.Passing.{Doing, Doer, calls_lent}
+use Rattle.runs.proofs.Acting.{Acting, Acts, calls_acting}
 use Rattle.rules.specs.contracts.Run as T
 use Rattle.rules.specs.contracts.Answer as R
 use Rattle.runs.specs.contracts.words.Sweep as S
@@ -47,18 +47,18 @@ use Rattle.runs.proofs.runs_to_words.Code as code
 -- ---- what the calls do
 
 abbrev weighs : Doing Run Sweep ℕ Sweep
-weighs = record { Asks = λ rs s out. Small s; gives = λ rs s out. weighRuns rs s; out = λ rs s out. out }
+weighs = record { Asks = λ rs s out. Small s; gives = λ rs s out. weigh_runs rs s; out = λ rs s out. out }
 
 abbrev lays : Doing Run Sweep ℕ Sweep
-lays = record { Asks = LayReady; gives = λ rs s out. layRuns rs s; out = layRunsOut }
+lays = record { Asks = LayReady; gives = λ rs s out. lay_runs rs s; out = lay_runs_out }
 
 abbrev begins : Acting Sweep ℕ Sweep
 begins = record {
   Asks = λ s out. Small s;
-  Says = λ s out r l. (r ≡ begun s out) × (l ≡ begunOut s out) × Below (2 ^ 64) out;
+  Says = λ s out r l. (r ≡ begun s out) × (l ≡ begun_out s out) × Below (2 ^ 64) out;
   Learnt = λ s out. Below (2 ^ 64) out;
   gives = begun;
-  out = begunOut;
+  out = begun_out;
   given = λ s out r l e. e.0;
   left = λ s out r l e. e.1;
   learnt = λ s out r l e. e.2;
@@ -67,10 +67,10 @@ begins = record {
 abbrev finishes : Acting Sweep ℕ Answer
 finishes = record {
   Asks = FinishAsks;
-  Says = λ s out r l. (r ≡ finished s) × (l ≡ finishedOut s out);
+  Says = λ s out r l. (r ≡ finished s) × (l ≡ finished_out s out);
   Learnt = λ s out. Unit {0};
   gives = λ s out. finished s;
-  out = finishedOut;
+  out = finished_out;
   given = λ s out r l e. e.0;
   left = λ s out r l e. e.1;
   learnt = λ s out r l e. tt;
@@ -81,7 +81,7 @@ stayed = (stay_none (λ _. u64) yes, (stay_none_slice (0 ∷ []) tt (plain (λ _
 
 module _ {M : Type 1} {𝓤 : Ura M} (𝓛 : Logic 𝓤) where
   abbrev Start : Contract 𝓤
-  Start = One u64 S.the_row rows sweep startSweep 𝓛
+  Start = One u64 S.the_row rows sweep start_sweep 𝓛
 
   abbrev Weigh : Contract 𝓤
   Weigh = Doer T.the_row S.the_row u64 S.the_row tt tt sweep sweep weighs 𝓛
@@ -121,7 +121,7 @@ module _ {M : Type 1} {𝓤 : Ura M} (𝓛 : Logic 𝓤) (mem : Memory → SProp
   Out l = (MutSlice (named 1) κ₁ u64).own_val (out l) at.1.1.0
 
   exits : (r : Answer) (l : List ℕ) → len < 2 ^ 64 → Is R.the_row r (answer.spell r ∷ []) → length l ≡ m
-      → (r ≡ toWords (lent (Runs len) [] (numbersOf (now s))) os) × (l ≡ toWordsOut (lent (Runs len) [] (numbersOf (now s))) os)
+      → (r ≡ to_words (lent (Runs len) [] (numbers_of (now s))) os) × (l ≡ to_words_out (lent (Runs len) [] (numbers_of (now s))) os)
       → ent 𝓤 (⋆ 𝓛 (‵ (flft κ q) ∷ ‵ (flft κ₁ q₁) ∷ ‵ Lent ∷ ‵ (Out l) ∷ [])) (Post (answer.spell r))
   exits r l fits is long e =
       qed 𝓛 (‵ (flft κ q) ∷ ‵ (flft κ₁ q₁) ∷ ‵ Lent ∷ ‵ (Out l) ∷ []) ∵
@@ -134,22 +134,22 @@ module _ {M : Type 1} {𝓤 : Ura M} (𝓛 : Logic 𝓤) (mem : Memory → SProp
 
   -- the passes: what each call gives, and what it leaves of out
   abbrev started : Sweep
-  started = startSweep len
+  started = start_sweep len
 
   abbrev weighed : Sweep
-  weighed = weighRuns (now s) started
+  weighed = weigh_runs (now s) started
 
   abbrev laying : Sweep
   laying = begun weighed os
 
   abbrev cleared : List ℕ
-  cleared = begunOut weighed os
+  cleared = begun_out weighed os
 
   abbrev laid : Sweep
-  laid = layRuns (now s) laying
+  laid = lay_runs (now s) laying
 
   abbrev filled : List ℕ
-  filled = layRunsOut (now s) laying cleared
+  filled = lay_runs_out (now s) laying cleared
 
   walk : (𝓣 : Tables 𝓤 H) → Triple 𝓤 (𝓣.C #start) (Start 𝓛) → Triple 𝓤 (𝓣.C #weigh) (Weigh 𝓛) → Triple 𝓤 (𝓣.C #begin) (Begin 𝓛)
       → Triple 𝓤 (𝓣.C #lay) (Lay 𝓛) → Triple 𝓤 (𝓣.C #finish) (Finish 𝓛) → len < 2 ^ 64 → Room T.the_row n → Room u64 m
@@ -167,7 +167,7 @@ module _ {M : Type 1} {𝓤 : Ura M} (𝓛 : Logic 𝓤) (mem : Memory → SProp
       move ! (33 ∷ []) $ fsplit ! $ drop ! $ fsplit ! $ move ! (1 ∷ []) $ fsplit ! $ move ! (35 ∷ []) $ split ! $ move ! (1 ∷ []) $ split ! $
       keep ! (3 ∷ 0 ∷ 5 ∷ 2 ∷ 36 ∷ 34 ∷ 32 ∷ 30 ∷ 28 ∷ 26 ∷ 24 ∷ 22 ∷ 20 ∷ 18 ∷ 16 ∷ 14 ∷ 12 ∷ 10 ∷ 8 ∷ 6 ∷ 37 ∷ 35 ∷ 33 ∷ 31 ∷ 29 ∷ 27 ∷ 25 ∷ 23 ∷ 21 ∷ 19 ∷ 17
       ∷ 15 ∷ 13 ∷ 11 ∷ 9 ∷ 7 ∷ []) $
-      calls-one u64 S.the_row rows sweep startSweep 𝓛 len ! fm Known-start (refl, gl) (and_then ! (load ! (from ! (stop !)) (look ! 6 refl)) (no_more !))
+      calls_one u64 S.the_row rows sweep start_sweep 𝓛 len ! fm Known-start (refl, gl) (and_then ! (load ! (from ! (stop !)) (look ! 6 refl)) (no_more !))
       (λ is-started.
       land ! (from ! (stop !)) (init ! 8 refl (sweep.typed 𝓛 started _ is-started)) $
       -- the runs weighed
@@ -175,7 +175,7 @@ module _ {M : Type 1} {𝓤 : Ura M} (𝓛 : Logic 𝓤) (mem : Memory → SProp
       assigns ! (agg ! (and_then ! (load ! (from ! (stop !)) (look ! 12 refl))
       (and_then ! (load ! (from ! (fld ! refl (stop !))) (look_in ! 7 (sub ! 1 refl (whole !)))) (no_more !))))
       (from ! (stop !)) (init ! 13 refl (tt, (tt, (record { fits = gm.0 }, tt)))) $
-      calls-lent T.the_row S.the_row u64 S.the_row tt tt sweep sweep weighs 𝓛 κ κ₁ q q₁ s b o γ m started os ! fm known-weigh is-started
+      calls_lent T.the_row S.the_row u64 S.the_row tt tt sweep sweep weighs 𝓛 κ κ₁ q q₁ s b o γ m started os ! fm known-weigh is-started
       (start_small len (now s) os) refl gm
       (λ ν δ. and_then ! (load ! (from ! (stop !)) (look ! 5 refl))
       (and_then ! (load ! (from ! (stop !)) (look ! 7 refl)) (and_then ! (load ! (from ! (stop !)) (look ! 12 refl)) (no_more !)))) (λ is-weighed same.
@@ -185,7 +185,7 @@ module _ {M : Type 1} {𝓤 : Ura M} (𝓛 : Logic 𝓤) (mem : Memory → SProp
       assigns ! (agg ! (and_then ! (load ! (from ! (stop !)) (look ! 14 refl))
       (and_then ! (load ! (from ! (fld ! refl (stop !))) (look_in ! 7 (sub ! 1 refl (whole !)))) (no_more !))))
       (from ! (stop !)) (init ! 15 refl (tt, (tt, (record { fits = gm.0 }, tt)))) $
-      calls-acting S.the_row u64 S.the_row tt sweep sweep begins 𝓛 κ₁ q₁ b o γ m weighed os ! fm known-begin is-weighed (weighed-small len (now s) os) refl gm
+      calls_acting S.the_row u64 S.the_row tt sweep sweep begins 𝓛 κ₁ q₁ b o γ m weighed os ! fm known-begin is-weighed (weighed_small len (now s) os) refl gm
       (λ ν δ. and_then ! (load ! (from ! (stop !)) (look ! 9 refl)) (and_then ! (load ! (from ! (stop !)) (look ! 15 refl)) (no_more !)))
       (λ is-laying long small.
       land ! (from ! (stop !)) (init ! 10 refl (sweep.typed 𝓛 laying _ is-laying)) $
@@ -195,17 +195,17 @@ module _ {M : Type 1} {𝓤 : Ura M} (𝓛 : Logic 𝓤) (mem : Memory → SProp
       (and_then ! (load ! (from ! (fld ! refl (stop !))) (look_in ! 7 (sub ! 1 refl (whole !)))) (no_more !))))
       (from ! (stop !)) (init ! 17 refl (tt, (tt, (record { fits = gm.0 }, tt)))) $
       move ! (0 ∷ 1 ∷ 3 ∷ []) $
-      calls-lent T.the_row S.the_row u64 S.the_row tt tt sweep sweep lays 𝓛 κ κ₁ q q₁ s b o γ m laying cleared ! fm known-lay is-laying
-      (lay-ready len (now s) os) long gm
+      calls_lent T.the_row S.the_row u64 S.the_row tt tt sweep sweep lays 𝓛 κ κ₁ q q₁ s b o γ m laying cleared ! fm known-lay is-laying
+      (lay_ready len (now s) os) long gm
       (λ ν δ. and_then ! (load ! (from ! (stop !)) (look ! 5 refl))
-      (and_then ! (load ! (from ! (stop !)) (look ! 9 refl)) (and_then ! (load ! (from ! (stop !)) (look ! 16 refl)) (no_more !)))) (λ is-laid still.
-      land ! (from ! (stop !)) (init ! 11 refl (sweep.typed 𝓛 laid _ is-laid)) $
+      (and_then ! (load ! (from ! (stop !)) (look ! 9 refl)) (and_then ! (load ! (from ! (stop !)) (look ! 16 refl)) (no_more !)))) (λ is_laid still.
+      land ! (from ! (stop !)) (init ! 11 refl (sweep.typed 𝓛 laid _ is_laid)) $
       -- and the end
       assigns ! (addr ! (from ! (fld ! refl (hop ! (look_in ! 7 (sub ! 0 refl (whole !))) (stop !))))) (from ! (stop !)) (init ! 18 refl (tt, tt)) $
       assigns ! (agg ! (and_then ! (load ! (from ! (stop !)) (look ! 18 refl))
       (and_then ! (load ! (from ! (fld ! refl (stop !))) (look_in ! 7 (sub ! 1 refl (whole !)))) (no_more !))))
       (from ! (stop !)) (init ! 19 refl (tt, (tt, (record { fits = gm.0 }, tt)))) $
-      calls-acting S.the_row u64 R.the_row tt sweep answer finishes 𝓛 κ₁ q₁ b o γ m laid filled ! fm known-finish is-laid (finish-asks len (now s) os) still gm
+      calls_acting S.the_row u64 R.the_row tt sweep answer finishes 𝓛 κ₁ q₁ b o γ m laid filled ! fm known-finish is_laid (finish_asks len (now s) os) still gm
       (λ ν δ. and_then ! (load ! (from ! (stop !)) (look ! 11 refl)) (and_then ! (load ! (from ! (stop !)) (look ! 19 refl)) (no_more !)))
       (λ is-told last learnt.
       land ! (from ! (stop !)) (init ! 4 refl (answer.typed 𝓛 (finished laid) _ is-told)) $ returns ! (look ! 4 refl) $
@@ -216,8 +216,8 @@ module _ {M : Type 1} {𝓤 : Ura M} (𝓛 : Logic 𝓤) (mem : Memory → SProp
       move ! (4 ∷ 16 ∷ []) $ free1 ! $ move ! (4 ∷ 15 ∷ []) $ free1 ! $ move ! (4 ∷ 14 ∷ []) $ free1 ! $ move ! (4 ∷ 13 ∷ []) $ free1 ! $
       move ! (4 ∷ 12 ∷ []) $ free1 ! $ move ! (4 ∷ 11 ∷ []) $ free1 ! $ move ! (4 ∷ 10 ∷ []) $ free1 ! $ move ! (4 ∷ 9 ∷ []) $ free1 ! $
       move ! (4 ∷ 8 ∷ []) $ free1 ! $ move ! (4 ∷ 7 ∷ []) $ free1 ! $ move ! (4 ∷ 6 ∷ []) $ free1 ! $ move ! (4 ∷ 5 ∷ []) $ free1 ! $
-      free0 ! $ keep ! (2 ∷ 1 ∷ 3 ∷ 0 ∷ []) $ by ! (exits (finished laid) (finishedOut laid filled) gl is-told last
-      (words-told len (now s) os, words_left len (now s) os small)))))))))))))))))))))))
+      free0 ! $ keep ! (2 ∷ 1 ∷ 3 ∷ 0 ∷ []) $ by ! (exits (finished laid) (finished_out laid filled) gl is-told last
+      (words_told len (now s) os, words_left len (now s) os small)))))))))))))))))))))))
 
 module _ {M : Type 1} {𝓤 : Ura M} (𝓛 : Logic 𝓤) (mem : Memory → SProp 𝓤) (run : Routine → Fun 𝓤) (𝓣 : Tables 𝓤 𝓛.H)
     (Known-start : Triple 𝓤 (𝓣.C #start) (Start 𝓛)) (known-weigh : Triple 𝓤 (𝓣.C #weigh) (Weigh 𝓛))
@@ -244,9 +244,9 @@ module _ {M : Type 1} {𝓤 : Ura M} (𝓛 : Logic 𝓤) (mem : Memory → SProp
   )
       (f.clauses 𝓛 mem run) (WpFn 𝓤 H 𝓣.C 𝓣.Λ code.function) (WpFn-mono 𝓤 H 𝓛.laws 𝓣 code.function) walks
 
-pub runs-to-words-spec : {M : Type 1} → stated.statement M
+pub runs_to_words_spec : {M : Type 1} → stated.statement M
 unfolding code.routine tables_of
-runs-to-words-spec 𝓤 𝓛 𝓜 𝓡 =
+runs_to_words_spec 𝓤 𝓛 𝓜 𝓡 =
     let 𝓣 = tables 𝓤 𝓛.H 𝓜 𝓡 code.env in
     entered 𝓤 𝓛.H (triple_of 𝓛 f.signature (f.spec 𝓛 𝓜.mem 𝓡.run)) 𝓣.C 𝓣.Λ #runs-to-words code.function (code.unfolded 𝓤 𝓛.H 𝓜 𝓡)
     (meets 𝓛 𝓜.mem 𝓡.run (tables_of 𝓤 𝓛.H 𝓜 𝓣)

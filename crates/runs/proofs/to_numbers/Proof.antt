@@ -7,14 +7,14 @@ use base.Logic.{emp, fst∗}
 use contract.Running.{tables_of}
 use Rattle.rows.specs.declared.Refusal.{Refusal}
 use Rattle.rules.specs.declared.Run.{Run}
-use Rattle.rules.specs.Records.{numbersOf, toNumbers, toNumbersOut}
+use Rattle.rules.specs.Records.{numbers_of, to_numbers, to_numbers_out}
 use Rattle.runs.specs.declared.numbers.Writing.{Writing}
-use Rattle.runs.specs.Numbered.{start_of, movedBy, spliced, HasRoom, toldBy}
+use Rattle.runs.specs.Numbered.{start_of, moved_by, spliced, HasRoom, told_by}
 use Rattle.runs.proofs.Kit.{◌≡◌, refl, ℕ, List, [], ◌∷◌, length, Ura, named, Val, SProp, ent, via, Lft, GName, Share, Fml, ftrue, flft, Memory, Routine, WpFn, Tables, Fun, tables, ‵, ◌⊛◌, ⋆, ◌$◌, ◌∵◌, !, qed, by, move, keep, split, join, fsplit, fjoin, suffices, frame, done, whole, sub, look_in, agg, look, init, forget, stop, hop, fld, from, load, of_opd, addr, and_then, no_more, assigns, land, returns, enter, alloc1, alloc0, params1, pass1, pass0, free1, free0, fm_of, WpFn-mono, owns, Is, RefT, now, slice_val, ShrSlice, MutSlice, Room, slice-vals, shr_slice_Tells, mut_slice_Tells, plain, u32, usize, nothing, owned, Contract, Triple, Vals, on_entry, Meets, triple_of, entered, cited, says, Stays, stay_none_slice, stay_slice, walk_of, Walks, ends_at, walked, Goes-none_slice, Goes-slice, walk_Meets, yes}
-use Rattle.runs.proofs.NumbersLaws.{numbers-room, numbers-told, numbers-left}
+use Rattle.runs.proofs.NumbersLaws.{numbers_room, numbers_told, numbers_left}
 use Rattle.runs.proofs.Values.{number, writing, refusal}
-use Rattle.runs.proofs.Plainly.{One, calls-one, Two, calls-two}
-use Rattle.runs.proofs.Passing.{Doing, Doer, calls-lent}
+use Rattle.runs.proofs.Plainly.{One, calls_one, Two, calls_two}
+use Rattle.runs.proofs.Passing.{Doing, Doer, calls_lent}
 use Rattle.rules.specs.contracts.Run as T
 use Rattle.rows.specs.contracts.Refusal as R
 use Rattle.runs.specs.contracts.numbers.Writing as N
@@ -35,8 +35,8 @@ use Rattle.runs.proofs.to_numbers.Code as code
 abbrev writes : Doing Run Writing ℕ Writing
 writes = record {
   Asks = λ rs w out. HasRoom w (length rs) out;
-  gives = λ rs w out. movedBy (length rs) w;
-  out = λ rs w out. spliced w (numbersOf rs) out;
+  gives = λ rs w out. moved_by (length rs) w;
+  out = λ rs w out. spliced w (numbers_of rs) out;
 }
 
 abbrev stayed : Stays (f.ended).signature.params (f.ended).kept
@@ -50,7 +50,7 @@ module _ {M : Type 1} {𝓤 : Ura M} (𝓛 : Logic 𝓤) where
   Write = Doer T.the_row N.the_row u32 N.the_row tt tt writing writing writes 𝓛
 
   abbrev Told : Contract 𝓤
-  Told = One N.the_row R.the_row writing refusal toldBy 𝓛
+  Told = One N.the_row R.the_row writing refusal told_by 𝓛
 
 module _ {M : Type 1} {𝓤 : Ura M} (𝓛 : Logic 𝓤) (mem : Memory → SProp 𝓤) (run : Routine → Fun 𝓤) (κ κ₁ : Lft) (q q₁ : Share)
     (s : MutBor (List Run)) (b o : ℕ) (γ : GName) (os : List ℕ) where
@@ -77,7 +77,7 @@ module _ {M : Type 1} {𝓤 : Ura M} (𝓛 : Logic 𝓤) (mem : Memory → SProp
   abbrev Out : List ℕ → Fml
   Out l = (MutSlice (named 1) κ₁ u32).own_val (lent l) at.1.0
 
-  exits : (r : Refusal) (l : List ℕ) → Is R.the_row r (refusal.spell r ∷ []) → length l ≡ m → (r ≡ toNumbers (now s) os) × (l ≡ toNumbersOut (now s) os)
+  exits : (r : Refusal) (l : List ℕ) → Is R.the_row r (refusal.spell r ∷ []) → length l ≡ m → (r ≡ to_numbers (now s) os) × (l ≡ to_numbers_out (now s) os)
       → ent 𝓤 (⋆ 𝓛 (‵ (flft κ q) ∷ ‵ (flft κ₁ q₁) ∷ ‵ Runs ∷ ‵ (Out l) ∷ [])) (Post (refusal.spell r))
   exits r l is len e =
       qed 𝓛 (‵ (flft κ q) ∷ ‵ (flft κ₁ q₁) ∷ ‵ Runs ∷ ‵ (Out l) ∷ []) ∵
@@ -106,7 +106,7 @@ module _ {M : Type 1} {𝓤 : Ura M} (𝓛 : Logic 𝓤) (mem : Memory → SProp
       (init ! 9 refl (tt, record { fits = gn.0 })) $
       assigns ! (of_opd ! (load ! (from ! (fld ! refl (stop !))) (look_in ! 6 (sub ! 1 refl (whole !))))) (from ! (stop !))
       (init ! 10 refl (tt, record { fits = gm.0 })) $
-      calls-two usize usize N.the_row number number writing start_of 𝓛 n m ! fm Known-start (refl, gn.0) (refl, gm.0)
+      calls_two usize usize N.the_row number number writing start_of 𝓛 n m ! fm Known-start (refl, gn.0) (refl, gm.0)
       (and_then ! (load ! (from ! (stop !)) (look ! 10 refl)) (and_then ! (load ! (from ! (stop !)) (look ! 11 refl)) (no_more !))) (λ started.
       land ! (from ! (stop !)) (init ! 7 refl (writing.typed 𝓛 (start_of n m) _ started)) $
       -- the loop
@@ -114,23 +114,23 @@ module _ {M : Type 1} {𝓤 : Ura M} (𝓛 : Logic 𝓤) (mem : Memory → SProp
       assigns ! (agg ! (and_then ! (load ! (from ! (stop !)) (look ! 11 refl))
       (and_then ! (load ! (from ! (fld ! refl (stop !))) (look_in ! 6 (sub ! 1 refl (whole !)))) (no_more !))))
       (from ! (stop !)) (init ! 12 refl (tt, (tt, (record { fits = gm.0 }, tt)))) $
-      calls-lent T.the_row N.the_row u32 N.the_row tt tt writing writing writes 𝓛 κ κ₁ q q₁ s b o γ m (start_of n m) os ! fm known-write started
-      (numbers-room (now s) os) refl gm
+      calls_lent T.the_row N.the_row u32 N.the_row tt tt writing writing writes 𝓛 κ κ₁ q q₁ s b o γ m (start_of n m) os ! fm known-write started
+      (numbers_room (now s) os) refl gm
       (λ ν δ. and_then ! (load ! (from ! (stop !)) (look ! 4 refl))
       (and_then ! (load ! (from ! (stop !)) (look ! 6 refl)) (and_then ! (load ! (from ! (stop !)) (look ! 11 refl)) (no_more !))))
       (λ ended same.
-      land ! (from ! (stop !)) (init ! 8 refl (writing.typed 𝓛 (movedBy n (start_of n m)) _ ended)) $
+      land ! (from ! (stop !)) (init ! 8 refl (writing.typed 𝓛 (moved_by n (start_of n m)) _ ended)) $
       -- what is told
-      calls-one N.the_row R.the_row writing refusal toldBy 𝓛 (movedBy n (start_of n m)) ! fm known-told ended
+      calls_one N.the_row R.the_row writing refusal told_by 𝓛 (moved_by n (start_of n m)) ! fm known-told ended
       (and_then ! (load ! (from ! (stop !)) (look ! 9 refl)) (no_more !)) (λ told.
-      land ! (from ! (stop !)) (init ! 4 refl (refusal.typed 𝓛 (toldBy (movedBy n (start_of n m))) _ told)) $ returns ! (look ! 4 refl) $
+      land ! (from ! (stop !)) (init ! 4 refl (refusal.typed 𝓛 (told_by (moved_by n (start_of n m))) _ told)) $ returns ! (look ! 4 refl) $
       forget ! 4 refl $ forget ! 5 refl $ forget ! 6 refl $ forget ! 7 refl $ forget ! 8 refl $ forget ! 9 refl $ forget ! 10 refl $ forget ! 11 refl $
       forget ! 12 refl $
       move ! (4 ∷ 13 ∷ []) $ free1 ! $ move ! (4 ∷ 12 ∷ []) $ free1 ! $ move ! (4 ∷ 11 ∷ []) $ free1 ! $ move ! (4 ∷ 10 ∷ []) $ free1 ! $ move ! (4 ∷ 9 ∷ []) $
       free1 ! $
       move ! (4 ∷ 8 ∷ []) $ free1 ! $ move ! (4 ∷ 7 ∷ []) $ free1 ! $ move ! (4 ∷ 6 ∷ []) $ free1 ! $ move ! (4 ∷ 5 ∷ []) $ free1 ! $ free0 ! $
-      keep ! (2 ∷ 1 ∷ 3 ∷ 0 ∷ []) $ by ! (exits (toldBy (movedBy n (start_of n m))) (spliced (start_of n m) (numbersOf (now s)) os) told same
-      (numbers-told (now s) os, numbers-left (now s) os))))))))))))))
+      keep ! (2 ∷ 1 ∷ 3 ∷ 0 ∷ []) $ by ! (exits (told_by (moved_by n (start_of n m))) (spliced (start_of n m) (numbers_of (now s)) os) told same
+      (numbers_told (now s) os, numbers_left (now s) os))))))))))))))
 
 module _ {M : Type 1} {𝓤 : Ura M} (𝓛 : Logic 𝓤) (mem : Memory → SProp 𝓤) (run : Routine → Fun 𝓤) (𝓣 : Tables 𝓤 𝓛.H)
     (Known-start : Triple 𝓤 (𝓣.C #start) (Start 𝓛)) (known-write : Triple 𝓤 (𝓣.C #write) (Write 𝓛)) (known-told : Triple 𝓤 (𝓣.C #told) (Told 𝓛))
@@ -151,9 +151,9 @@ module _ {M : Type 1} {𝓤 : Ura M} (𝓛 : Logic 𝓤) (mem : Memory → SProp
     )
         (f.clauses 𝓛 mem run) (WpFn 𝓤 H 𝓣.C 𝓣.Λ code.function) (WpFn-mono 𝓤 H 𝓛.laws 𝓣 code.function) walks
 
-pub to-numbers-spec : {M : Type 1} → stated.statement M
+pub to_numbers_spec : {M : Type 1} → stated.statement M
 unfolding code.routine tables_of
-to-numbers-spec 𝓤 𝓛 𝓜 𝓡 =
+to_numbers_spec 𝓤 𝓛 𝓜 𝓡 =
     let 𝓣 = tables 𝓤 𝓛.H 𝓜 𝓡 code.env in
     entered 𝓤 𝓛.H (triple_of 𝓛 f.signature (f.spec 𝓛 𝓜.mem 𝓡.run)) 𝓣.C 𝓣.Λ #to-numbers code.function (code.unfolded 𝓤 𝓛.H 𝓜 𝓡)
     (meets 𝓛 𝓜.mem 𝓡.run (tables_of 𝓤 𝓛.H 𝓜 𝓣)

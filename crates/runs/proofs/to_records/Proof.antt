@@ -7,13 +7,13 @@ use base.Logic.{emp, fst∗}
 use contract.Running.{tables_of}
 use Rattle.rows.specs.declared.Refusal.{Refusal}
 use Rattle.rules.specs.declared.Run.{Run}
-use Rattle.rules.specs.Records.{toRecords, toRecordsOut}
-use Rattle.runs.specs.Packed.{judgedBy, pairsFor, packed}
+use Rattle.rules.specs.Records.{to_records, to_records_out}
+use Rattle.runs.specs.Packed.{judged_by, pairs_for, packed}
 use Rattle.runs.proofs.Kit.{◌≡◌, refl, ℕ, ◌+◌, ◌≤◌, List, [], ◌∷◌, length, Ura, named, Val, SProp, ent, via, Lft, GName, Share, Fml, ftrue, flft, Memory, Routine, WpFn, Tables, Fun, tables, ‵, ◌⊛◌, ⋆, ◌$◌, ◌∵◌, !, qed, by, move, keep, split, join, fsplit, fjoin, suffices, frame, done, whole, sub, look_in, agg, look, store, init, forget, stop, hop, fld, from, load, of_opd, addr, and_then, no_more, assigns, land, returns, enter, alloc1, alloc0, params1, pass1, pass0, free1, free0, fm_of, WpFn-mono, owns, Is, RefT, now, slice_val, ShrSlice, MutSlice, Room, slice-vals, shr_slice_Tells, mut_slice_Tells, plain, u32, usize, nothing, owned, Contract, Triple, Vals, on_entry, Meets, triple_of, entered, cited, says, Stays, stay_none_slice, stay_slice, walk_of, Walks, ends_at, walked, Goes-none_slice, Goes-slice, walk_Meets, yes}
-use Rattle.runs.proofs.RecordsLaws.{records-room, records-told, records-left}
+use Rattle.runs.proofs.RecordsLaws.{records_room, records_told, records_left}
 use Rattle.runs.proofs.Values.{number, refusal}
-use Rattle.runs.proofs.Plainly.{Two, calls-two}
-use Rattle.runs.proofs.Passing.{Doing, Doer, calls-lent}
+use Rattle.runs.proofs.Plainly.{Two, calls_two}
+use Rattle.runs.proofs.Passing.{Doing, Doer, calls_lent}
 use Rattle.rules.specs.contracts.Run as T
 use Rattle.rows.specs.contracts.Refusal as R
 use Rattle.runs.proofs.records.judge_records.Symbol as judge-def
@@ -42,10 +42,10 @@ stayed = (stay_none_slice (0 ∷ []) tt (plain (λ _. u32)) yes, (stay_slice (1 
 
 module _ {M : Type 1} {𝓤 : Ura M} (𝓛 : Logic 𝓤) where
   abbrev Judge : Contract 𝓤
-  Judge = Two usize usize R.the_row number number refusal judgedBy 𝓛
+  Judge = Two usize usize R.the_row number number refusal judged_by 𝓛
 
   abbrev Pairs : Contract 𝓤
-  Pairs = Two R.the_row usize usize refusal number number pairsFor 𝓛
+  Pairs = Two R.the_row usize usize refusal number number pairs_for 𝓛
 
   abbrev Write : Contract 𝓤
   Write = Doer u32 usize T.the_row usize tt tt number number writes 𝓛
@@ -75,7 +75,7 @@ module _ {M : Type 1} {𝓤 : Ura M} (𝓛 : Logic 𝓤) (mem : Memory → SProp
   abbrev Out : List Run → Fml
   Out l = (MutSlice (named 1) κ₁ T.the_row).own_val (lent l) at.1.0
 
-  exits : (r : Refusal) (l : List Run) → Is R.the_row r (refusal.spell r ∷ []) → length l ≡ m → (r ≡ toRecords (now s) os) × (l ≡ toRecordsOut (now s) os)
+  exits : (r : Refusal) (l : List Run) → Is R.the_row r (refusal.spell r ∷ []) → length l ≡ m → (r ≡ to_records (now s) os) × (l ≡ to_records_out (now s) os)
       → ent 𝓤 (⋆ 𝓛 (‵ (flft κ q) ∷ ‵ (flft κ₁ q₁) ∷ ‵ Numbers ∷ ‵ (Out l) ∷ [])) (Post (refusal.spell r))
   exits r l is len e =
       qed 𝓛 (‵ (flft κ q) ∷ ‵ (flft κ₁ q₁) ∷ ‵ Numbers ∷ ‵ (Out l) ∷ []) ∵
@@ -86,10 +86,10 @@ module _ {M : Type 1} {𝓤 : Ura M} (𝓛 : Logic 𝓤) (mem : Memory → SProp
       frame ! $ frame ! $ owned ! R.the_row (Is R.the_row) (refusal.makes 𝓛) r _ is $ done !
 
   abbrev told : Refusal
-  told = judgedBy n m
+  told = judged_by n m
 
   abbrev written : ℕ
-  written = pairsFor told n
+  written = pairs_for told n
 
   walk : (𝓣 : Tables 𝓤 H) → Triple 𝓤 (𝓣.C #judge) (Judge 𝓛) → Triple 𝓤 (𝓣.C #pairs) (Pairs 𝓛) → Triple 𝓤 (𝓣.C #write) (Write 𝓛)
       → Room u32 n → Room T.the_row m
@@ -110,13 +110,13 @@ module _ {M : Type 1} {𝓤 : Ura M} (𝓛 : Logic 𝓤) (mem : Memory → SProp
       (init ! 8 refl (tt, record { fits = gn.0 })) $
       assigns ! (of_opd ! (load ! (from ! (fld ! refl (stop !))) (look_in ! 6 (sub ! 1 refl (whole !))))) (from ! (stop !))
       (init ! 9 refl (tt, record { fits = gm.0 })) $
-      calls-two usize usize R.the_row number number refusal judgedBy 𝓛 n m ! fm known-judge (refl, gn.0) (refl, gm.0)
+      calls_two usize usize R.the_row number number refusal judged_by 𝓛 n m ! fm known-judge (refl, gn.0) (refl, gm.0)
       (and_then ! (load ! (from ! (stop !)) (look ! 9 refl)) (and_then ! (load ! (from ! (stop !)) (look ! 10 refl)) (no_more !))) (λ is-told.
       land ! (from ! (stop !)) (init ! 7 refl (refusal.typed 𝓛 told _ is-told)) $
       -- how many pairs are written
       assigns ! (of_opd ! (load ! (from ! (fld ! refl (stop !))) (look_in ! 5 (sub ! 1 refl (whole !))))) (from ! (stop !))
       (init ! 10 refl (tt, record { fits = gn.0 })) $
-      calls-two R.the_row usize usize refusal number number pairsFor 𝓛 told n ! fm known-pairs is-told (refl, gn.0)
+      calls_two R.the_row usize usize refusal number number pairs_for 𝓛 told n ! fm known-pairs is-told (refl, gn.0)
       (and_then ! (load ! (from ! (stop !)) (look ! 8 refl)) (and_then ! (load ! (from ! (stop !)) (look ! 11 refl)) (no_more !))) (λ is-written.
       land ! (from ! (stop !)) (store ! 9 refl (number.typed 𝓛 written _ is-written)) $
       -- the loop
@@ -124,7 +124,7 @@ module _ {M : Type 1} {𝓤 : Ura M} (𝓛 : Logic 𝓤) (mem : Memory → SProp
       assigns ! (agg ! (and_then ! (load ! (from ! (stop !)) (look ! 11 refl))
       (and_then ! (load ! (from ! (fld ! refl (stop !))) (look_in ! 6 (sub ! 1 refl (whole !)))) (no_more !))))
       (from ! (stop !)) (init ! 12 refl (tt, (tt, (record { fits = gm.0 }, tt)))) $
-      calls-lent u32 usize T.the_row usize tt tt number number writes 𝓛 κ κ₁ q q₁ s b o γ m written os ! fm known-write is-written (records-room (now s) os)
+      calls_lent u32 usize T.the_row usize tt tt number number writes 𝓛 κ κ₁ q q₁ s b o γ m written os ! fm known-write is-written (records_room (now s) os)
       refl gm
       (λ ν δ. and_then ! (load ! (from ! (stop !)) (look ! 4 refl))
       (and_then ! (load ! (from ! (stop !)) (look ! 8 refl)) (and_then ! (load ! (from ! (stop !)) (look ! 11 refl)) (no_more !))))
@@ -137,7 +137,7 @@ module _ {M : Type 1} {𝓤 : Ura M} (𝓛 : Logic 𝓤) (mem : Memory → SProp
       move ! (4 ∷ 13 ∷ []) $ free1 ! $ move ! (4 ∷ 12 ∷ []) $ free1 ! $ move ! (4 ∷ 11 ∷ []) $ free1 ! $ move ! (4 ∷ 10 ∷ []) $ free1 ! $ move ! (4 ∷ 9 ∷ []) $
       free1 ! $
       move ! (4 ∷ 8 ∷ []) $ free1 ! $ move ! (4 ∷ 7 ∷ []) $ free1 ! $ move ! (4 ∷ 6 ∷ []) $ free1 ! $ move ! (4 ∷ 5 ∷ []) $ free1 ! $ free0 ! $
-      keep ! (2 ∷ 1 ∷ 3 ∷ 0 ∷ []) $ by ! (exits told (packed (now s) written os) is-told same (records-told (now s) os, records-left (now s) os))))))))))))))
+      keep ! (2 ∷ 1 ∷ 3 ∷ 0 ∷ []) $ by ! (exits told (packed (now s) written os) is-told same (records_told (now s) os, records_left (now s) os))))))))))))))
 
 module _ {M : Type 1} {𝓤 : Ura M} (𝓛 : Logic 𝓤) (mem : Memory → SProp 𝓤) (run : Routine → Fun 𝓤) (𝓣 : Tables 𝓤 𝓛.H)
     (known-judge : Triple 𝓤 (𝓣.C #judge) (Judge 𝓛)) (known-pairs : Triple 𝓤 (𝓣.C #pairs) (Pairs 𝓛))
@@ -158,9 +158,9 @@ module _ {M : Type 1} {𝓤 : Ura M} (𝓛 : Logic 𝓤) (mem : Memory → SProp
   )
       (f.clauses 𝓛 mem run) (WpFn 𝓤 H 𝓣.C 𝓣.Λ code.function) (WpFn-mono 𝓤 H 𝓛.laws 𝓣 code.function) walks
 
-pub to-records-spec : {M : Type 1} → stated.statement M
+pub to_records_spec : {M : Type 1} → stated.statement M
 unfolding code.routine tables_of
-to-records-spec 𝓤 𝓛 𝓜 𝓡 =
+to_records_spec 𝓤 𝓛 𝓜 𝓡 =
     let 𝓣 = tables 𝓤 𝓛.H 𝓜 𝓡 code.env in
     entered 𝓤 𝓛.H (triple_of 𝓛 f.signature (f.spec 𝓛 𝓜.mem 𝓡.run)) 𝓣.C 𝓣.Λ #to-records code.function (code.unfolded 𝓤 𝓛.H 𝓜 𝓡)
     (meets 𝓛 𝓜.mem 𝓡.run (tables_of 𝓤 𝓛.H 𝓜 𝓣)

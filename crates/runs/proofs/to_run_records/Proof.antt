@@ -6,16 +6,16 @@ use contract.Running.{tables_of}
 use Rattle.rules.specs.declared.Form.{Form}
 use Rattle.rules.specs.declared.Written.{Written}
 use Rattle.rules.specs.Operand.{lent}
-use Rattle.rules.specs.Convert.{toRuns, toRunsOut}
-use Rattle.rules.specs.Records.{numbersOf}
+use Rattle.rules.specs.Convert.{to_runs, to_runs_out}
+use Rattle.rules.specs.Records.{numbers_of}
 use Rattle.runs.specs.declared.plan.Plan.{Plan}
 use Rattle.runs.specs.declared.search.Cursor.{Cursor}
 use Rattle.runs.specs.Planned.{plan_of, roomed}
-use Rattle.runs.specs.Searched.{startCursor, SearchReady, storedFrom}
-use Rattle.runs.proofs.FoundLaws.{search-ready, search-room, records-told, records-left}
+use Rattle.runs.specs.Searched.{start_cursor, SearchReady, stored_from}
+use Rattle.runs.proofs.FoundLaws.{search_ready, search_room, records_told, records_left}
 use Rattle.runs.proofs.Kit.{◌≡◌, tables, triple_of, entered, cited}
 use Rattle.runs.proofs.Values.{form, cursor, plan, written}
-use Rattle.runs.proofs.Drafting.{Drafting, Plans, Rooms, Starts, Counts, Stores, Tells, draft-meets}
+use Rattle.runs.proofs.Drafting.{Drafting, Plans, Rooms, Starts, Counts, Stores, Tells, draft_meets}
 use Rattle.rules.specs.contracts.Form as F
 use Rattle.rules.specs.contracts.Written as W
 use Rattle.runs.specs.contracts.plan.Plan as P
@@ -47,22 +47,22 @@ abbrev drafts : Drafting Form Cursor Plan Written
 drafts = record {
   plan = λ ws es f. plan_of (lent f ws es);
   room = roomed;
-  start = startCursor;
+  start = start_cursor;
   count = λ p. p.runs;
   tells = λ p. p.written;
   Asks = λ ws es c n out. SearchReady ws es c n × (n ≤ length out);
-  leaves = λ ws es c n out. storedFrom ws es 0 c n out;
-  Says = λ f ws es out r l. (r ≡ toRuns (lent f ws es) (numbersOf out)) × (numbersOf l ≡ toRunsOut (lent f ws es) (numbersOf out));
-  fits = λ f ws es out. (search-ready f ws es out, search-room f ws es out);
-  says = λ f ws es out. (records-told f ws es out, records-left f ws es out);
+  leaves = λ ws es c n out. stored_from ws es 0 c n out;
+  Says = λ f ws es out r l. (r ≡ to_runs (lent f ws es) (numbers_of out)) × (numbers_of l ≡ to_runs_out (lent f ws es) (numbers_of out));
+  fits = λ f ws es out. (search_ready f ws es out, search_room f ws es out);
+  says = λ f ws es out. (records_told f ws es out, records_left f ws es out);
 }
 
-pub to-run-records-spec : {M : Type 1} → stated.statement M
+pub to_run_records_spec : {M : Type 1} → stated.statement M
 unfolding code.routine tables_of
-to-run-records-spec 𝓤 𝓛 𝓜 𝓡 =
+to_run_records_spec 𝓤 𝓛 𝓜 𝓡 =
     let 𝓣 = tables 𝓤 𝓛.H 𝓜 𝓡 code.env in
     entered 𝓤 𝓛.H (triple_of 𝓛 f.signature (f.spec 𝓛 𝓜.mem 𝓡.run)) 𝓣.C 𝓣.Λ #to-run-records code.function (code.unfolded 𝓤 𝓛.H 𝓜 𝓡)
-    (draft-meets F.the_row C.the_row P.the_row W.the_row form cursor plan written drafts 𝓛 #plan #room #start #count #fill #tells
+    (draft_meets F.the_row C.the_row P.the_row W.the_row form cursor plan written drafts 𝓛 #plan #room #start #count #fill #tells
     (tables_of 𝓤 𝓛.H 𝓜 𝓣)
     (cited 𝓤 𝓛.H (Plans F.the_row C.the_row P.the_row W.the_row form cursor plan written drafts 𝓛) 𝓜 𝓡 code.env #plan plan-def.routine
     code.calls-runs::plan::plan-runs

@@ -10,7 +10,7 @@ use Rattle.rows.specs.Rows.{splice}
 use Rattle.rules.specs.declared.Answer.{Answer}
 use Rattle.rules.specs.Answer.{refused}
 use Rattle.lines.specs.declared.Written.{Written}
-use Rattle.lines.specs.Text.{text_of, withText}
+use Rattle.lines.specs.Text.{text_of, with_text}
 use Rattle.lines.proofs.ToldLaws.{no_room, room}
 use Rattle.text.proofs.answer.Statement.{statement}
 use Rattle.text.proofs.answer.Tie as tie
@@ -34,7 +34,7 @@ returns c =
     let t = told.tell in
     let len : t.result.len ≡ length (text_of a.input.now) = ap (λ (w : Written). w.len) t.ensures.0 in
     let n = no_room a.input.now a.out.now (omega (arith, len, c.before.before.if1.true)) in
-    (ap (λ (x : Answer). withText x []) (c.refused.ensures ∙ ap refused c.before.refusal.ensures) ∙ sym n.0, sym n.1)
+    (ap (λ (x : Answer). with_text x []) (c.refused.ensures ∙ ap refused c.before.refusal.ensures) ∙ sym n.0, sym n.1)
 
 array-share-prefix-text : tie.Need-array-share-prefix-text
 array-share-prefix-text c = search rules
@@ -61,8 +61,8 @@ returns-2 c =
     let n = room a.input.now a.out.now (omega (arith, len, c.before.before.before.before.before.if1.false)) in
     (t.ensures.0 ∙ sym n.0, c.before.before.put-bytes.ensures.1 ∙ ap (splice 0 a.out.now) t.ensures.1 ∙ sym n.1)
 
-pub answer-spec : {M : Type 1} → statement M
-answer-spec =
+pub answer_spec : {M : Type 1} → statement M
+answer_spec =
     tie.close
     (tie.spec
     slice-aggregate-tell

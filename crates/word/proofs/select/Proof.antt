@@ -8,10 +8,10 @@ use Rattle.rows.specs.declared.Verdict.{Verdict}
 use Rattle.rows.specs.Rows.{count}
 use Rattle.rows.specs.Word.{bits_of}
 use Rattle.rows.specs.Lists.{select}
-use Rattle.rows.specs.WordAnswer.{selectAnswer, selectedBy, selected}
+use Rattle.rows.specs.WordAnswer.{select_answer, selected_by, selected}
 use Rattle.rows.proofs.WordLaws.{count_bits}
-use Rattle.rows.proofs.TableLaws.{alone-fine}
-use Rattle.rows.proofs.Theorems.{select-refused}
+use Rattle.rows.proofs.TableLaws.{alone_fine}
+use Rattle.rows.proofs.Theorems.{select_refused}
 use Rattle.word.proofs.select.Statement.{statement}
 use Rattle.word.proofs.select.Tie as tie
 
@@ -35,8 +35,8 @@ returns : tie.Need-returns
 returns c =
     let s = c.before.before.before in
     let past = c.before.before.if1 in
-    c.select-answer.ensures ∙ ap (λ (x : Refusal). selectAnswer x 0) c.before.refusal.ensures
-    ∙ sym (select-refused s.args.word s.args.rank (λ h. omega (arith, counted s, past)))
+    c.select-answer.ensures ∙ ap (λ (x : Refusal). select_answer x 0) c.before.refusal.ensures
+    ∙ sym (select_refused s.args.word s.args.rank (λ h. omega (arith, counted s, past)))
 
 cast-select-bit-position : tie.Need-overflow-cast-select-bit-position
 cast-select-bit-position c = let below = c.if1 in omega (arith, few c.before, below)
@@ -59,11 +59,11 @@ returns-2 c =
     let s = c.before.before.before.before in
     let below = c.before.before.before.if1 in
     let n : ℕ = s.args.word in
-    c.select-answer2.ensures ∙ ap₂ selectAnswer c.before.no-refusal.ensures c.before.before.select-bit-position.ensures
-    ∙ sym (ap (λ (v : Verdict). selectedBy v (select (bits_of 64 n) s.args.rank)) (alone-fine (dec_lt s.args.rank (count (bits_of 64 n))) 9 0 (omega (arith, counted s, below))))
+    c.select-answer2.ensures ∙ ap₂ select_answer c.before.no-refusal.ensures c.before.before.select-bit-position.ensures
+    ∙ sym (ap (λ (v : Verdict). selected_by v (select (bits_of 64 n) s.args.rank)) (alone_fine (dec_lt s.args.rank (count (bits_of 64 n))) 9 0 (omega (arith, counted s, below))))
 
-pub select-spec : {M : Type 1} → statement M
-select-spec =
+pub select_spec : {M : Type 1} → statement M
+select_spec =
     tie.close
     (tie.spec
     cast-if1

@@ -10,31 +10,31 @@ use Rattle.rows.specs.declared.Verdict.TheVariants.{Fine}
 use Rattle.rows.specs.Laid.{written}
 use Rattle.rows.specs.Table.{first}
 use Rattle.rules.specs.Operand.{Operand, lent, length_of}
-use Rattle.rules.specs.Answer.{answered, noRoute}
-use Rattle.rules.specs.SetOps.{row_of, pairChecks, combination, combined, combinedOut}
-use Rattle.rules.proofs.AnswerLaws.{by-fine, by-refusal}
-use Rattle.rules.proofs.SetOperations.{pair-fine}
-use Rattle.bitops.proofs.VerdictLaws.{taken-flat, flat-combination}
+use Rattle.rules.specs.Answer.{answered, no_route}
+use Rattle.rules.specs.SetOps.{row_of, pair_checks, combination, combined, combined_out}
+use Rattle.rules.proofs.AnswerLaws.{by_fine, by_refusal}
+use Rattle.rules.proofs.SetOperations.{pair_fine}
+use Rattle.bitops.proofs.VerdictLaws.{taken_flat, flat_combination}
 use borrow.Author.Rules.{rules}
 use Rattle.bitops.proofs.combine.combine.Statement.{statement}
 use Rattle.bitops.proofs.combine.combine.Tie as tie
 
 -- the operands, the output, the verdict and what is written where it is fine
 
-abbrev first-operand : tie.Start → Operand
-first-operand s = lent s.args.a s.args.awords.now s.args.arows.now
+abbrev first_operand : tie.Start → Operand
+first_operand s = lent s.args.a s.args.awords.now s.args.arows.now
 
-abbrev second-operand : tie.Start → Operand
-second-operand s = lent s.args.b s.args.bwords.now s.args.brows.now
+abbrev second_operand : tie.Start → Operand
+second_operand s = lent s.args.b s.args.bwords.now s.args.brows.now
 
 abbrev out : tie.Start → List ℕ
 out s = s.args.out.now
 
 abbrev verdict : tie.Start → Verdict
-verdict s = first (pairChecks (first-operand s) (second-operand s) (length (out s)))
+verdict s = first (pair_checks (first_operand s) (second_operand s) (length (out s)))
 
 abbrev result : tie.Start → List Bool
-result s = combination (row_of s.args.op) (first-operand s) (second-operand s)
+result s = combination (row_of s.args.op) (first_operand s) (second_operand s)
 
 abbrev left : tie.Start → List ℕ
 left s = written (length_of s.args.a) (result s) (out s)
@@ -58,36 +58,36 @@ answer-requires : tie.Need-answer-requires
 answer-requires c κs =
     let judged = c.before.before.before in
     let s = start judged in
-    let t = (pair-fine (first-operand s) (second-operand s) (length (out s))).0 (sym judged.judge-two.ensures ∙ c.before.enum_told.given.1) in
-    ((taken-flat (first-operand s) t.0, taken-flat (second-operand s) t.1, t.2), t.3)
+    let t = (pair_fine (first_operand s) (second_operand s) (length (out s))).0 (sym judged.judge-two.ensures ∙ c.before.enum_told.given.1) in
+    ((taken_flat (first_operand s) t.0, taken_flat (second_operand s) t.1, t.2), t.3)
 
 returns : tie.Need-returns
-unfolding combined combinedOut
+unfolding combined combined_out
 returns c =
     let judged = c.before.before.before.before in
     let s = start judged in
-    let p = by-refusal (verdict s) (result s) noRoute (left s) (out s) _ (sym judged.judge-two.ensures ∙ c.before.before.refusal.given.1) in
+    let p = by_refusal (verdict s) (result s) no_route (left s) (out s) _ (sym judged.judge-two.ensures ∙ c.before.before.refusal.given.1) in
     (c.refused.ensures ∙ p.0, p.1)
 
 same_length : tie.Need-same-length
 same_length c = search rules
 
 returns-2 : tie.Need-returns-2
-unfolding combined combinedOut
+unfolding combined combined_out
 returns-2 c =
     let gave = c.before.before in
     let judged = gave.before.before.before.before in
     let s = start judged in
     let fine = sym judged.judge-two.ensures ∙ gave.before.before.enum_told.given.1 in
-    let t = (pair-fine (first-operand s) (second-operand s) (length (out s))).0 fine in
-    let same = flat-combination (row_of s.args.op) (first-operand s) (second-operand s) t.0 t.1 in
-    let p = by-fine (verdict s) (result s) noRoute (left s) (out s) fine in (
-      gave.answer.ensures.0 ∙ ap (λ (l : List Bool). answered Fine l noRoute) same ∙ p.0,
+    let t = (pair_fine (first_operand s) (second_operand s) (length (out s))).0 fine in
+    let same = flat_combination (row_of s.args.op) (first_operand s) (second_operand s) t.0 t.1 in
+    let p = by_fine (verdict s) (result s) no_route (left s) (out s) fine in (
+      gave.answer.ensures.0 ∙ ap (λ (l : List Bool). answered Fine l no_route) same ∙ p.0,
       gave.answer.ensures.1 ∙ ap (λ (l : List Bool). written (length_of s.args.a) l (out s)) same ∙ p.1,
     )
 
-pub combine-spec : {M : Type 1} → statement M
-combine-spec =
+pub combine_spec : {M : Type 1} → statement M
+combine_spec =
     tie.close
     (tie.spec
     judge-two-requires

@@ -4,10 +4,10 @@ use Prim.Native.Nat.{ℕ}
 use mathlib.Core.Path.{◌≡◌, ap, ◌∙◌}
 use mathlib.Core.List.{[], ◌∷◌}
 use native.Mathlib.Decide.{dec_le}
-use Rattle.rows.specs.Laid.{wordsFor}
+use Rattle.rows.specs.Laid.{words_for}
 use Rattle.rows.specs.Table.{first, need}
 use Rattle.rules.specs.Operand.{length_of}
-use Rattle.rows.proofs.TableLaws.{then-told, last-told}
+use Rattle.rows.proofs.TableLaws.{then_told, last_told}
 use borrow.Author.Rules.{rules}
 use Rattle.bitops.proofs.judge.judge_one.Statement.{statement}
 use Rattle.bitops.proofs.judge.judge_one.Tie as tie
@@ -24,10 +24,10 @@ abbrev checked : tie.After-has-room → tie.After-check-set
 checked c = (measured c).before
 
 -- the verdict on the output's room, as the table has it
-space-told : (c : tie.After-has-room) → c.has_room.result
-    ≡ first (need (dec_le (wordsFor (length_of (start (checked c)).args.a)) (start (checked c)).args.room) 8 0 ∷ [])
-space-told c =
-    let words = c.before.words-for.ensures ∙ ap wordsFor (measured c).length-of.ensures in
+space_told : (c : tie.After-has-room) → c.has_room.result
+    ≡ first (need (dec_le (words_for (length_of (start (checked c)).args.a)) (start (checked c)).args.room) 8 0 ∷ [])
+space_told c =
+    let words = c.before.words-for.ensures ∙ ap words_for (measured c).length-of.ensures in
     c.has_room.ensures ∙ ap (λ (n : ℕ). first (need (dec_le n (start (checked c)).args.room) 8 0 ∷ [])) words
 
 -- ---- the answers
@@ -49,10 +49,10 @@ then-requires c κs = search rules
 
 returns : tie.Need-returns
 returns c =
-    then-told _ _ _ c.then.ensures (checked c.before).check-set.ensures (last-told _ (space-told c.before))
+    then_told _ _ _ c.then.ensures (checked c.before).check-set.ensures (last_told _ (space_told c.before))
 
-pub judge-one-spec : {M : Type 1} → statement M
-judge-one-spec =
+pub judge_one_spec : {M : Type 1} → statement M
+judge_one_spec =
     tie.close
     (tie.spec
     check-set-requires

@@ -4,10 +4,10 @@ use Prim.Native.Nat.{ℕ}
 use mathlib.Core.Path.{◌≡◌, ap, ap₂, ◌∙◌}
 use mathlib.Core.List.{[], ◌∷◌}
 use native.Mathlib.Decide.{ℕ_discrete, dec_le}
-use Rattle.rows.specs.Laid.{wordsFor}
+use Rattle.rows.specs.Laid.{words_for}
 use Rattle.rows.specs.Table.{first, need}
 use Rattle.rules.specs.Operand.{length_of}
-use Rattle.rows.proofs.TableLaws.{then-told, last-told}
+use Rattle.rows.proofs.TableLaws.{then_told, last_told}
 use borrow.Author.Rules.{rules}
 use Rattle.bitops.proofs.judge.judge_two.Statement.{statement}
 use Rattle.bitops.proofs.judge.judge_two.Tie as tie
@@ -37,9 +37,9 @@ joined c = c.before.before
 
 -- ---- the verdict of each part that is no operand's, as the table has it
 
-lengths-told : (c : tie.After-equal) → c.equal.result
+lengths_told : (c : tie.After-equal) → c.equal.result
     ≡ first (need (ℕ_discrete (length_of (start (checked c)).args.a) (length_of (start (checked c)).args.b)) 7 0 ∷ [])
-lengths-told c =
+lengths_told c =
     c.equal.ensures
     ∙ ap₂ (λ (m n : ℕ). first (need (ℕ_discrete m n) 7 0 ∷ [])) (measured c).length-of.ensures c.before.length-of2.ensures
 
@@ -47,9 +47,9 @@ module _ (c : tie.After-has-room) where
   abbrev s : tie.Start
   s = start (checked (compared c))
 
-  space-told : c.has_room.result ≡ first (need (dec_le (wordsFor (length_of s.args.a)) s.args.room) 8 0 ∷ [])
-  space-told =
-      let words = c.before.words-for.ensures ∙ ap wordsFor (measured-again c).length-of3.ensures in
+  space_told : c.has_room.result ≡ first (need (dec_le (words_for (length_of s.args.a)) s.args.room) 8 0 ∷ [])
+  space_told =
+      let words = c.before.words-for.ensures ∙ ap words_for (measured-again c).length-of3.ensures in
       c.has_room.ensures ∙ ap (λ (n : ℕ). first (need (dec_le n s.args.room) 8 0 ∷ [])) words
 
 -- ---- the answers
@@ -92,12 +92,12 @@ returns c =
     let h = (joined c).before in
     let e = compared h in
     let two = checked e in
-    then-told _ _ _ c.then3.ensures two.before.check-set.ensures
-    (then-told _ _ _ c.before.then2.ensures two.check-set2.ensures
-    (then-told _ _ _ (joined c).then.ensures (lengths-told e) (last-told _ (space-told h))))
+    then_told _ _ _ c.then3.ensures two.before.check-set.ensures
+    (then_told _ _ _ c.before.then2.ensures two.check-set2.ensures
+    (then_told _ _ _ (joined c).then.ensures (lengths_told e) (last_told _ (space_told h))))
 
-pub judge-two-spec : {M : Type 1} → statement M
-judge-two-spec =
+pub judge_two_spec : {M : Type 1} → statement M
+judge_two_spec =
     tie.close
     (tie.spec
     check-set-requires

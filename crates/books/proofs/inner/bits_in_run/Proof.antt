@@ -5,7 +5,7 @@ use native.Mathlib.Omega.{arith}
 use mathlib.Core.Path.{◌≡◌, ap, ap₂, ◌∙◌}
 use borrow.Author.Rules.{rules}
 use Rattle.books.specs.Windows.{into}
-use Rattle.books.proofs.RunBitLaws.{run_none, run-some}
+use Rattle.books.proofs.RunBitLaws.{run_none, run_some}
 use Rattle.books.proofs.inner.bits_in_run.Statement.{statement}
 use Rattle.books.proofs.inner.bits_in_run.Tie as tie
 
@@ -20,8 +20,8 @@ chosen c = c.before
 -- ---- where the run begins in the window, and where it ends
 
 module _ (c : tie.After-into-window2) where
-  begin-is : c.before.into-window.result ≡ into (start c).args.base (start c).args.n (start c).args.first
-  begin-is = c.before.into-window.ensures
+  begin_is : c.before.into-window.result ≡ into (start c).args.base (start c).args.n (start c).args.first
+  begin_is = c.before.into-window.ensures
 
   end_is : c.into-window2.result ≡ into (start c).args.base (start c).args.n (start c).args.past
   end_is = c.into-window2.ensures
@@ -56,12 +56,12 @@ returns-2 c =
     let t = chosen c.before in
     let a = (start t).args in
     let long : t.into-window2.result - t.before.into-window.result ≡ into a.base a.n a.past - into a.base a.n a.first =
-    ap₂ (λ (x y : ℕ). x - y) (end_is t) (begin-is t) in
-    ap₂ (λ (x y : ℕ). (x * 2 ^ y) % 2 ^ 64) (c.ones.ensures ∙ ap (λ (k : ℕ). 2 ^ k - 1) long) (begin-is t)
-    ∙ run-some a.first a.past a.base a.n (omega (arith, end_is t, begin-is t)) (omega (arith, (start t).pre.0))
+    ap₂ (λ (x y : ℕ). x - y) (end_is t) (begin_is t) in
+    ap₂ (λ (x y : ℕ). (x * 2 ^ y) % 2 ^ 64) (c.ones.ensures ∙ ap (λ (k : ℕ). 2 ^ k - 1) long) (begin_is t)
+    ∙ run_some a.first a.past a.base a.n (omega (arith, end_is t, begin_is t)) (omega (arith, (start t).pre.0))
 
-pub bits-in-run-spec : {M : Type 1} → statement M
-bits-in-run-spec =
+pub bits_in_run_spec : {M : Type 1} → statement M
+bits_in_run_spec =
     tie.close
     (tie.spec
     into-window-requires

@@ -5,9 +5,9 @@ use mathlib.Core.Path.{◌≡◌, sym, ap, ap₂, ◌∙◌}
 use native.Mathlib.Omega.{arith}
 use lib.ListN.{drop}
 use Rattle.rows.specs.Word.{word_of}
-use Rattle.rows.specs.Words.{fit, bitsOfAll}
-use Rattle.rows.proofs.FitLaws.{word-from}
-use Rattle.books.proofs.ChunkLaws.{chunk-is}
+use Rattle.rows.specs.Words.{fit, bits_of_all}
+use Rattle.rows.proofs.FitLaws.{word_from_lem}
+use Rattle.books.proofs.ChunkLaws.{chunk_is}
 use borrow.Author.Rules.{rules}
 use Rattle.books.proofs.inner.chunk_at.Statement.{statement}
 use Rattle.books.proofs.inner.chunk_at.Tie as tie
@@ -22,8 +22,8 @@ returns : tie.Need-returns
 returns c =
     let a = c.before.before.before.before.args in
     c.chunk.ensures
-    ∙ ap (λ (n : ℕ). word_of (fit n (drop (a.start + a.i) (bitsOfAll 64 a.words.now)))) c.before.before.chunk-len.ensures
-    ∙ chunk-is a.start a.len a.i a.words.now c.before.before.before.before.requires.0 (omega arith)
+    ∙ ap (λ (n : ℕ). word_of (fit n (drop (a.start + a.i) (bits_of_all 64 a.words.now)))) c.before.before.chunk-len.ensures
+    ∙ chunk_is a.start a.len a.i a.words.now c.before.before.before.before.requires.0 (omega arith)
 
 add-if2 : tie.Need-overflow-add-if2
 add-if2 c = search rules
@@ -35,8 +35,8 @@ returns-2 : tie.Need-returns-2
 returns-2 c =
     let a = c.before.before.before.before.before.args in
     c.chunk2.ensures
-    ∙ ap (λ (n : ℕ). word_of (fit n (drop (a.start + a.i) (bitsOfAll 64 a.words.now)))) c.before.before.before.chunk-len.ensures
-    ∙ chunk-is a.start a.len a.i a.words.now c.before.before.before.before.before.requires.0 (omega arith)
+    ∙ ap (λ (n : ℕ). word_of (fit n (drop (a.start + a.i) (bits_of_all 64 a.words.now)))) c.before.before.before.chunk-len.ensures
+    ∙ chunk_is a.start a.len a.i a.words.now c.before.before.before.before.before.requires.0 (omega arith)
 
 mul-result : tie.Need-overflow-mul-result
 mul-result c = search rules
@@ -50,9 +50,9 @@ returns-3 c =
     let ws = a.words.now in
     let place : a.i / 64 * 64 ≡ a.start + a.i = omega arith in
     let whole : 64 ≡ min 64 (a.len - a.i) = omega (arith, c.before.before.before.chunk-len.ensures) in
-    sym (word-from 64 (a.i / 64) ws (c.shared-slice-known2.given (a.i / 64)).fits)
-    ∙ ap₂ (λ (n k : ℕ). word_of (fit n (drop k (bitsOfAll 64 ws)))) whole place
-    ∙ chunk-is a.start a.len a.i ws c.before.before.before.before.before.requires.0 (omega arith)
+    sym (word_from_lem 64 (a.i / 64) ws (c.shared-slice-known2.given (a.i / 64)).fits)
+    ∙ ap₂ (λ (n k : ℕ). word_of (fit n (drop k (bits_of_all 64 ws)))) whole place
+    ∙ chunk_is a.start a.len a.i ws c.before.before.before.before.before.requires.0 (omega arith)
 
-pub chunk-at-spec : {M : Type 1} → statement M
-chunk-at-spec = tie.close (tie.spec chunk-len-requires chunk-requires returns add-if2 chunk-requires-2 returns-2 mul-result shared-slice-read-result returns-3)
+pub chunk_at_spec : {M : Type 1} → statement M
+chunk_at_spec = tie.close (tie.spec chunk-len-requires chunk-requires returns add-if2 chunk-requires-2 returns-2 mul-result shared-slice-read-result returns-3)

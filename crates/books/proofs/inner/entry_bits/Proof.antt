@@ -13,7 +13,7 @@ use Rattle.rows.specs.Word.{word_of}
 use Rattle.rows.specs.Words.{Below}
 use Rattle.rows.specs.Lists.{tab, member}
 use Rattle.books.specs.Gathers.{Climbs, Gathers}
-use Rattle.books.proofs.GatherLaws.{below_more, gather-start, gather-turn, gather-end, climbs-at, climbs-past, climbs-from, below_next}
+use Rattle.books.proofs.GatherLaws.{below_more, gather_start, gather_turn, gather_end, climbs_at, climbs_past, climbs_from, below_next}
 use Rattle.books.proofs.inner.entry_bits.Statement.{statement}
 use Rattle.books.proofs.inner.entry_bits.Tie as tie
 
@@ -48,7 +48,7 @@ module _ (c : tie.After-shared-slice-known invariant-loop decreases-loop) where
   j = (head c).loop.j
 
   left : (rank ≤ get_or ranks j 0) × Climbs (suc (get_or ranks j 0)) (drop (suc j) ranks)
-  left = climbs-at rank j ranks (omega arith) (head c).loop.invariant.3
+  left = climbs_at rank j ranks (omega arith) (head c).loop.invariant.3
 
 -- ---- what is told where no entry that is left is below what is behind the chunk
 
@@ -59,7 +59,7 @@ module _ (h : tie.At-loop invariant-loop decreases-loop) where
       let a = h.before.args in
       let l = h.loop in
       record {
-        is = l.invariant.1 ∙ gather-end a.base a.n l.j a.entries.now past;
+        is = l.invariant.1 ∙ gather_end a.base a.n l.j a.entries.now past;
         parted = record { within = l.invariant.0; before = l.invariant.2; after = past };
       }
 
@@ -72,7 +72,7 @@ loop-holds c =
     let rs = a.entries.now in
     let p = c.requires.2 in (
       p.within,
-      gather-start b a.n a.next rs p.before,
+      gather_start b a.n a.next rs p.before,
       below_more b (b + a.n) (take a.next rs) (omega arith) p.before,
       p.after,
     )
@@ -92,13 +92,13 @@ add-if1 c = omega (arith, (s c).requires)
 returns : tie.Need-returns invariant-loop decreases-loop
 returns c =
     let t = c.before in
-    told (head t) (climbs-past (rank t) (rank t + set t) (j t) (ranks t) (omega arith) (omega arith) (head t).loop.invariant.3)
+    told (head t) (climbs_past (rank t) (rank t + set t) (j t) (ranks t) (omega arith) (omega arith) (head t).loop.invariant.3)
 
 sub-bits : tie.Need-overflow-sub-bits invariant-loop decreases-loop
 sub-bits c = (left c.before).0
 
-shl-bits : tie.Need-overflow-shl-bits invariant-loop decreases-loop
-shl-bits c = omega (arith, sub-bits c, (s c.before).pre)
+shl_bits : tie.Need-overflow-shl-bits invariant-loop decreases-loop
+shl_bits c = omega (arith, sub-bits c, (s c.before).pre)
 
 add-j : tie.Need-overflow-add-j invariant-loop decreases-loop
 add-j c = omega arith
@@ -113,13 +113,13 @@ loop-again c =
     let b : ℕ = rank t in
     let e : ℕ = get_or (ranks t) (j t) 0 in
     let k : ℕ = e - b in
-    let in-word : k < 64 = shl-bits c in
+    let in-word : k < 64 = shl_bits c in
     let one : (1 * 2 ^ k) % 2 ^ 64 ≡ 2 ^ k = ap (λ (x : ℕ). x % 2 ^ 64) (one-mul (2 ^ k)) ∙ mod-eq_of_lt (pow-lt {i = k} {j = 64} in-word) in (
       omega arith,
-      ap₂ bit_or l.inv.1 one ∙ gather-turn b (set t) (j t) e (ranks t) (omega arith) refl (left t).0 (omega arith)
+      ap₂ bit_or l.inv.1 one ∙ gather_turn b (set t) (j t) e (ranks t) (omega arith) refl (left t).0 (omega arith)
           ∙ ap (λ (x : ℕ). word_of (tab b (set t) (λ i. member i (take x (ranks t))))) (sym (add-one (j t))),
       rw (add-one (j t)) (below_next (b + set t) (j t) (ranks t) (omega arith) l.inv.2 (omega arith)),
-      rw (add-one (j t)) (climbs-from b (suc e) (drop (suc (j t)) (ranks t)) (omega (arith, (left t).0)) (left t).1),
+      rw (add-one (j t)) (climbs_from b (suc e) (drop (suc (j t)) (ranks t)) (omega (arith, (left t).0)) (left t).1),
     )
 
 returns-2 : tie.Need-returns-2 invariant-loop decreases-loop
@@ -129,8 +129,8 @@ returns-2 c =
     let none : drop h.loop.j a.entries.now ≡ [] = drop_of_length-le a.entries.now {i = h.loop.j} (omega arith) in
     told h (subst (λ (l : List ℕ). Climbs (a.base + a.n) l) (sym none) tt)
 
-pub entry-bits-spec : {M : Type 1} → statement M
-entry-bits-spec =
+pub entry_bits_spec : {M : Type 1} → statement M
+entry_bits_spec =
     tie.close
     (tie.spec
     invariant-loop
@@ -142,7 +142,7 @@ entry-bits-spec =
     add-if1
     returns
     sub-bits
-    shl-bits
+    shl_bits
     add-j
     loop-less
     loop-again

@@ -7,14 +7,14 @@ use mathlib.Core.List.{List}
 use native.Mathlib.Omega.{arith}
 use lib.ListN.{length, drop}
 use Rattle.rows.proofs.RunTurnLaws.{NextRun}
-use Rattle.books.specs.Windows.{endedBefore}
-use Rattle.books.proofs.RunBitLaws.{Gathering, gathering-none, gathering-next, gathering-run, gathering-stop, gathering-end, ended-none, ended_here, ended-on}
+use Rattle.books.specs.Windows.{ended_before}
+use Rattle.books.proofs.RunBitLaws.{Gathering, gathering_none, gathering_next, gathering_run, gathering_stop, gathering_end, ended_none, ended_here, ended_on}
 use Rattle.books.proofs.inner.run_bits.Statement.{statement}
 use Rattle.books.proofs.inner.run_bits.Tie as tie
 
 abbrev invariant-loop : tie.invariant-loop
 invariant-loop runs next base n end bits₀ i₀ bits i =
-    Gathering runs base n i bits × (next + endedBefore (base + n) (drop next runs) ≡ i + endedBefore (base + n) (drop i runs))
+    Gathering runs base n i bits × (next + ended_before (base + n) (drop next runs) ≡ i + ended_before (base + n) (drop i runs))
 
 abbrev decreases-loop : tie.decreases-loop
 decreases-loop runs next base n end bits₀ i₀ bits i = length runs - i
@@ -45,7 +45,7 @@ module _ (c : tie.In-loop invariant-loop decreases-loop) where
   next : NextRun (head c).loop.invariant.0.from 1048576 (head c).loop.i runs
   next =
       let l = (head c).loop in
-      gathering-next runs s.args.base s.args.n l.i l.bits l.inv.0 (omega arith)
+      gathering_next runs s.args.base s.args.n l.i l.bits l.inv.0 (omega arith)
 
 -- ---- the answers
 
@@ -55,7 +55,7 @@ add-end c = omega (arith, c.before.requires.1)
 loop-holds : tie.Need-loop-init invariant-loop decreases-loop
 loop-holds c =
     let a = c.before.args in
-    (gathering-none a.runs.now a.base a.n a.next c.before.requires.2, refl)
+    (gathering_none a.runs.now a.base a.n a.next c.before.requires.2, refl)
 
 mul-first : tie.Need-overflow-mul-first invariant-loop decreases-loop
 mul-first c = omega arith
@@ -87,7 +87,7 @@ returns c =
     let t = turn m in
     let l = (head t).loop in
     let a = (s t).args in
-    let g = gathering-stop (runs t) a.base a.n l.i l.bits l.inv.0 (omega arith) m.bits-in-run.result m.bits-in-run.ensures c.if1.true in
+    let g = gathering_stop (runs t) a.base a.n l.i l.bits l.inv.0 (omega arith) m.bits-in-run.result m.bits-in-run.ensures c.if1.true in
     let e : ℕ = a.base + a.n in
     (g.0, g.1, sym (l.inv.1 ∙ ended_here e l.inv.0.from 1048576 l.i (runs t) (next t) c.if1.true))
 
@@ -104,8 +104,8 @@ loop-again c =
     let l = (head t).loop in
     let a = (s t).args in
     let e : ℕ = a.base + a.n in (
-      gathering-run (runs t) a.base a.n l.i l.bits l.inv.0 (omega arith) m.bits-in-run.result m.bits-in-run.ensures (omega arith),
-      l.inv.1 ∙ ended-on e l.inv.0.from 1048576 l.i (runs t) (next t) (omega arith),
+      gathering_run (runs t) a.base a.n l.i l.bits l.inv.0 (omega arith) m.bits-in-run.result m.bits-in-run.ensures (omega arith),
+      l.inv.1 ∙ ended_on e l.inv.0.from 1048576 l.i (runs t) (next t) (omega arith),
     )
 
 returns-2 : tie.Need-returns-2 invariant-loop decreases-loop
@@ -113,11 +113,11 @@ returns-2 c =
     let h = c.before in
     let l = h.loop in
     let a = (entry h).args in
-    let g = gathering-end a.runs.now a.base a.n l.i l.bits l.invariant.0 (omega arith) in
-    (g.0, g.1, sym (l.invariant.1 ∙ ended-none (a.base + a.n) 0 0 l.i a.runs.now (omega arith)))
+    let g = gathering_end a.runs.now a.base a.n l.i l.bits l.invariant.0 (omega arith) in
+    (g.0, g.1, sym (l.invariant.1 ∙ ended_none (a.base + a.n) 0 0 l.i a.runs.now (omega arith)))
 
-pub run-bits-spec : {M : Type 1} → statement M
-run-bits-spec =
+pub run_bits_spec : {M : Type 1} → statement M
+run_bits_spec =
     tie.close
     (tie.spec
     invariant-loop

@@ -7,7 +7,7 @@ use mathlib.Core.List.{List, []}
 use native.Mathlib.Omega.{arith}
 use lib.ListN.{length, drop, replicate}
 use Rattle.rows.specs.Rows.{count, compose}
-use Rattle.rows.specs.Words.{bitsOfAll, view}
+use Rattle.rows.specs.Words.{bits_of_all, view}
 use Rattle.rows.specs.Lists.{listed, Ascending}
 use Rattle.rows.specs.Laid.{laid}
 use Rattle.rows.specs.Asks.{InView, Room}
@@ -15,12 +15,12 @@ use Rattle.rules.specs.declared.Route.{Route}
 use Rattle.rules.specs.declared.Route.TheVariants.{NoRows, EntryIfSet}
 use Rattle.rules.specs.Operand.{Operand, lent, rows_of, length_of, count_of}
 use Rattle.rules.specs.Compose.{Paired, result}
-use Rattle.operand.specs.Flat.{hasRowNumbers, start_of}
-use Rattle.operand.proofs.NumberLaws.{list-numbers}
-use Rattle.by_route.specs.Fits.{Fits, AsList, InWords, keepsRuns}
-use Rattle.by_route.proofs.FitsLaws.{in_words, by-full-self, full-length, by-full-rank, by-empty}
-use Rattle.by_route.proofs.FitsLaws.{words-ascends, words-listed, words-read}
-use Rattle.by_route.proofs.FitsLaws.{alone-accepted, alone-ranks, alone-listed, alone-read}
+use Rattle.operand.specs.Flat.{has_row_numbers, start_of}
+use Rattle.operand.proofs.NumberLaws.{list_numbers}
+use Rattle.by_route.specs.Fits.{Fits, AsList, InWords, keeps_runs}
+use Rattle.by_route.proofs.FitsLaws.{in_words, by_full_self, full_length, by_full_rank, by_empty}
+use Rattle.by_route.proofs.FitsLaws.{words_ascends, words_listed, words_read}
+use Rattle.by_route.proofs.FitsLaws.{alone_accepted, alone_ranks, alone_listed, alone_read}
 use Rattle.by_route.proofs.inner.compose_at.Statement.{statement}
 use Rattle.by_route.proofs.inner.compose_at.Tie as tie
 use borrow.Author.Rules.{rules}
@@ -103,8 +103,8 @@ module _ (c : tie.Start) where
   line : {route : Route} → c.args.route ≡ route → Fits route self rank
   line e = subst (λ (q : Route). Fits q self rank) e c.requires.1
 
-  bare : {route : Route} → c.args.route ≡ route → keepsRuns route c.args.r ≡ false
-  bare e = subst (λ (q : Route). keepsRuns q c.args.r ≡ false) e c.requires.3
+  bare : {route : Route} → c.args.route ≡ route → keeps_runs route c.args.r ≡ false
+  bare e = subst (λ (q : Route). keeps_runs q c.args.r ≡ false) e c.requires.3
 
   -- the rows laid there are these
   laid_as : (rows : List Bool) {o : List ℕ} → o ≡ laid c.args.at rows c.args.out.now → rows ≡ result self rank
@@ -124,11 +124,11 @@ module _ (c : tie.After-start-of2) where
   long : len ≡ length_of (start c).args.s
   long = c.before.before.length-of.ensures
 
-  self-from : first ≡ start_of (start c).args.s
-  self-from = c.before.start_of_lem.ensures
+  self_from : first ≡ start_of (start c).args.s
+  self_from = c.before.start_of_lem.ensures
 
-  rank-from : from ≡ start_of (start c).args.r
-  rank-from = c.start-of2.ensures
+  rank_from : from ≡ start_of (start c).args.r
+  rank_from = c.start-of2.ensures
 
   abbrev s : Operand
   s = self (start c)
@@ -145,7 +145,7 @@ module _ (c : tie.After-start-of2) where
 -- ---- what the kernels ask, and that what they lay is the composition
 
 cleared : (c : tie.After-start-of2) → Fits NoRows (s c) (r c) → replicate (len c) false ≡ result (s c) (r c)
-cleared c f = ap (λ (k : ℕ). replicate k false) (long c) ∙ by-empty (s c) (r c) (both c) f
+cleared c f = ap (λ (k : ℕ). replicate k false) (long c) ∙ by_empty (s c) (r c) (both c) f
 
 -- self a list, or runs
 module _ (c : tie.After-start-of2) where
@@ -153,22 +153,22 @@ module _ (c : tie.After-start-of2) where
   abbrev alone : Operand
   alone = lent (s c).form [] (s c).numbers
 
-  abbrev rows-at-rank : List Bool
-  rows-at-rank = compose (rows_of alone) (listed (count_of alone) (r c).numbers)
+  abbrev rows_at_rank : List Bool
+  rows_at_rank = compose (rows_of alone) (listed (count_of alone) (r c).numbers)
 
-  abbrev rows-if-set : List Bool
-  rows-if-set = compose (rows_of alone) (drop (from c) (bitsOfAll 64 (r c).words))
+  abbrev rows_if_set : List Bool
+  rows_if_set = compose (rows_of alone) (drop (from c) (bits_of_all 64 (r c).words))
 
   module _ (l : AsList (s c)) where
     reach : InWords (r c) → (from c ≤ 63) × (from c + count_of alone ≤ length (r c).words * 64)
     reach v =
-        let m = (in_words (r c) v (both c).rank).inView in
-        (omega (arith, rank-from c, m.1), omega (arith, (both c).ranks, rank-from c, m.2))
+        let m = (in_words (r c) v (both c).rank).in_view in
+        (omega (arith, rank_from c, m.1), omega (arith, (both c).ranks, rank_from c, m.2))
 
-    by_bit : InWords (r c) → rows-if-set ≡ result (s c) (r c)
+    by_bit : InWords (r c) → rows_if_set ≡ result (s c) (r c)
     by_bit v =
-        ap (λ (n : ℕ). compose (rows_of alone) (drop n (bitsOfAll 64 (r c).words))) (rank-from c)
-        ∙ alone-read (s c) (r c) (both c) l v
+        ap (λ (n : ℕ). compose (rows_of alone) (drop n (bits_of_all 64 (r c).words))) (rank_from c)
+        ∙ alone_read (s c) (r c) (both c) l v
 
 -- self in words
 module _ (c : tie.After-start-of2) where
@@ -178,52 +178,52 @@ module _ (c : tie.After-start-of2) where
   abbrev ranks : ℕ
   ranks = count (shown (first c) (len c))
 
-  abbrev rows-gathered : List Bool
-  rows-gathered = compose (shown (first c) (len c)) (listed ranks (r c).numbers)
+  abbrev rows_gathered : List Bool
+  rows_gathered = compose (shown (first c) (len c)) (listed ranks (r c).numbers)
 
-  abbrev rows-read : List Bool
-  rows-read = compose (shown (first c) (len c)) (drop (from c) (bitsOfAll 64 (r c).words))
+  abbrev rows_read : List Bool
+  rows_read = compose (shown (first c) (len c)) (drop (from c) (bits_of_all 64 (r c).words))
 
   module _ (w : InWords (s c)) where
-    in-view : InView (first c) (len c) (s c).words
-    in-view =
-        let v = (in_words (s c) w (both c).self).inView in
-        (omega (arith, long c, v.0), omega (arith, self-from c, v.1), omega (arith, long c, self-from c, v.2))
+    in_view_lem : InView (first c) (len c) (s c).words
+    in_view_lem =
+        let v = (in_words (s c) w (both c).self).in_view in
+        (omega (arith, long c, v.0), omega (arith, self_from c, v.1), omega (arith, long c, self_from c, v.2))
 
-    ranks-ascend : hasRowNumbers (r c).form ≡ true → Ascending 0 ranks (r c).numbers
-    ranks-ascend e =
-        let same = ap₂ (λ (k n : ℕ). count (shown k n)) (sym (self-from c)) (sym (long c)) in
-        subst (λ (k : ℕ). Ascending 0 k (r c).numbers) same (words-ascends (s c) (r c) (both c) w e)
+    ranks_ascend : has_row_numbers (r c).form ≡ true → Ascending 0 ranks (r c).numbers
+    ranks_ascend e =
+        let same = ap₂ (λ (k n : ℕ). count (shown k n)) (sym (self_from c)) (sym (long c)) in
+        subst (λ (k : ℕ). Ascending 0 k (r c).numbers) same (words_ascends (s c) (r c) (both c) w e)
 
-    by-list : hasRowNumbers (r c).form ≡ true → rows-gathered ≡ result (s c) (r c)
-    by-list e =
-        ap₂ (λ (k n : ℕ). compose (shown k n) (listed (count (shown k n)) (r c).numbers)) (self-from c) (long c)
-        ∙ words-listed (s c) (r c) (both c) w e
+    by_list : has_row_numbers (r c).form ≡ true → rows_gathered ≡ result (s c) (r c)
+    by_list e =
+        ap₂ (λ (k n : ℕ). compose (shown k n) (listed (count (shown k n)) (r c).numbers)) (self_from c) (long c)
+        ∙ words_listed (s c) (r c) (both c) w e
 
-    by-words : InWords (r c) → rows-read ≡ result (s c) (r c)
-    by-words v =
-        let bits = bitsOfAll 64 (r c).words in
+    by_words : InWords (r c) → rows_read ≡ result (s c) (r c)
+    by_words v =
+        let bits = bits_of_all 64 (r c).words in
         let all = shown (start_of (s c).form) (length_of (s c).form) in
-        ap₂ (λ (k n : ℕ). compose (shown k n) (drop (from c) bits)) (self-from c) (long c)
-        ∙ ap (λ (n : ℕ). compose all (drop n bits)) (rank-from c)
-        ∙ words-read (s c) (r c) (both c) w v
+        ap₂ (λ (k n : ℕ). compose (shown k n) (drop (from c) bits)) (self_from c) (long c)
+        ∙ ap (λ (n : ℕ). compose all (drop n bits)) (rank_from c)
+        ∙ words_read (s c) (r c) (both c) w v
 
 -- ---- the line that each arm is told; a rank mask that counts as a list is one, since no runs are to be kept
 
-fits-at-rank : (c : tie.After-enum-told4) → AsList (s (at-rank c)) × (hasRowNumbers (r (at-rank c)).form ≡ true)
-fits-at-rank c =
+fits_at_rank : (c : tie.After-enum-told4) → AsList (s (at-rank c)) × (has_row_numbers (r (at-rank c)).form ≡ true)
+fits_at_rank c =
     let q = at-rank c in
     let f = line (start q) c.enum-told4.given.1 in
-    (f.0, list-numbers (r q).form f.1 (bare (start q) c.enum-told4.given.1))
+    (f.0, list_numbers (r q).form f.1 (bare (start q) c.enum-told4.given.1))
 
-fits-if-set : (c : tie.After-enum-told5) → Fits EntryIfSet (s (if-set c)) (r (if-set c))
-fits-if-set c = line (start (if-set c)) c.enum-told5.given.1
+fits_if_set : (c : tie.After-enum-told5) → Fits EntryIfSet (s (if-set c)) (r (if-set c))
+fits_if_set c = line (start (if-set c)) c.enum-told5.given.1
 
-fits-gathered : (c : tie.After-route) → InWords (s (gathered c)) × (hasRowNumbers (r (gathered c)).form ≡ true)
-fits-gathered c =
+fits_gathered : (c : tie.After-route) → InWords (s (gathered c)) × (has_row_numbers (r (gathered c)).form ≡ true)
+fits_gathered c =
     let q = gathered c in
     let f = line (start q) c.route.given.1 in
-    (f.0, list-numbers (r q).form f.1 (bare (start q) c.route.given.1))
+    (f.0, list_numbers (r q).form f.1 (bare (start q) c.route.given.1))
 
 fits_read : (c : tie.After-route2) → InWords (s (read c)) × InWords (r (read c))
 fits_read c = line (start (read c)) c.route2.given.1
@@ -245,7 +245,7 @@ enum_told c = search rules
 lay-rows-requires : tie.Need-lay-rows-requires
 lay-rows-requires c κs =
     let q = full-self c.before in
-    let e = full-length (s q) (r q) (both q) (line (start q) c.before.enum_told.given.1) in
+    let e = full_length (s q) (r q) (both q) (line (start q) c.before.enum_told.given.1) in
     ((both q).rank, (omega (arith, e, (start q).pre.2.0), omega (arith, e, (start q).pre.2.1)))
 
 enum-told-2 : tie.Need-enum-told-2
@@ -272,11 +272,11 @@ lay-at-ranks-requires : tie.Need-lay-at-ranks-requires
 lay-at-ranks-requires c κs =
     let held = c.before in
     let q = at-rank held.before in
-    let f = fits-at-rank held.before in (
-      alone-accepted (s q) (r q) (both q) f.0,
+    let f = fits_at_rank held.before in (
+      alone_accepted (s q) (r q) (both q) f.0,
       f.0,
       omega (arith, held.length-of2.ensures, (both q).ranks),
-      alone-ranks (s q) (r q) (both q) f.0 f.1,
+      alone_ranks (s q) (r q) (both q) f.0 f.1,
       (start q).pre.2,
     )
 
@@ -290,9 +290,9 @@ lay-if-set-requires : tie.Need-lay-if-set-requires
 lay-if-set-requires c κs =
     let held = c.before in
     let q = if-set held.before in
-    let f = fits-if-set held.before in
+    let f = fits_if_set held.before in
     let count : held.length-of3.result ≡ count_of (alone q) = omega (arith, held.length-of3.ensures, (both q).ranks) in
-    (alone-accepted (s q) (r q) (both q) f.0, f.0, count, (reach q f.0 f.1).0, (reach q f.0 f.1).1, (start q).pre.2)
+    (alone_accepted (s q) (r q) (both q) f.0, f.0, count, (reach q f.0 f.1).0, (reach q f.0 f.1).1, (start q).pre.2)
 
 enum-told-6 : tie.Need-enum-told-6
 enum-told-6 c = search rules
@@ -305,12 +305,12 @@ lay-mask-driven-requires c κs =
 enum-known-route : tie.Need-enum-known-route
 enum-known-route c = search rules
 
-intersect-bit-buffer-by-rank-indices-requires :
+intersect_bit_buffer_by_rank_indices_requires :
     tie.Need-intersect-bit-buffer-by-rank-indices-requires
-intersect-bit-buffer-by-rank-indices-requires c κs =
+intersect_bit_buffer_by_rank_indices_requires c κs =
     let q = gathered (gathering c) in
-    let f = fits-gathered (gathering c) in
-    (in-view q f.0, room q, ranks-ascend q f.0 f.1)
+    let f = fits_gathered (gathering c) in
+    (in_view_lem q f.0, room q, ranks_ascend q f.0 f.1)
 
 enum-known-route-2 : tie.Need-enum-known-route-2
 enum-known-route-2 c = search rules
@@ -319,8 +319,8 @@ intersect-bit-buffers-requires : tie.Need-intersect-bit-buffers-requires
 intersect-bit-buffers-requires c κs =
     let q = read (reading c) in
     let f = fits_read (reading c) in
-    let m = (in_words (r q) f.1 (both q).rank).inView in
-    (in-view q f.0, omega (arith, rank-from q, m.1), room q)
+    let m = (in_words (r q) f.1 (both q).rank).in_view in
+    (in_view_lem q f.0, omega (arith, rank_from q, m.1), room q)
 
 same_length : tie.Need-same-length
 same_length c = search rules
@@ -330,7 +330,7 @@ returns c =
     let gave = full-self-laid c in
     let told = gave.before.before in
     let q = full-self told in
-    laid_as (start q) (rows_of (r q)) gave.lay-rows.ensures (by-full-self (s q) (r q) (both q) (line (start q) told.enum_told.given.1))
+    laid_as (start q) (rows_of (r q)) gave.lay-rows.ensures (by_full_self (s q) (r q) (both q) (line (start q) told.enum_told.given.1))
 
 same-length-2 : tie.Need-same-length-2
 same-length-2 c = search rules
@@ -340,7 +340,7 @@ returns-2 c =
     let gave = full-rank-laid c in
     let told = gave.before.before in
     let q = full-rank told in
-    laid_as (start q) (rows_of (s q)) gave.lay-rows2.ensures (by-full-rank (s q) (r q) (both q) (line (start q) told.enum-told2.given.1))
+    laid_as (start q) (rows_of (s q)) gave.lay-rows2.ensures (by_full_rank (s q) (r q) (both q) (line (start q) told.enum-told2.given.1))
 
 same-length-3 : tie.Need-same-length-3
 same-length-3 c = search rules
@@ -360,7 +360,7 @@ returns-4 c =
     let gave = at-rank-laid c in
     let told = gave.before.before.before in
     let q = at-rank told in
-    laid_as (start q) (rows-at-rank q) gave.lay-at-ranks.ensures (alone-listed (s q) (r q) (both q) (fits-at-rank told).0 (fits-at-rank told).1)
+    laid_as (start q) (rows_at_rank q) gave.lay-at-ranks.ensures (alone_listed (s q) (r q) (both q) (fits_at_rank told).0 (fits_at_rank told).1)
 
 same-length-5 : tie.Need-same-length-5
 same-length-5 c = search rules
@@ -370,7 +370,7 @@ returns-5 c =
     let gave = if-set-laid c in
     let told = gave.before.before.before in
     let q = if-set told in
-    laid_as (start q) (rows-if-set q) gave.lay-if-set.ensures (by_bit q (fits-if-set told).0 (fits-if-set told).1)
+    laid_as (start q) (rows_if_set q) gave.lay-if-set.ensures (by_bit q (fits_if_set told).0 (fits_if_set told).1)
 
 same-length-6 : tie.Need-same-length-6
 same-length-6 c = search rules
@@ -386,8 +386,8 @@ returns-7 c =
     let gave = gathered-laid c in
     let told = gathering gave.before in
     let q = gathered told in
-    let f = fits-gathered told in
-    laid_as (start q) (rows-gathered q) gave.intersect-bit-buffer-by-rank-indices.ensures (by-list q f.0 f.1)
+    let f = fits_gathered told in
+    laid_as (start q) (rows_gathered q) gave.intersect-bit-buffer-by-rank-indices.ensures (by_list q f.0 f.1)
 
 same-length-8 : tie.Need-same-length-8
 same-length-8 c = search rules
@@ -398,10 +398,10 @@ returns-8 c =
     let told = reading gave.before in
     let q = read told in
     let f = fits_read told in
-    laid_as (start q) (rows-read q) gave.intersect-bit-buffers.ensures (by-words q f.0 f.1)
+    laid_as (start q) (rows_read q) gave.intersect-bit-buffers.ensures (by_words q f.0 f.1)
 
-pub compose-at-spec : {M : Type 1} → statement M
-compose-at-spec =
+pub compose_at_spec : {M : Type 1} → statement M
+compose_at_spec =
     tie.close
     (tie.spec
     length-of-requires
@@ -422,7 +422,7 @@ compose-at-spec =
     enum-told-6
     lay-mask-driven-requires
     enum-known-route
-    intersect-bit-buffer-by-rank-indices-requires
+    intersect_bit_buffer_by_rank_indices_requires
     enum-known-route-2
     intersect-bit-buffers-requires
     same_length

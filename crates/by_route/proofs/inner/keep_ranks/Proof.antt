@@ -5,10 +5,10 @@ use mathlib.Core.Bool.{Bool, true, false}
 use mathlib.Core.List.{List, []}
 use borrow.Author.Rules.{rules}
 use Rattle.rows.specs.Rows.{compose}
-use Rattle.rows.specs.Runs.{inRuns}
+use Rattle.rows.specs.Runs.{in_runs}
 use Rattle.rows.specs.Laid.{laid}
-use Rattle.rules.specs.Operand.{Operand, lent, rows_of, count_of, countsAsList}
-use Rattle.by_route.proofs.FitsLaws.{bare_rows, bare-accepted, self-in-words}
+use Rattle.rules.specs.Operand.{Operand, lent, rows_of, count_of, counts_as_list}
+use Rattle.by_route.proofs.FitsLaws.{bare_rows, bare_accepted, self_in_words}
 use Rattle.by_route.proofs.inner.keep_ranks.Statement.{statement}
 use Rattle.by_route.proofs.inner.keep_ranks.Tie as tie
 
@@ -23,7 +23,7 @@ start c = (entry c.before).before.before
 abbrev self : tie.Start → Operand
 self s = lent s.args.s s.args.swords.now s.args.srows.now
 
-listed : (c : tie.Then1) → countsAsList (start c.before).args.s ≡ true
+listed : (c : tie.Then1) → counts_as_list (start c.before).args.s ≡ true
 listed c = sym c.before.counts-as-list.ensures ∙ c.if1.true
 
 -- ---- the answers
@@ -35,7 +35,7 @@ keep-in-list-requires : tie.Need-keep-in-list-requires
 keep-in-list-requires c κs =
     let t = c.before in
     let s = start t.before in
-    (bare-accepted (self s) (listed t) s.pre.0, listed t, s.pre.1, s.pre.3, s.pre.4)
+    (bare_accepted (self s) (listed t) s.pre.0, listed t, s.pre.1, s.pre.3, s.pre.4)
 
 same_length : tie.Need-same-length
 same_length c = search rules
@@ -46,14 +46,14 @@ returns c =
     let t = k.before.before in
     let s = start t.before in
     k.keep-in-list.ensures
-    ∙ ap (λ (z : List Bool). laid s.args.at (compose z (inRuns (count_of (self s)) s.args.rruns.now)) s.args.out.now)
+    ∙ ap (λ (z : List Bool). laid s.args.at (compose z (in_runs (count_of (self s)) s.args.rruns.now)) s.args.out.now)
     (sym (bare_rows (self s) (listed t)))
 
 keep-in-words-requires : tie.Need-keep-in-words-requires
 keep-in-words-requires c κs =
     let e = c.before in
     let s = start e.before in
-    (s.pre.0, self-in-words (self s) s.pre.2 (sym e.before.counts-as-list.ensures ∙ e.if1.false), s.pre.3, s.pre.4)
+    (s.pre.0, self_in_words (self s) s.pre.2 (sym e.before.counts-as-list.ensures ∙ e.if1.false), s.pre.3, s.pre.4)
 
 same-length-2 : tie.Need-same-length-2
 same-length-2 c = search rules
@@ -61,8 +61,8 @@ same-length-2 c = search rules
 returns-2 : tie.Need-returns-2
 returns-2 c = c.before.before.keep-in-words.ensures
 
-pub keep-ranks-spec : {M : Type 1} → statement M
-keep-ranks-spec =
+pub keep_ranks_spec : {M : Type 1} → statement M
+keep_ranks_spec =
     tie.close
     (tie.spec
     counts-as-list-requires

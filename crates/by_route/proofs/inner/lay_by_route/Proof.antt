@@ -7,9 +7,9 @@ use native.Mathlib.Omega.{arith}
 use borrow.Author.Rules.{rules}
 use Rattle.rows.specs.Laid.{laid}
 use Rattle.rules.specs.Operand.{Operand, lent}
-use Rattle.operand.specs.Flat.{hasRuns}
-use Rattle.by_route.specs.Fits.{keepsRuns}
-use Rattle.by_route.proofs.FitsLaws.{kept-runs, kept_self, runs-apart, runs-kept}
+use Rattle.operand.specs.Flat.{has_runs}
+use Rattle.by_route.specs.Fits.{keeps_runs}
+use Rattle.by_route.proofs.FitsLaws.{kept_runs, kept_self, runs_apart, runs_kept}
 use Rattle.by_route.proofs.inner.lay_by_route.Statement.{statement}
 use Rattle.by_route.proofs.inner.lay_by_route.Tie as tie
 
@@ -37,11 +37,11 @@ module _ (c : tie.Then1) where
   abbrev s : tie.Start
   s = start c.before
 
-  told : keepsRuns s.args.route s.args.r ≡ true
+  told : keeps_runs s.args.route s.args.r ≡ true
   told = sym c.before.keeps-runs.ensures ∙ c.if1.true
 
-  keeping : hasRuns (rank s).form ≡ true
-  keeping = kept-runs s.args.route s.args.r told
+  keeping : has_runs (rank s).form ≡ true
+  keeping = kept_runs s.args.route s.args.r told
 
 -- ---- the answers
 
@@ -57,7 +57,7 @@ keep-ranks-requires c κs =
     let t = held.before in
     let p = (s t).requires in
     let form = kept_self (s t).args.route (self (s t)) (rank (s t)) (told t) p.1 in
-    (p.0.self, omega (arith, held.length-of.ensures, p.0.ranks), form, runs-apart (self (s t)) (rank (s t)) p.0 (keeping t), p.2)
+    (p.0.self, omega (arith, held.length-of.ensures, p.0.ranks), form, runs_apart (self (s t)) (rank (s t)) p.0 (keeping t), p.2)
 
 same_length : tie.Need-same-length
 same_length c = search rules
@@ -68,7 +68,7 @@ returns c =
     let t = k.before.before.before in
     let a = (s t).args in
     k.keep-ranks.ensures
-    ∙ ap (λ (z : List Bool). laid a.at z a.out.now) (runs-kept (self (s t)) (rank (s t)) (s t).requires.0 (keeping t))
+    ∙ ap (λ (z : List Bool). laid a.at z a.out.now) (runs_kept (self (s t)) (rank (s t)) (s t).requires.0 (keeping t))
 
 compose-at-requires : tie.Need-compose-at-requires
 compose-at-requires c κs =
@@ -82,8 +82,8 @@ same-length-2 c = search rules
 returns-2 : tie.Need-returns-2
 returns-2 c = c.before.before.compose-at.ensures
 
-pub lay-by-route-spec : {M : Type 1} → statement M
-lay-by-route-spec =
+pub lay_by_route_spec : {M : Type 1} → statement M
+lay_by_route_spec =
     tie.close
     (tie.spec
     keeps-runs-requires

@@ -24,5 +24,5 @@ returns c = sym (ap (λ (b : Bool). b && more c.before) (sym c.before.has-runs.e
 returns-2 : tie.Need-returns-2
 returns-2 c = sym (ap (λ (b : Bool). b && more c.before) (sym c.before.has-runs.ensures ∙ c.if1.false))
 
-pub has-long-runs-spec : {M : Type 1} → statement M
-has-long-runs-spec = tie.close (tie.spec has-runs-requires returns returns-2)
+pub has_long_runs_spec : {M : Type 1} → statement M
+has_long_runs_spec = tie.close (tie.spec has-runs-requires returns returns-2)

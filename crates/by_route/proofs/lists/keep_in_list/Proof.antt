@@ -8,11 +8,11 @@ use lib.ListN.{length}
 use borrow.Author.Rules.{rules}
 use Rattle.rows.specs.Rows.{compose}
 use Rattle.rows.specs.Lists.{listed}
-use Rattle.rows.specs.Runs.{inRuns, runLengths, Apart}
+use Rattle.rows.specs.Runs.{in_runs, run_lengths, Apart}
 use Rattle.rows.specs.Laid.{laid}
 use Rattle.rules.specs.Operand.{Operand, lent, length_of}
 use Rattle.marks.specs.Entries.{entries}
-use Rattle.by_route.proofs.EntriesLaws.{AsRuns, AsEntries, as-runs, as-entries}
+use Rattle.by_route.proofs.EntriesLaws.{AsRuns, AsEntries, as_runs, as_entries}
 use Rattle.by_route.proofs.lists.keep_in_list.Statement.{statement}
 use Rattle.by_route.proofs.lists.keep_in_list.Tie as tie
 
@@ -27,8 +27,8 @@ start c = entry c.before
 abbrev asked : tie.After-has-long-runs → tie.After-length-of
 asked c = c.before
 
-abbrev in-runs : tie.After-lay-runs-in-runs → tie.Then1
-in-runs c = c.before.before
+abbrev in_runs_lem : tie.After-lay-runs-in-runs → tie.Then1
+in_runs_lem c = c.before.before
 
 abbrev runs-laid : tie.After-slice-known2 → tie.After-lay-runs-in-runs
 runs-laid c = c.before.before
@@ -55,7 +55,7 @@ module _ (c : tie.Then1) where
   runs : AsRuns (self runs_of)
   runs =
       let s = start runs_of in
-      as-runs (self runs_of) s.args.count s.pre.0 (sym c.before.has-long-runs.ensures ∙ c.if1.true)
+      as_runs (self runs_of) s.args.count s.pre.0 (sym c.before.has-long-runs.ensures ∙ c.if1.true)
 
 module _ (c : tie.After-has-runs) where
   abbrev entries-of : tie.After-length-of
@@ -69,7 +69,7 @@ module _ (c : tie.After-has-runs) where
       let s = start entries-of in
       let l = c.before in
       subst (λ (b : Bool). AsEntries (self entries-of) b) (sym c.has-runs.ensures)
-      (as-entries (self entries-of) s.args.count s.pre.0 s.pre.1 s.pre.2 (sym l.before.has-long-runs.ensures ∙ l.if1.false))
+      (as_entries (self entries-of) s.args.count s.pre.0 s.pre.1 s.pre.2 (sym l.before.has-long-runs.ensures ∙ l.if1.false))
 
 -- ---- the answers
 
@@ -101,14 +101,14 @@ lay-runs-in-runs-requires c κs =
 returns : tie.Need-returns
 returns c =
     let l = runs-laid c in
-    let t = in-runs l in
+    let t = in_runs_lem l in
     let q = runs_of t in
     let a = (start q).args in
     let ns = a.srows.now in
     let rs = a.rruns.now in
     l.lay-runs-in-runs.ensures.1
-    ∙ ap (λ (n : ℕ). laid a.at (compose (inRuns n ns) (inRuns (runLengths ns) rs)) a.out.now) (long q)
-    ∙ ap₂ (λ (z : List Bool) (n : ℕ). laid a.at (compose z (inRuns n rs)) a.out.now) (runs t).rows (sym (runs t).sum)
+    ∙ ap (λ (n : ℕ). laid a.at (compose (in_runs n ns) (in_runs (run_lengths ns) rs)) a.out.now) (long q)
+    ∙ ap₂ (λ (z : List Bool) (n : ℕ). laid a.at (compose z (in_runs n rs)) a.out.now) (runs t).rows (sym (runs t).sum)
 
 -- ---- by entries
 
@@ -129,11 +129,11 @@ returns-2 c =
     let es = entries (single e) a.srows.now in
     let rs = a.rruns.now in
     l.lay-entries-by-runs.ensures.1
-    ∙ ap (λ (n : ℕ). laid a.at (compose (listed n es) (inRuns (length es) rs)) a.out.now) (long q)
-    ∙ ap₂ (λ (z : List Bool) (n : ℕ). laid a.at (compose z (inRuns n rs)) a.out.now) (found e).rows (sym (found e).many)
+    ∙ ap (λ (n : ℕ). laid a.at (compose (listed n es) (in_runs (length es) rs)) a.out.now) (long q)
+    ∙ ap₂ (λ (z : List Bool) (n : ℕ). laid a.at (compose z (in_runs n rs)) a.out.now) (found e).rows (sym (found e).many)
 
-pub keep-in-list-spec : {M : Type 1} → statement M
-keep-in-list-spec =
+pub keep_in_list_spec : {M : Type 1} → statement M
+keep_in_list_spec =
     tie.close
     (tie.spec
     length-of-requires

@@ -8,14 +8,14 @@ use native.Mathlib.Omega.{arith}
 use lib.ListN.{drop}
 use borrow.Author.Rules.{rules}
 use Rattle.rows.specs.Rows.{compose}
-use Rattle.rows.specs.Words.{bitsOfAll}
+use Rattle.rows.specs.Words.{bits_of_all}
 use Rattle.rows.specs.Lists.{listed}
-use Rattle.rows.specs.Runs.{inRuns}
+use Rattle.rows.specs.Runs.{in_runs}
 use Rattle.rows.specs.Laid.{laid}
 use Rattle.rules.specs.Operand.{Operand, lent, length_of}
-use Rattle.rules.proofs.OperandLaws.{accepted-few}
+use Rattle.rules.proofs.OperandLaws.{accepted_few}
 use Rattle.marks.specs.Entries.{entries}
-use Rattle.by_route.proofs.EntriesLaws.{AsRuns, AsEntries, as-runs, as-entries}
+use Rattle.by_route.proofs.EntriesLaws.{AsRuns, AsEntries, as_runs, as_entries}
 use Rattle.by_route.proofs.lists.lay_if_set.Statement.{statement}
 use Rattle.by_route.proofs.lists.lay_if_set.Tie as tie
 
@@ -30,8 +30,8 @@ start c = entry c.before
 abbrev asked : tie.After-has-long-runs → tie.After-length-of
 asked c = c.before
 
-abbrev in-runs : tie.After-lay-ranks-under-runs → tie.Then1
-in-runs c = c.before.before
+abbrev in_runs_lem : tie.After-lay-ranks-under-runs → tie.Then1
+in_runs_lem c = c.before.before
 
 abbrev runs-laid : tie.After-slice-known2 → tie.After-lay-ranks-under-runs
 runs-laid c = c.before.before
@@ -58,7 +58,7 @@ module _ (c : tie.Then1) where
   runs : AsRuns (self runs_of)
   runs =
       let s = start runs_of in
-      as-runs (self runs_of) s.args.count s.pre.0 (sym c.before.has-long-runs.ensures ∙ c.if1.true)
+      as_runs (self runs_of) s.args.count s.pre.0 (sym c.before.has-long-runs.ensures ∙ c.if1.true)
 
 module _ (c : tie.After-has-runs) where
   abbrev entries-of : tie.After-length-of
@@ -72,7 +72,7 @@ module _ (c : tie.After-has-runs) where
       let s = start entries-of in
       let l = c.before in
       subst (λ (b : Bool). AsEntries (self entries-of) b) (sym c.has-runs.ensures)
-      (as-entries (self entries-of) s.args.count s.pre.0 s.pre.1 s.pre.2 (sym l.before.has-long-runs.ensures ∙ l.if1.false))
+      (as_entries (self entries-of) s.args.count s.pre.0 s.pre.1 s.pre.2 (sym l.before.has-long-runs.ensures ∙ l.if1.false))
 
 -- ---- the answers
 
@@ -104,12 +104,12 @@ lay-ranks-under-runs-requires c κs =
 returns : tie.Need-returns
 returns c =
     let l = runs-laid c in
-    let t = in-runs l in
+    let t = in_runs_lem l in
     let q = runs_of t in
     let a = (start q).args in
-    let bits = drop a.from (bitsOfAll 64 a.rwords.now) in
+    let bits = drop a.from (bits_of_all 64 a.rwords.now) in
     l.lay-ranks-under-runs.ensures.1
-    ∙ ap (λ (n : ℕ). laid a.at (compose (inRuns n a.srows.now) bits) a.out.now) (long q)
+    ∙ ap (λ (n : ℕ). laid a.at (compose (in_runs n a.srows.now) bits) a.out.now) (long q)
     ∙ ap (λ (z : List Bool). laid a.at (compose z bits) a.out.now) (runs t).rows
 
 -- ---- by entries
@@ -120,7 +120,7 @@ lay-entry-if-set-requires c κs =
     let q = entries-of e in
     let s = start q in
     let o = found e in
-    rw (long q) (o.up, omega (arith, o.many, accepted-few (self q) s.pre.0), omega (arith, o.many, s.pre.4), s.pre.5)
+    rw (long q) (o.up, omega (arith, o.many, accepted_few (self q) s.pre.0), omega (arith, o.many, s.pre.4), s.pre.5)
 
 returns-2 : tie.Need-returns-2
 returns-2 c =
@@ -128,13 +128,13 @@ returns-2 c =
     let e = in-entries l in
     let q = entries-of e in
     let a = (start q).args in
-    let bits = drop a.from (bitsOfAll 64 a.rwords.now) in
+    let bits = drop a.from (bits_of_all 64 a.rwords.now) in
     l.lay-entry-if-set.ensures
     ∙ ap (λ (n : ℕ). laid a.at (compose (listed n (entries (single e) a.srows.now)) bits) a.out.now) (long q)
     ∙ ap (λ (z : List Bool). laid a.at (compose z bits) a.out.now) (found e).rows
 
-pub lay-if-set-spec : {M : Type 1} → statement M
-lay-if-set-spec =
+pub lay_if_set_spec : {M : Type 1} → statement M
+lay_if_set_spec =
     tie.close
     (tie.spec
     length-of-requires

@@ -8,11 +8,11 @@ use native.Mathlib.Omega.{arith}
 use borrow.Author.Rules.{rules}
 use Rattle.rows.specs.Rows.{count, compose}
 use Rattle.rows.specs.Words.{view}
-use Rattle.rows.specs.Runs.{inRuns, Apart}
+use Rattle.rows.specs.Runs.{in_runs, Apart}
 use Rattle.rows.specs.Laid.{laid}
 use Rattle.rows.specs.Asks.{Room, InView}
 use Rattle.rules.specs.Operand.{Operand, lent, rows_of, length_of, count_of, Accepted}
-use Rattle.rules.proofs.OperandLaws.{accepted-count}
+use Rattle.rules.proofs.OperandLaws.{accepted_count}
 use Rattle.operand.specs.Flat.{start_of}
 use Rattle.by_route.proofs.FitsLaws.{in_words}
 use Rattle.by_route.proofs.words.keep_in_words.Statement.{statement}
@@ -63,13 +63,13 @@ module _ (c : tie.After-length-of) where
   shown : view from len self.words ≡ rows_of self
   shown = ap₂ (λ (k n : ℕ). view k n self.words) begins long ∙ sym (in_words self s.pre.1 well).rows
 
-  in-view : InView from len self.words
-  in-view =
-      let v = (in_words self s.pre.1 well).inView in
+  in_view_lem : InView from len self.words
+  in_view_lem =
+      let v = (in_words self s.pre.1 well).in_view in
       (omega (arith, long, v.0), omega (arith, begins, v.1), omega (arith, long, begins, v.2))
 
   counted : count (view from len self.words) ≡ count_of self
-  counted = ap count shown ∙ accepted-count self well
+  counted = ap count shown ∙ accepted_count self well
 
   room : Room s.args.at len s.args.out.now
   room = (omega (arith, long, s.pre.3.0), omega (arith, long, s.pre.3.1))
@@ -85,7 +85,7 @@ length-of-requires c κs = search rules
 keep-words-requires : tie.Need-keep-words-requires
 keep-words-requires c κs =
     let m = c.before in
-    (in-view m, room m, subst (λ (k : ℕ). Apart 0 k (runs m)) (sym (counted m)) (s m).requires.2)
+    (in_view_lem m, room m, subst (λ (k : ℕ). Apart 0 k (runs m)) (sym (counted m)) (s m).requires.2)
 
 same_length : tie.Need-same-length
 same_length c = search rules
@@ -95,7 +95,7 @@ returns c =
     let k = kept c in
     let m = measured k in
     k.keep-words.ensures.1
-    ∙ ap₂ (λ (v : List Bool) (n : ℕ). laid (s m).args.at (compose v (inRuns n (runs m))) (s m).args.out.now) (shown m) (counted m)
+    ∙ ap₂ (λ (v : List Bool) (n : ℕ). laid (s m).args.at (compose v (in_runs n (runs m))) (s m).args.out.now) (shown m) (counted m)
 
-pub keep-in-words-spec : {M : Type 1} → statement M
-keep-in-words-spec = tie.close (tie.spec start-of-requires length-of-requires keep-words-requires same_length returns)
+pub keep_in_words_spec : {M : Type 1} → statement M
+keep_in_words_spec = tie.close (tie.spec start-of-requires length-of-requires keep-words-requires same_length returns)

@@ -7,9 +7,9 @@ use Rattle.rows.specs.declared.Verdict.{Verdict}
 use Rattle.rules.specs.Operand.{Operand, lent, length_of}
 use Rattle.rules.specs.Stream.{Pair, pair_of}
 use Rattle.intersect_by_rank.specs.declared.inner.judge.Judged.{Judged}
-use Rattle.intersect_by_rank.specs.Judged.{judgedBy}
+use Rattle.intersect_by_rank.specs.Judged.{judged_by}
 use Rattle.composer.specs.Opened.{thereafter}
-use Rattle.composer.proofs.OpeningLaws.{judged-after, fine-short}
+use Rattle.composer.proofs.OpeningLaws.{judged_after, fine_short}
 use Rattle.composer.proofs.judge.judge.Statement.{statement}
 use Rattle.composer.proofs.judge.judge.Tie as tie
 
@@ -51,7 +51,7 @@ judge-after-requires : tie.Need-judge-after-requires
 judge-after-requires c κs =
     let b = told c in
     let s = start b in
-    λ e. omega (arith, c.before.length-of.ensures, fine-short s.args.state (pair s) (sym (ap (λ (j : Judged). j.verdict) b.judge-both.ensures) ∙ e))
+    λ e. omega (arith, c.before.length-of.ensures, fine_short s.args.state (pair s) (sym (ap (λ (j : Judged). j.verdict) b.judge-both.ensures) ∙ e))
 
 returns : tie.Need-returns
 returns c =
@@ -63,8 +63,8 @@ returns c =
     ∙ (λ i. thereafter s.args.state j (n.before.length-of.ensures i) (n.length-of2.ensures i) s.args.room) in
     ap (by j) after
     ∙ ap (λ (x : Judged). by x (thereafter s.args.state x (length_of s.args.s) (length_of s.args.r) s.args.room)) b.judge-both.ensures
-    ∙ ap (λ (v : Verdict). judgedBy v (self s) (rank s)) (judged-after s.args.state (pair s) s.args.room)
+    ∙ ap (λ (v : Verdict). judged_by v (self s) (rank s)) (judged_after s.args.state (pair s) s.args.room)
 
-pub judge-spec : {M : Type 1} → statement M
-judge-spec =
+pub judge_spec : {M : Type 1} → statement M
+judge_spec =
     tie.close (tie.spec judge-both-requires length-of-requires length-of-requires-2 judge-after-requires returns)

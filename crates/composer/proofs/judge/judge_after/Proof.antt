@@ -6,12 +6,12 @@ use native.Mathlib.Omega.{arith}
 use borrow.Author.Rules.{rules}
 use Rattle.rows.specs.declared.Verdict.{Verdict}
 use Rattle.rows.specs.declared.Verdict.TheVariants.{Fine}
-use Rattle.rows.specs.Table.{first, ifFine}
-use Rattle.rows.proofs.TableLaws.{then-fine}
+use Rattle.rows.specs.Table.{first, if_fine}
+use Rattle.rows.proofs.TableLaws.{then_fine}
 use Rattle.rules.specs.Operand.{limit}
-use Rattle.rules.specs.Stream.{stateChecks, pieceChecks}
+use Rattle.rules.specs.Stream.{state_checks, piece_checks}
 use Rattle.composer.specs.Opened.{opened}
-use Rattle.composer.proofs.OpeningLaws.{state-short}
+use Rattle.composer.proofs.OpeningLaws.{state_short}
 use Rattle.composer.proofs.judge.judge_after.Statement.{statement}
 use Rattle.composer.proofs.judge.judge_after.Tie as tie
 
@@ -29,22 +29,22 @@ passed c = c.before.before
 -- ---- what they say
 
 module _ (c : tie.After-then) where
-  opened-told : c.then.result ≡ opened (start c).args.state (start c).args.both
-  opened-told =
+  opened_told : c.then.result ≡ opened (start c).args.state (start c).args.both
+  opened_told =
       let both = (start c).args.both in
-      c.then.ensures ∙ ap (λ (v : Verdict). ifFine v both.verdict v) c.before.judge-state.ensures
+      c.then.ensures ∙ ap (λ (v : Verdict). if_fine v both.verdict v) c.before.judge-state.ensures
 
 module _ (c : tie.After-enum-told) where
   abbrev s : tie.Start
   s = start (passed c)
 
-  opened-fine : opened s.args.state s.args.both ≡ Fine
-  opened-fine = sym (opened-told (passed c)) ∙ c.enum_told.given.1
+  opened_fine : opened s.args.state s.args.both ≡ Fine
+  opened_fine = sym (opened_told (passed c)) ∙ c.enum_told.given.1
 
   small : s.args.state.done.0 + s.args.rows ≤ limit + limit
   small =
-      let t = then-fine (first (stateChecks s.args.state)) s.args.both.verdict opened-fine in
-      omega (arith, state-short s.args.state t.0, s.pre t.1)
+      let t = then_fine (first (state_checks s.args.state)) s.args.both.verdict opened_fine in
+      omega (arith, state_short s.args.state t.0, s.pre t.1)
 
 -- ---- the answers
 
@@ -70,17 +70,17 @@ returns : tie.Need-returns
 returns c =
     let o = refused c.before in
     let s = start o in
-    let lengths = first (pieceChecks s.args.ranks s.args.both.rows (s.args.state.done.0 + s.args.rows) s.args.room) in
-    sym (ap (λ (v : Verdict). ifFine v lengths v) (sym (opened-told o) ∙ c.before.before2.given.1))
+    let lengths = first (piece_checks s.args.ranks s.args.both.rows (s.args.state.done.0 + s.args.rows) s.args.room) in
+    sym (ap (λ (v : Verdict). if_fine v lengths v) (sym (opened_told o) ∙ c.before.before2.given.1))
 
 returns-2 : tie.Need-returns-2
 returns-2 c =
     let e = c.before.before in
-    let lengths = first (pieceChecks (s e).args.ranks (s e).args.both.rows ((s e).args.state.done.0 + (s e).args.rows) (s e).args.room) in
-    c.judge-lengths.ensures ∙ sym (ap (λ (v : Verdict). ifFine v lengths v) (opened-fine e))
+    let lengths = first (piece_checks (s e).args.ranks (s e).args.both.rows ((s e).args.state.done.0 + (s e).args.rows) (s e).args.room) in
+    c.judge-lengths.ensures ∙ sym (ap (λ (v : Verdict). if_fine v lengths v) (opened_fine e))
 
-pub judge-after-spec : {M : Type 1} → statement M
-judge-after-spec =
+pub judge_after_spec : {M : Type 1} → statement M
+judge_after_spec =
     tie.close
     (tie.spec
     judge-state-requires

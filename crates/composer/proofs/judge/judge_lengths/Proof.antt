@@ -4,9 +4,9 @@ use Prim.Native.Nat.{ℕ}
 use mathlib.Core.Path.{◌≡◌, sym, ap, ◌∙◌}
 use mathlib.Core.List.{List, [], ◌∷◌, ◌++◌}
 use native.Mathlib.Decide.{ℕ_discrete, dec_le}
-use Rattle.rows.specs.Laid.{wordsFor}
-use Rattle.rows.specs.Table.{Line, first, need, ifFine}
-use Rattle.rows.proofs.TableLaws.{first-append}
+use Rattle.rows.specs.Laid.{words_for}
+use Rattle.rows.specs.Table.{Line, first, need, if_fine}
+use Rattle.rows.proofs.TableLaws.{first_append}
 use Rattle.rules.specs.Operand.{limit}
 use borrow.Author.Rules.{rules}
 use Rattle.composer.proofs.judge.judge_lengths.Statement.{statement}
@@ -33,22 +33,22 @@ module _ (s : tie.Start) where
   limited = need (dec_le s.args.end limit) 11 0 ∷ []
 
   abbrev space : List Line
-  space = need (dec_le (wordsFor s.args.end) s.args.room) 8 0 ∷ []
+  space = need (dec_le (words_for s.args.end) s.args.room) 8 0 ∷ []
 
   abbrev later : List Line
   later = limited ++ space
 
-space-told : (c : tie.After-has-room) → c.has_room.result ≡ first (space (start (limit-judged c)))
-space-told c =
+space_told : (c : tie.After-has-room) → c.has_room.result ≡ first (space (start (limit-judged c)))
+space_told c =
     let room = (start (limit-judged c)).args.room in
     c.has_room.ensures ∙ ap (λ (n : ℕ). first (need (dec_le n room) 8 0 ∷ [])) c.before.words-for.ensures
 
-later-told : (c : tie.After-then) → c.then.result ≡ first (later (start (limit-judged c.before)))
-later-told c =
+later_told : (c : tie.After-then) → c.then.result ≡ first (later (start (limit-judged c.before)))
+later_told c =
     let h = c.before in
     let s = start (limit-judged h) in
     let told = (limit-judged h).at_most.ensures in
-    c.then.ensures ∙ (λ i. ifFine (told i) (space-told h i) (told i)) ∙ sym (first-append (limited s) (space s))
+    c.then.ensures ∙ (λ i. if_fine (told i) (space_told h i) (told i)) ∙ sym (first_append (limited s) (space s))
 
 -- ---- the answers
 
@@ -76,11 +76,11 @@ returns c =
     let s = start m in
     let told = m.before.equal.ensures in
     c.then2.ensures
-    ∙ (λ i. ifFine (told i) (later-told c.before i) (told i))
-    ∙ sym (first-append (matched s) (later s))
+    ∙ (λ i. if_fine (told i) (later_told c.before i) (told i))
+    ∙ sym (first_append (matched s) (later s))
 
-pub judge-lengths-spec : {M : Type 1} → statement M
-judge-lengths-spec =
+pub judge_lengths_spec : {M : Type 1} → statement M
+judge_lengths_spec =
     tie.close
     (tie.spec
     equal-requires

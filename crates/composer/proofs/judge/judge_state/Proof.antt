@@ -4,8 +4,8 @@ use mathlib.Core.Path.{sym, ap, ◌∙◌}
 use mathlib.Core.List.{List, [], ◌∷◌}
 use native.Mathlib.Decide.{dec_le}
 use Rattle.rows.specs.declared.Verdict.{Verdict}
-use Rattle.rows.specs.Table.{Line, first, need, ifFine}
-use Rattle.rows.proofs.TableLaws.{first-append}
+use Rattle.rows.specs.Table.{Line, first, need, if_fine}
+use Rattle.rows.proofs.TableLaws.{first_append}
 use Rattle.rules.specs.Operand.{limit}
 use borrow.Author.Rules.{rules}
 use Rattle.composer.proofs.judge.judge_state.Statement.{statement}
@@ -34,10 +34,10 @@ returns c =
     let done : List Line = need (dec_le st.done.0 limit) 10 0 ∷ [] in
     c.then2.ensures
     ∙ rw (c.before.then.ensures, c.before.before.at-most3.ensures, c.before.before.before.at-most2.ensures, c.before.before.before.before.at_most.ensures)
-    (sym (first-append kept (need (dec_le st.ranks.0 st.done.0) 10 0 ∷ done) ∙ ap (λ (v : Verdict). ifFine (first kept) v (first kept)) (first-append ranks done)))
+    (sym (first_append kept (need (dec_le st.ranks.0 st.done.0) 10 0 ∷ done) ∙ ap (λ (v : Verdict). if_fine (first kept) v (first kept)) (first_append ranks done)))
 
-pub judge-state-spec : {M : Type 1} → statement M
-judge-state-spec =
+pub judge_state_spec : {M : Type 1} → statement M
+judge_state_spec =
     tie.close
     (tie.spec
     at-most-requires

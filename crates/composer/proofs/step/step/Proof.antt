@@ -12,8 +12,8 @@ use Rattle.rules.specs.Operand.{lent, rows_of}
 use Rattle.rules.specs.Answer.{answered}
 use Rattle.rules.specs.Compose.{routed}
 use Rattle.rules.specs.Stream.{Pair, pair_of, kept, state_of, moved}
-use Rattle.rules.proofs.StreamLaws.{Accepts, moved-within, self-length, self-count, kept-count}
-use Rattle.rules.proofs.Feeds.{feed-takes}
+use Rattle.rules.proofs.StreamLaws.{Accepts, moved_within, self_length, self_count, kept_count}
+use Rattle.rules.proofs.Feeds.{feed_takes}
 use borrow.Author.Rules.{rules}
 use Rattle.composer.proofs.step.step.Statement.{statement}
 use Rattle.composer.proofs.step.step.Tie as tie
@@ -32,8 +32,8 @@ measured c = c.before.before
 abbrev chosen : tie.After-lay-composition → tie.After-document-factors
 chosen c = c.before.before
 
-abbrev laid-there : tie.After-slice-known2 → tie.After-lay-composition
-laid-there c = c.before.before
+abbrev laid_there : tie.After-slice-known2 → tie.After-lay-composition
+laid_there c = c.before.before
 
 -- ---- the pieces that are fed, and what acceptance gives
 
@@ -47,7 +47,7 @@ module _ (s : tie.Start) where
       pair_of (lent a.s.form a.swords.now a.srows.now) (lent a.r.form a.rwords.now a.rrows.now)
 
   takes : Accepts state pair (length s.args.out.now)
-  takes = feed-takes state pair (length s.args.out.now) s.pre.0
+  takes = feed_takes state pair (length s.args.out.now) s.pre.0
 
 -- ---- the numbers that are counted, in the words of the state after the pair
 
@@ -55,20 +55,20 @@ module _ (c : tie.After-length-of) where
   abbrev s : tie.Start
   s = start c
 
-  rows-counted : c.length-of.result ≡ length (rows_of (pair s).self)
-  rows-counted = c.length-of.ensures ∙ sym (self-length (pair s) (takes s).matched)
+  rows_counted : c.length-of.result ≡ length (rows_of (pair s).self)
+  rows_counted = c.length-of.ensures ∙ sym (self_length (pair s) (takes s).matched)
 
-  ranks-counted : s.args.s.count ≡ count (rows_of (pair s).self)
-  ranks-counted = s.pre.1 ∙ sym (self-count (pair s) (takes s).matched)
+  ranks_counted : s.args.s.count ≡ count (rows_of (pair s).self)
+  ranks_counted = s.pre.1 ∙ sym (self_count (pair s) (takes s).matched)
 
-  kept-counted : s.args.r.count ≡ count (kept (pair s))
-  kept-counted = s.pre.2 ∙ sym (kept-count (pair s) (takes s).matched)
+  kept_counted : s.args.r.count ≡ count (kept (pair s))
+  kept_counted = s.pre.2 ∙ sym (kept_count (pair s) (takes s).matched)
 
 moved_to : (c : tie.After-moved) → c.moved.result ≡ moved (state (s c.before)) (pair (s c.before))
 moved_to c =
     let n = c.before in
     let st = state (s n) in
-    c.moved.ensures ∙ (λ i. state_of (st.done.0 + rows-counted n i) (st.ranks.0 + ranks-counted n i) (st.kept + kept-counted n i))
+    c.moved.ensures ∙ (λ i. state_of (st.done.0 + rows_counted n i) (st.ranks.0 + ranks_counted n i) (st.kept + kept_counted n i))
 
 -- ---- the answers
 
@@ -77,8 +77,8 @@ length-of-requires c κs = search rules
 
 moved-requires : tie.Need-moved-requires
 moved-requires c κs =
-    let w = moved-within (state (s c)) (pair (s c)) (length (s c).args.out.now) (takes (s c)) in
-    (omega (arith, rows-counted c, w.2), omega (arith, ranks-counted c, w.1, w.2), omega (arith, kept-counted c, w.0, w.1, w.2))
+    let w = moved_within (state (s c)) (pair (s c)) (length (s c).args.out.now) (takes (s c)) in
+    (omega (arith, rows_counted c, w.2), omega (arith, ranks_counted c, w.1, w.2), omega (arith, kept_counted c, w.0, w.1, w.2))
 
 document-factors-requires : tie.Need-document-factors-requires
 document-factors-requires c κs = search rules
@@ -94,7 +94,7 @@ same_length c = search rules
 
 returns : tie.Need-returns
 returns c =
-    let l = laid-there c in
+    let l = laid_there c in
     let f = chosen l in
     let p = pair (s (measured f)) in
     let answer = l.lay-composition.ensures.0

@@ -10,22 +10,22 @@ use lib.Seq.{drop-drop}
 use lib.Count.{ones}
 use Rattle.rows.specs.Rows.{count, compose}
 use Rattle.rows.specs.Word.{bits_of, word_of}
-use Rattle.rows.specs.Words.{fit, bitsOfAll, view}
+use Rattle.rows.specs.Words.{fit, bits_of_all, view}
 use Rattle.rows.specs.Lists.{listed, tab, member}
 use Rattle.rows.specs.Laid.{laid}
-use Rattle.rows.proofs.WordLaws.{ones-word}
+use Rattle.rows.proofs.WordLaws.{ones_word}
 use Rattle.rows.proofs.WordsLaws.{fit_length}
 use Rattle.rows.proofs.LaidLaws.{below_all}
 use Rattle.books.specs.Gathers.{Parted}
 use Rattle.deposits.proofs.DepositLaws.{
   Deposited,
-  chunk-few,
-  chunk-sized,
-  deposited-none,
-  deposited-turn,
-  gathered-same,
-  rank-turn,
-  rank-within,
+  chunk_few,
+  chunk_sized,
+  deposited_none,
+  deposited_turn,
+  gathered_same,
+  rank_turn,
+  rank_within,
 }
 use borrow.Author.Rules.{rules}
 use Rattle.deposits.proofs.deposit.gather_chunks.Statement.{statement}
@@ -91,7 +91,7 @@ module _ (c : tie.After-chunk-len invariant-loop decreases-loop) where
   n = c.chunk-len.result
 
   abbrev rows : List Bool
-  rows = drop ((start c).args.start + row) (bitsOfAll 64 ws)
+  rows = drop ((start c).args.start + row) (bits_of_all 64 ws)
 
   abbrev chunk : List Bool
   chunk = fit n rows
@@ -107,7 +107,7 @@ module _ (c : tie.After-chunk-len invariant-loop decreases-loop) where
   r = drop first (listed total es)
 
   sized : (0 < n) × (n ≤ 64) × (row + n ≤ (start c).args.len)
-  sized = chunk-sized n row (start c).args.len (omega arith) c.chunk-len.ensures
+  sized = chunk_sized n row (start c).args.len (omega arith) c.chunk-len.ensures
 
   reach : (start c).args.start + row + n ≤ length ws * 64
   reach = omega (arith, (start c).requires.1, sized)
@@ -119,11 +119,11 @@ module _ (c : tie.After-chunk-len invariant-loop decreases-loop) where
   ranked : first + passed + count chunk ≤ total
   ranked =
       let a = (start c).args in
-      let past = rank-turn a.start row n a.at ws a.out.now r reach in
-      omega (arith, past, ones-word chunk, rank-within a.start (row + n) a.len ws sized.2)
+      let past = rank_turn a.start row n a.at ws a.out.now r reach in
+      omega (arith, past, ones_word chunk, rank_within a.start (row + n) a.len ws sized.2)
 
 few : (c : tie.After-self-bits invariant-loop decreases-loop) → ones c.self-bits.result ≤ n (turn c)
-few c = omega (arith, ap ones c.self-bits.ensures, chunk-few (n (turn c)) (rows (turn c)))
+few c = omega (arith, ap ones c.self-bits.ensures, chunk_few (n (turn c)) (rows (turn c)))
 
 -- the rank bits that were gathered are those of its ranks
 module _ (c : tie.After-rank-bits-for-chunk invariant-loop decreases-loop) where
@@ -133,10 +133,10 @@ module _ (c : tie.After-rank-bits-for-chunk invariant-loop decreases-loop) where
   same : compose (chunk here) (bits_of 64 c.rank-bits-for-chunk.result.bits) ≡ compose (chunk here) (drop (passed here) (r here))
   same =
       let t = chunk here in
-      let set : ones (masked c).self-bits.result ≡ count t = ap ones (masked c).self-bits.ensures ∙ ones-word t in
+      let set : ones (masked c).self-bits.result ≡ count t = ap ones (masked c).self-bits.ensures ∙ ones_word t in
       let bits = ap₂ (λ (x y : ℕ). word_of (tab x y (λ i. member i (es here)))) (head here).loop.inv.1.counted set in
       ap (λ (x : ℕ). compose t (bits_of 64 x)) (c.rank-bits-for-chunk.ensures.is ∙ bits)
-      ∙ gathered-same t (first here + passed here) (total here) (λ i. member i (es here)) (short here) (ranked here)
+      ∙ gathered_same t (first here + passed here) (total here) (λ i. member i (es here)) (short here) (ranked here)
       ∙ ap (compose t) (sym (drop-drop (passed here) (first here) (listed (total here) (es here))))
 
 -- ---- the answers
@@ -146,7 +146,7 @@ loop-holds c =
     let a = (entry c).args in
     let out = a.out.now in
     let known = below_all (2 ^ 64) out (λ i. (c.before.slice-known.given i).fits) in
-    (omega arith, deposited-none a.start a.at a.from.rank.0 a.words.now out _ known, (entry c).requires.4)
+    (omega arith, deposited_none a.start a.at a.from.rank.0 a.words.now out _ known, (entry c).requires.4)
 
 chunk-len-requires : tie.Need-chunk-len-requires invariant-loop decreases-loop
 chunk-len-requires c κs = omega arith
@@ -197,7 +197,7 @@ loop-again c =
     let a = (start t).args in
     let l = (head t).loop in (
       (sized t).2,
-      deposited-turn a.start (row t) (n t) a.at (ws t) a.out.now (r t) (reach t) (sized t).1
+      deposited_turn a.start (row t) (n t) a.at (ws t) a.out.now (r t) (reach t) (sized t).1
           (first t) l.rank.0 m.self-bits.result g.rank-bits-for-chunk.result.bits l.out _
           l.inv.1 m.self-bits.ensures (same g) p.push-result-chunk.ensures,
       g.rank-bits-for-chunk.ensures.parted,
@@ -215,8 +215,8 @@ returns c =
     let done : l.row.0 ≡ a.len = omega arith in
     l.inv.1.composed ∙ ap (λ (k : ℕ). laid a.at (compose (view a.start k ws) r) a.out.now) done
 
-pub gather-chunks-spec : {M : Type 1} → statement M
-gather-chunks-spec =
+pub gather_chunks_spec : {M : Type 1} → statement M
+gather_chunks_spec =
     tie.close
     (tie.spec
     invariant-loop

@@ -22,6 +22,6 @@ returns c =
     let a = c.before.before.before.before.before.before.args in
     c.before.before.put-rows.ensures ∙ ap (λ (x : ℕ). laid (a.at + a.row.0) (bits_of a.n x) a.out.now) c.before.before.before.deposit-bits.ensures
 
-pub push-result-chunk-spec : {M : Type 1} → statement M
-push-result-chunk-spec =
+pub push_result_chunk_spec : {M : Type 1} → statement M
+push_result_chunk_spec =
     tie.close (tie.spec deposit-bits-requires put-rows-requires same_length returns)

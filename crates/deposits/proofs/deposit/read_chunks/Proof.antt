@@ -10,18 +10,18 @@ use lib.Seq.{drop-drop}
 use lib.Count.{ones}
 use Rattle.rows.specs.Rows.{count, compose}
 use Rattle.rows.specs.Word.{bits_of}
-use Rattle.rows.specs.Words.{fit, bitsOfAll, view}
+use Rattle.rows.specs.Words.{fit, bits_of_all, view}
 use Rattle.rows.specs.Laid.{laid}
 use Rattle.rows.proofs.WordsLaws.{fit_length}
 use Rattle.rows.proofs.LaidLaws.{below_all}
-use Rattle.deposits.proofs.DepositLaws.{Deposited, chunk-few, chunk-sized, deposited-none, deposited-turn, read_same}
+use Rattle.deposits.proofs.DepositLaws.{Deposited, chunk_few, chunk_sized, deposited_none, deposited_turn, read_same}
 use borrow.Author.Rules.{rules}
 use Rattle.deposits.proofs.deposit.read_chunks.Statement.{statement}
 use Rattle.deposits.proofs.deposit.read_chunks.Tie as tie
 
 abbrev invariant-loop : tie.invariant-loop
 invariant-loop way words start len ranks from at out₀ row₀ rank₀ out row rank =
-    (row.0 ≤ len) × Deposited start at rank₀.0 words out₀ (drop rank₀.0 (drop from (bitsOfAll 64 ranks))) row.0 rank.0 out
+    (row.0 ≤ len) × Deposited start at rank₀.0 words out₀ (drop rank₀.0 (drop from (bits_of_all 64 ranks))) row.0 rank.0 out
 
 abbrev decreases-loop : tie.decreases-loop
 decreases-loop way words start len ranks from at out₀ row₀ rank₀ out row rank = len - row.0
@@ -68,7 +68,7 @@ module _ (c : tie.After-chunk-len invariant-loop decreases-loop) where
   n = c.chunk-len.result
 
   abbrev rows : List Bool
-  rows = drop ((start c).args.start + row) (bitsOfAll 64 ws)
+  rows = drop ((start c).args.start + row) (bits_of_all 64 ws)
 
   abbrev chunk : List Bool
   chunk = fit n rows
@@ -78,10 +78,10 @@ module _ (c : tie.After-chunk-len invariant-loop decreases-loop) where
 
   -- the rank bits from the first rank on
   abbrev r : List Bool
-  r = drop (start c).args.first.0 (drop (start c).args.from (bitsOfAll 64 (start c).args.ranks.now))
+  r = drop (start c).args.first.0 (drop (start c).args.from (bits_of_all 64 (start c).args.ranks.now))
 
   sized : (0 < n) × (n ≤ 64) × (row + n ≤ (start c).args.len)
-  sized = chunk-sized n row (start c).args.len (omega arith) c.chunk-len.ensures
+  sized = chunk_sized n row (start c).args.len (omega arith) c.chunk-len.ensures
 
   reach : (start c).args.start + row + n ≤ length ws * 64
   reach = omega (arith, (start c).requires.1, sized)
@@ -90,7 +90,7 @@ module _ (c : tie.After-chunk-len invariant-loop decreases-loop) where
   short = omega (arith, fit_length n rows, sized)
 
 few : (c : tie.After-self-bits invariant-loop decreases-loop) → ones c.self-bits.result ≤ n (turn c)
-few c = omega (arith, ap ones c.self-bits.ensures, chunk-few (n (turn c)) (rows (turn c)))
+few c = omega (arith, ap ones c.self-bits.ensures, chunk_few (n (turn c)) (rows (turn c)))
 
 -- the rank bits that were read are those of its ranks
 module _ (c : tie.After-rank-bits invariant-loop decreases-loop) where
@@ -101,7 +101,7 @@ module _ (c : tie.After-rank-bits invariant-loop decreases-loop) where
   same =
       let t = chunk here in
       let a = (start here).args in
-      let bs = bitsOfAll 64 a.ranks.now in
+      let bs = bits_of_all 64 a.ranks.now in
       let first : ℕ = a.first.0 in
       ap (λ (x : ℕ). compose t (bits_of 64 x)) c.rank-bits.ensures
       ∙ read_same t (drop (a.from + (head here).loop.rank.0) bs) (short here)
@@ -115,7 +115,7 @@ loop-holds c =
     let a = (entry c).args in
     let out = a.out.now in
     let known = below_all (2 ^ 64) out (λ i. (c.slice-known.given i).fits) in
-    (omega arith, deposited-none a.start a.at a.first.0 a.words.now out _ known)
+    (omega arith, deposited_none a.start a.at a.first.0 a.words.now out _ known)
 
 chunk-len-requires : tie.Need-chunk-len-requires invariant-loop decreases-loop
 chunk-len-requires c κs = omega arith
@@ -160,7 +160,7 @@ loop-again c =
     let a = (start t).args in
     let l = (head t).loop in (
       (sized t).2,
-      deposited-turn a.start (row t) (n t) a.at (ws t) a.out.now (r t) (reach t) (sized t).1
+      deposited_turn a.start (row t) (n t) a.at (ws t) a.out.now (r t) (reach t) (sized t).1
           a.first.0 l.rank.0 m.self-bits.result g.rank-bits.result l.out _
           l.inv.1 m.self-bits.ensures (same g) p.push-result-chunk.ensures,
     )
@@ -172,12 +172,12 @@ returns : tie.Need-returns invariant-loop decreases-loop
 returns c =
     let l = (last c).loop in
     let a = (entry (last c).before).args in
-    let r = drop a.first.0 (drop a.from (bitsOfAll 64 a.ranks.now)) in
+    let r = drop a.first.0 (drop a.from (bits_of_all 64 a.ranks.now)) in
     let done : l.row.0 ≡ a.len = omega arith in
     l.inv.1.composed ∙ ap (λ (k : ℕ). laid a.at (compose (view a.start k a.words.now) r) a.out.now) done
 
-pub read-chunks-spec : {M : Type 1} → statement M
-read-chunks-spec =
+pub read_chunks_spec : {M : Type 1} → statement M
+read_chunks_spec =
     tie.close
     (tie.spec
     invariant-loop

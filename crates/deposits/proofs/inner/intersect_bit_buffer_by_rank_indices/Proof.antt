@@ -7,14 +7,14 @@ use mathlib.Core.List.{List}
 use native.Mathlib.Omega.{arith}
 use lib.ListN.{length, drop}
 use Rattle.rows.specs.Rows.{count, compose}
-use Rattle.rows.specs.Words.{bitsOfAll, view}
+use Rattle.rows.specs.Words.{bits_of_all, view}
 use Rattle.rows.specs.Laid.{laid}
-use Rattle.rows.proofs.RowLaws.{count-take-le}
-use Rattle.rows.proofs.LaidLaws.{laid-length}
+use Rattle.rows.proofs.RowLaws.{count_take_le}
+use Rattle.rows.proofs.LaidLaws.{laid_length}
 use native.Mathlib.Nat.{zero-add}
 use Rattle.rows.specs.Lists.{listed, member}
-use Rattle.books.proofs.GatherLaws.{ascending-climbs}
-use Rattle.deposits.proofs.WholeLaws.{whole-and-rest, count-rest, ranks-more}
+use Rattle.books.proofs.GatherLaws.{ascending_climbs}
+use Rattle.deposits.proofs.WholeLaws.{whole_and_rest, count_rest, ranks_more}
 use borrow.Author.Rules.{rules}
 use Rattle.deposits.proofs.inner.intersect_bit_buffer_by_rank_indices.Statement.{statement}
 use Rattle.deposits.proofs.inner.intersect_bit_buffer_by_rank_indices.Tie as tie
@@ -74,24 +74,24 @@ module _ (c : tie.After-gather-words) where
   reached = c.gather-words.result.rank.0
 
   few : reached ≤ done
-  few = omega (arith, c.gather-words.ensures.0, count-take-le done (drop start.args.start (bitsOfAll 64 ws)))
+  few = omega (arith, c.gather-words.ensures.0, count_take_le done (drop start.args.start (bits_of_all 64 ws)))
 
   all : done + rest ≡ start.args.len
   all = omega arith
 
   sum : passed + more ≡ total
-  sum = count-rest start.args.start done rest ws ∙ ap (λ (k : ℕ). count (view start.args.start k ws)) all
+  sum = count_rest start.args.start done rest ws ∙ ap (λ (k : ℕ). count (view start.args.start k ws)) all
 
   -- the ranks that are left
-  ranks-left : drop reached (listed (reached + more) es) ≡ drop passed (listed total es)
-  ranks-left = ap (λ (k : ℕ). drop k (listed (k + more) es)) c.gather-words.ensures.0 ∙ ap (λ (k : ℕ). drop passed (listed k es)) sum
+  ranks_left : drop reached (listed (reached + more) es) ≡ drop passed (listed total es)
+  ranks_left = ap (λ (k : ℕ). drop k (listed (k + more) es)) c.gather-words.ensures.0 ∙ ap (λ (k : ℕ). drop passed (listed k es)) sum
 
   -- the ranks past the whole words do not matter to them
   whole : laid (start.args.at / 64 * 64) (compose (view start.args.start done ws) (listed passed es)) start.args.out.now
       ≡ laid start.args.at (compose (view start.args.start done ws) (listed total es)) start.args.out.now
   whole =
       let place : start.args.at / 64 * 64 ≡ start.args.at = omega arith in
-      let same = ranks-more (view start.args.start done ws) passed total (λ i. member i es) (omega arith) (omega (arith, sum)) in
+      let same = ranks_more (view start.args.start done ws) passed total (λ i. member i es) (omega arith) (omega (arith, sum)) in
       ap₂ (λ (k : ℕ) (l : List Bool). laid k l start.args.out.now) place same
 
 -- ---- the answers
@@ -100,7 +100,7 @@ gather-chunks-requires : tie.Need-gather-chunks-requires
 gather-chunks-requires c κs =
     let s = astride c in
     let p = s.pre in
-    (p.0.0, p.0.2, p.1, omega arith, record { within = omega arith; before = tt; after = ascending-climbs 0 _ s.args.ranks.now p.2 })
+    (p.0.0, p.0.2, p.1, omega arith, record { within = omega arith; before = tt; after = ascending_climbs 0 _ s.args.ranks.now p.2 })
 
 same_length : tie.Need-same-length
 same_length c = search rules
@@ -115,7 +115,7 @@ returns c =
 gather-words-requires : tie.Need-gather-words-requires
 gather-words-requires c κs =
     let s = aligned c in
-    (omega (arith, s.pre.0), omega (arith, s.pre.1), ascending-climbs 0 _ s.args.ranks.now s.pre.2)
+    (omega (arith, s.pre.0), omega (arith, s.pre.1), ascending_climbs 0 _ s.args.ranks.now s.pre.2)
 
 mul-done : tie.Need-overflow-mul-done
 mul-done c = omega arith
@@ -133,7 +133,7 @@ gather-chunks-requires-2 : tie.Need-gather-chunks-requires-2
 gather-chunks-requires-2 c κs =
     let k = words c.before in
     let p = (start k).pre in
-    let long = rw laid-length at (ap length k.gather-words.ensures.2) in
+    let long = rw laid_length at (ap length k.gather-words.ensures.2) in
     (omega (arith, p.0), omega (arith, p.0), (omega (arith, p.1, long), omega (arith, p.1)), omega (arith, p.0, few k), k.gather-words.ensures.1)
 
 same-length-2 : tie.Need-same-length-2
@@ -147,13 +147,13 @@ returns-2 c =
     let r = listed (total k) (es k) in
     e.gather-chunks2.ensures
     ∙ ap₂ (λ (l : List Bool) (o : List ℕ). laid (a.at + done k) (compose (view (a.start + done k) (rest k) (ws k)) l) o)
-    (ranks-left k)
+    (ranks_left k)
     (k.gather-words.ensures.2 ∙ whole k)
-    ∙ whole-and-rest a.start a.at (done k) (rest k) (ws k) a.out.now r (omega (arith, (start k).pre.0.2))
+    ∙ whole_and_rest a.start a.at (done k) (rest k) (ws k) a.out.now r (omega (arith, (start k).pre.0.2))
     ∙ ap (λ (i : ℕ). laid a.at (compose (view a.start i (ws k)) r) a.out.now) (all k)
 
-pub intersect-bit-buffer-by-rank-indices-spec : {M : Type 1} → statement M
-intersect-bit-buffer-by-rank-indices-spec =
+pub intersect_bit_buffer_by_rank_indices_spec : {M : Type 1} → statement M
+intersect_bit_buffer_by_rank_indices_spec =
     tie.close
     (tie.spec
     gather-chunks-requires

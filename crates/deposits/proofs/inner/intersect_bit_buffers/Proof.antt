@@ -7,11 +7,11 @@ use mathlib.Core.List.{List}
 use native.Mathlib.Omega.{arith}
 use lib.ListN.{length, drop}
 use Rattle.rows.specs.Rows.{compose}
-use Rattle.rows.specs.Words.{bitsOfAll, view}
+use Rattle.rows.specs.Words.{bits_of_all, view}
 use Rattle.rows.specs.Laid.{laid}
-use Rattle.rows.proofs.RowLaws.{count-take-le}
-use Rattle.rows.proofs.LaidLaws.{laid-length}
-use Rattle.deposits.proofs.WholeLaws.{whole-and-rest}
+use Rattle.rows.proofs.RowLaws.{count_take_le}
+use Rattle.rows.proofs.LaidLaws.{laid_length}
+use Rattle.deposits.proofs.WholeLaws.{whole_and_rest}
 use borrow.Author.Rules.{rules}
 use Rattle.deposits.proofs.inner.intersect_bit_buffers.Statement.{statement}
 use Rattle.deposits.proofs.inner.intersect_bit_buffers.Tie as tie
@@ -49,7 +49,7 @@ module _ (c : tie.After-read-words) where
   ws = start.args.words.now
 
   abbrev r : List Bool
-  r = drop start.args.from (bitsOfAll 64 start.args.ranks.now)
+  r = drop start.args.from (bits_of_all 64 start.args.ranks.now)
 
   abbrev done : ℕ
   done = start.args.len / 64 * 64
@@ -58,7 +58,7 @@ module _ (c : tie.After-read-words) where
   rest = start.args.len - done
 
   few : c.read-words.result.0 ≤ done
-  few = omega (arith, c.read-words.ensures.0, count-take-le done (drop start.args.start (bitsOfAll 64 ws)))
+  few = omega (arith, c.read-words.ensures.0, count_take_le done (drop start.args.start (bits_of_all 64 ws)))
 
   all : done + rest ≡ start.args.len
   all = omega arith
@@ -95,7 +95,7 @@ add-read-chunks-2 c = omega (arith, (start (words c)).pre)
 read-chunks-requires-2 : tie.Need-read-chunks-requires-2
 read-chunks-requires-2 c κs =
     let k = words c.before in
-    omega (arith, (start k).pre, few k, rw laid-length at (ap length k.read-words.ensures.1))
+    omega (arith, (start k).pre, few k, rw laid_length at (ap length k.read-words.ensures.1))
 
 same-length-2 : tie.Need-same-length-2
 same-length-2 c = search rules
@@ -110,11 +110,11 @@ returns-2 c =
     ∙ ap₂ (λ (i : ℕ) (o : List ℕ). laid (a.at + done k) (compose (view (a.start + done k) (rest k) (ws k)) (drop i (r k))) o)
     w.0
     (w.1 ∙ ap (λ (i : ℕ). laid i (compose (view a.start (done k) (ws k)) (r k)) a.out.now) (place k))
-    ∙ whole-and-rest a.start a.at (done k) (rest k) (ws k) a.out.now (r k) (omega (arith, (start k).pre))
+    ∙ whole_and_rest a.start a.at (done k) (rest k) (ws k) a.out.now (r k) (omega (arith, (start k).pre))
     ∙ ap (λ (i : ℕ). laid a.at (compose (view a.start i (ws k)) (r k)) a.out.now) (all k)
 
-pub intersect-bit-buffers-spec : {M : Type 1} → statement M
-intersect-bit-buffers-spec =
+pub intersect_bit_buffers_spec : {M : Type 1} → statement M
+intersect_bit_buffers_spec =
     tie.close
     (tie.spec
     read-chunks-requires

@@ -9,15 +9,15 @@ use lib.ListN.{length, drop}
 use lib.Count.{ones}
 use Rattle.rows.specs.Rows.{count, compose}
 use Rattle.rows.specs.Word.{bits_of, word_of}
-use Rattle.rows.specs.Words.{fit, bitsOfAll, view}
+use Rattle.rows.specs.Words.{fit, bits_of_all, view}
 use Rattle.rows.specs.Lists.{listed, tab, member}
 use Rattle.rows.specs.Laid.{laid}
-use Rattle.rows.proofs.WordLaws.{ones-word}
+use Rattle.rows.proofs.WordLaws.{ones_word}
 use Rattle.rows.proofs.WordsLaws.{fit_length}
 use Rattle.rows.proofs.LaidLaws.{below_all}
 use Rattle.books.specs.Gathers.{Parted}
-use Rattle.deposits.proofs.DepositLaws.{gathered-same, rank-within, chunk-few}
-use Rattle.deposits.proofs.WholeLaws.{whole-rank, Stored, stored-none, stored-word}
+use Rattle.deposits.proofs.DepositLaws.{gathered_same, rank_within, chunk_few}
+use Rattle.deposits.proofs.WholeLaws.{whole_rank, Stored, stored_none, stored_word}
 use borrow.Author.Rules.{rules}
 use Rattle.deposits.proofs.whole.gather_words.Statement.{statement}
 use Rattle.deposits.proofs.whole.gather_words.Tie as tie
@@ -74,7 +74,7 @@ module _ (c : tie.In-loop invariant-loop decreases-loop) where
   passed = count (view (start c).args.start (i * 64) ws)
 
   abbrev rows : List Bool
-  rows = drop ((start c).args.start + i * 64) (bitsOfAll 64 ws)
+  rows = drop ((start c).args.start + i * 64) (bits_of_all 64 ws)
 
   abbrev word : List Bool
   word = fit 64 rows
@@ -86,11 +86,11 @@ module _ (c : tie.In-loop invariant-loop decreases-loop) where
   ranked : passed + count word ≤ total
   ranked =
       let a = (start c).args in
-      let past = whole-rank a.start i a.to ws a.out.now (listed total es) reach in
-      omega (arith, past, ones-word word, rank-within a.start ((i + 1) * 64) (a.n * 64) ws (omega arith))
+      let past = whole_rank a.start i a.to ws a.out.now (listed total es) reach in
+      omega (arith, past, ones_word word, rank_within a.start ((i + 1) * 64) (a.n * 64) ws (omega arith))
 
 few : (c : tie.After-whole-word invariant-loop decreases-loop) → ones c.whole_word.result ≤ 64
-few c = omega (arith, ap ones c.whole_word.ensures, chunk-few 64 (rows (turn c)))
+few c = omega (arith, ap ones c.whole_word.ensures, chunk_few 64 (rows (turn c)))
 
 -- the rank bits that were gathered are those of its ranks
 module _ (c : tie.After-rank-bits-for-chunk invariant-loop decreases-loop) where
@@ -100,10 +100,10 @@ module _ (c : tie.After-rank-bits-for-chunk invariant-loop decreases-loop) where
   same : compose (word here) (bits_of 64 c.rank-bits-for-chunk.result.bits) ≡ compose (word here) (drop (passed here) (listed (total here) (es here)))
   same =
       let t = word here in
-      let set : ones (masked c).whole_word.result ≡ count t = ap ones (masked c).whole_word.ensures ∙ ones-word t in
+      let set : ones (masked c).whole_word.result ≡ count t = ap ones (masked c).whole_word.ensures ∙ ones_word t in
       let bits = ap₂ (λ (x y : ℕ). word_of (tab x y (λ i. member i (es here)))) (head here).loop.inv.1.counted set in
       ap (λ (x : ℕ). compose t (bits_of 64 x)) (c.rank-bits-for-chunk.ensures.is ∙ bits)
-      ∙ gathered-same t (passed here) (total here) (λ i. member i (es here)) (omega (arith, fit_length 64 (rows here))) (ranked here)
+      ∙ gathered_same t (passed here) (total here) (λ i. member i (es here)) (omega (arith, fit_length 64 (rows here))) (ranked here)
 
 -- ---- the answers
 
@@ -112,7 +112,7 @@ loop-holds c =
     let a = (entry c).args in
     let out = a.out.now in (
       omega arith,
-      stored-none a.start a.to a.words.now out _ (below_all (2 ^ 64) out (λ i. (c.slice-known.given i).fits)),
+      stored_none a.start a.to a.words.now out _ (below_all (2 ^ 64) out (λ i. (c.slice-known.given i).fits)),
       record { within = omega arith; before = tt; after = (entry c).requires.2 },
     )
 
@@ -164,7 +164,7 @@ loop-again c =
     let a = (start t).args in
     let l = (head t).loop in (
       omega arith,
-      stored-word a.start l.i a.to (ws t) a.out.now (listed (total t) (es t)) (reach t)
+      stored_word a.start l.i a.to (ws t) a.out.now (listed (total t) (es t)) (reach t)
           l.rank.0 m.whole_word.result g.rank-bits-for-chunk.result.bits d.deposit-bits.result l.out
           l.inv.1 m.whole_word.ensures (same g) d.deposit-bits.ensures,
       g.rank-bits-for-chunk.ensures.parted,
@@ -185,8 +185,8 @@ returns c =
       l.inv.1.composed ∙ ap (λ (k : ℕ). laid (a.to * 64) (compose (view a.start (k * 64) ws) r) a.out.now) all,
     )
 
-pub gather-words-spec : {M : Type 1} → statement M
-gather-words-spec =
+pub gather_words_spec : {M : Type 1} → statement M
+gather_words_spec =
     tie.close
     (tie.spec
     invariant-loop

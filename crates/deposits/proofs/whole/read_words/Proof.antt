@@ -10,19 +10,19 @@ use lib.Seq.{drop-drop}
 use lib.Count.{ones}
 use Rattle.rows.specs.Rows.{count, compose}
 use Rattle.rows.specs.Word.{bits_of, word_of}
-use Rattle.rows.specs.Words.{fit, bitsOfAll, view}
+use Rattle.rows.specs.Words.{fit, bits_of_all, view}
 use Rattle.rows.specs.Laid.{laid}
 use Rattle.rows.proofs.WordsLaws.{fit_length}
 use Rattle.rows.proofs.LaidLaws.{below_all}
-use Rattle.deposits.proofs.DepositLaws.{read_same, chunk-few}
-use Rattle.deposits.proofs.WholeLaws.{Stored, stored-none, stored-word}
+use Rattle.deposits.proofs.DepositLaws.{read_same, chunk_few}
+use Rattle.deposits.proofs.WholeLaws.{Stored, stored_none, stored_word}
 use borrow.Author.Rules.{rules}
 use Rattle.deposits.proofs.whole.read_words.Statement.{statement}
 use Rattle.deposits.proofs.whole.read_words.Tie as tie
 
 abbrev invariant-loop : tie.invariant-loop
 invariant-loop way words start n ranks from to out₀ i₀ rank₀ out i rank =
-    (i ≤ n) × Stored start to words out₀ (drop from (bitsOfAll 64 ranks)) i rank.0 out
+    (i ≤ n) × Stored start to words out₀ (drop from (bits_of_all 64 ranks)) i rank.0 out
 
 abbrev decreases-loop : tie.decreases-loop
 decreases-loop way words start n ranks from to out₀ i₀ rank₀ out i rank = n - i
@@ -61,7 +61,7 @@ module _ (c : tie.In-loop invariant-loop decreases-loop) where
 
   -- the rank bits
   abbrev r : List Bool
-  r = drop (start c).args.from (bitsOfAll 64 (start c).args.ranks.now)
+  r = drop (start c).args.from (bits_of_all 64 (start c).args.ranks.now)
 
   abbrev i : ℕ
   i = (head c).loop.i
@@ -70,7 +70,7 @@ module _ (c : tie.In-loop invariant-loop decreases-loop) where
   passed = count (view (start c).args.start (i * 64) ws)
 
   abbrev rows : List Bool
-  rows = drop ((start c).args.start + i * 64) (bitsOfAll 64 ws)
+  rows = drop ((start c).args.start + i * 64) (bits_of_all 64 ws)
 
   abbrev word : List Bool
   word = fit 64 rows
@@ -79,7 +79,7 @@ module _ (c : tie.In-loop invariant-loop decreases-loop) where
   reach = omega (arith, (start c).requires.0.2)
 
 few : (c : tie.After-whole-word invariant-loop decreases-loop) → ones c.whole_word.result ≤ 64
-few c = omega (arith, ap ones c.whole_word.ensures, chunk-few 64 (rows (turn c)))
+few c = omega (arith, ap ones c.whole_word.ensures, chunk_few 64 (rows (turn c)))
 
 -- the rank bits that were read are those of its ranks
 module _ (c : tie.After-rank-bits invariant-loop decreases-loop) where
@@ -90,7 +90,7 @@ module _ (c : tie.After-rank-bits invariant-loop decreases-loop) where
   same =
       let a = (start here).args in
       let rank : ℕ = (head here).loop.rank.0 in
-      let bits = ap (λ (z : List Bool). word_of (fit 64 z)) (sym (drop-drop rank a.from (bitsOfAll 64 a.ranks.now))) in
+      let bits = ap (λ (z : List Bool). word_of (fit 64 z)) (sym (drop-drop rank a.from (bits_of_all 64 a.ranks.now))) in
       ap (λ (x : ℕ). compose (word here) (bits_of 64 x)) (c.rank-bits.ensures ∙ bits)
       ∙ read_same (word here) (drop rank (r here)) (omega (arith, fit_length 64 (rows here)))
       ∙ ap (λ (k : ℕ). compose (word here) (drop k (r here))) (head here).loop.inv.1.counted
@@ -101,7 +101,7 @@ loop-holds : tie.Need-loop-init invariant-loop decreases-loop
 loop-holds c =
     let a = (entry c).args in
     let out = a.out.now in
-    (omega arith, stored-none a.start a.to a.words.now out _ (below_all (2 ^ 64) out (λ i. (c.slice-known.given i).fits)))
+    (omega arith, stored_none a.start a.to a.words.now out _ (below_all (2 ^ 64) out (λ i. (c.slice-known.given i).fits)))
 
 whole-word-requires : tie.Need-whole-word-requires invariant-loop decreases-loop
 whole-word-requires c κs = ((start c).requires.0.1, omega (arith, (start c).requires.0.2))
@@ -148,7 +148,7 @@ loop-again c =
     let a = (start t).args in
     let l = (head t).loop in (
       omega arith,
-      stored-word a.start l.i a.to (ws t) a.out.now (r t) (reach t)
+      stored_word a.start l.i a.to (ws t) a.out.now (r t) (reach t)
           l.rank.0 m.whole_word.result g.rank-bits.result d.deposit-bits.result l.out
           l.inv.1 m.whole_word.ensures (same g) d.deposit-bits.ensures,
     )
@@ -161,14 +161,14 @@ returns c =
     let l = (last c).loop in
     let a = (entry (last c).before).args in
     let ws = a.words.now in
-    let r = drop a.from (bitsOfAll 64 a.ranks.now) in
+    let r = drop a.from (bits_of_all 64 a.ranks.now) in
     let all : l.i ≡ a.n = omega arith in (
       l.inv.1.counted ∙ ap (λ (k : ℕ). count (view a.start (k * 64) ws)) all,
       l.inv.1.composed ∙ ap (λ (k : ℕ). laid (a.to * 64) (compose (view a.start (k * 64) ws) r) a.out.now) all,
     )
 
-pub read-words-spec : {M : Type 1} → statement M
-read-words-spec =
+pub read_words_spec : {M : Type 1} → statement M
+read_words_spec =
     tie.close
     (tie.spec
     invariant-loop

@@ -6,10 +6,10 @@ use mathlib.Core.Path.{◌≡◌, sym, ◌∙◌}
 use mathlib.Core.Bool.{true, false}
 use borrow.Author.Rules.{rules}
 use Rattle.rules.specs.Operand.{Operand, lent}
-use Rattle.rules.proofs.OperandLaws.{accepted-limit}
-use Rattle.operand.specs.Flat.{hasRowNumbers, hasRuns, Flat}
-use Rattle.operand.proofs.FlatLaws.{accepted-flat}
-use Rattle.extracts.proofs.WalkLaws.{list-told, runs-told, flat-told, list-came, runs-came}
+use Rattle.rules.proofs.OperandLaws.{accepted_limit}
+use Rattle.operand.specs.Flat.{has_row_numbers, has_runs, Flat}
+use Rattle.operand.proofs.FlatLaws.{accepted_flat}
+use Rattle.extracts.proofs.WalkLaws.{list_told, runs_told_lem, flat_told, list_came, runs_came}
 use Rattle.extracts.proofs.chunks.rows_in_chunk.Statement.{statement}
 use Rattle.extracts.proofs.chunks.rows_in_chunk.Tie as tie
 
@@ -28,24 +28,24 @@ module _ (c : tie.Start) where
   o = lent c.args.form c.args.words.now c.args.numbers.now
 
   far : c.args.row.0 + c.args.n < 2 ^ 64
-  far = omega (arith, accepted-limit o c.requires.0, c.requires.2)
+  far = omega (arith, accepted_limit o c.requires.0, c.requires.2)
 
-listed : (c : tie.Then1) → hasRowNumbers (start c.before).args.form ≡ true
+listed : (c : tie.Then1) → has_row_numbers (start c.before).args.form ≡ true
 listed c = sym c.before.has-row-numbers.ensures ∙ c.if1.true
 
-unlisted : (c : tie.Else1) → hasRowNumbers (start c.before).args.form ≡ false
+unlisted : (c : tie.Else1) → has_row_numbers (start c.before).args.form ≡ false
 unlisted c = sym c.before.has-row-numbers.ensures ∙ c.if1.false
 
-in-runs : (c : tie.Then2) → hasRuns (start (other c.before)).args.form ≡ true
-in-runs c = sym c.before.has-runs.ensures ∙ c.if2.true
+in_runs_lem : (c : tie.Then2) → has_runs (start (other c.before)).args.form ≡ true
+in_runs_lem c = sym c.before.has-runs.ensures ∙ c.if2.true
 
-no-runs : (c : tie.Else2) → hasRuns (start (other c.before)).args.form ≡ false
-no-runs c = sym c.before.has-runs.ensures ∙ c.if2.false
+no_runs_lem : (c : tie.Else2) → has_runs (start (other c.before)).args.form ≡ false
+no_runs_lem c = sym c.before.has-runs.ensures ∙ c.if2.false
 
 read : (c : tie.Else2) → Flat (o (start (other c.before)))
 read c =
     let s = start (other c.before) in
-    accepted-flat (o s) (unlisted c.before.before) (no-runs c) s.pre.0
+    accepted_flat (o s) (unlisted c.before.before) (no_runs_lem c) s.pre.0
 
 -- ---- the answers
 
@@ -56,14 +56,14 @@ entry-bits-requires : tie.Need-entry-bits-requires
 entry-bits-requires c κs =
     let s = start c.before in
     let a = s.args in
-    (omega (arith, s.pre.1), far s, list-came (o s) a.next a.row.0 (listed c) s.pre.3)
+    (omega (arith, s.pre.1), far s, list_came (o s) a.next a.row.0 (listed c) s.pre.3)
 
 returns : tie.Need-returns
 returns c =
     let t = c.before in
     let s = start t.before in
     let a = s.args in
-    list-told (o s) a.row.0 a.n s.pre.2 _ _ (listed t) c.entry-bits.ensures
+    list_told (o s) a.row.0 a.n s.pre.2 _ _ (listed t) c.entry-bits.ensures
 
 has-runs-requires : tie.Need-has-runs-requires
 has-runs-requires c κs = search rules
@@ -72,7 +72,7 @@ run-bits-requires : tie.Need-run-bits-requires
 run-bits-requires c κs =
     let s = start (other c.before) in
     let a = s.args in
-    (s.pre.1.1, far s, runs-came (o s) a.next a.row.0 (in-runs c) s.pre.3)
+    (s.pre.1.1, far s, runs_came (o s) a.next a.row.0 (in_runs_lem c) s.pre.3)
 
 returns-2 : tie.Need-returns-2
 returns-2 c =
@@ -80,7 +80,7 @@ returns-2 c =
     let s = start (other t.before) in
     let a = s.args in
     let e = c.run-bits.ensures in
-    runs-told (o s) a.row.0 a.n s.pre.2 _ _ (in-runs t) e.0 e.1
+    runs_told_lem (o s) a.row.0 a.n s.pre.2 _ _ (in_runs_lem t) e.0 e.1
 
 chunk-of-requires : tie.Need-chunk-of-requires
 chunk-of-requires c κs =
@@ -92,10 +92,10 @@ returns-3 c =
     let t = c.before in
     let s = start (other t.before) in
     let a = s.args in
-    flat-told (o s) a.row.0 a.n s.pre.2 _ _ (unlisted t.before.before) (no-runs t) (read t) c.Chunk-of.ensures
+    flat_told (o s) a.row.0 a.n s.pre.2 _ _ (unlisted t.before.before) (no_runs_lem t) (read t) c.Chunk-of.ensures
 
-pub rows-in-chunk-spec : {M : Type 1} → statement M
-rows-in-chunk-spec =
+pub rows_in_chunk_spec : {M : Type 1} → statement M
+rows_in_chunk_spec =
     tie.close
     (tie.spec
     has-row-numbers-requires

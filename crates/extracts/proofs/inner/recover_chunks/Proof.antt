@@ -9,15 +9,15 @@ use lib.Count.{ones}
 use lib.ListN.{length, take, drop, length-take}
 use borrow.Author.Rules.{rules}
 use Rattle.rows.specs.Rows.{count}
-use Rattle.rows.proofs.RowLaws.{count-take-le}
-use Rattle.rows.proofs.WordLaws.{ones-word}
+use Rattle.rows.proofs.RowLaws.{count_take_le}
+use Rattle.rows.proofs.WordLaws.{ones_word}
 use Rattle.rows.proofs.LaidLaws.{below_all}
 use Rattle.rules.specs.Operand.{Operand, lent, rows_of, length_of}
-use Rattle.rules.proofs.OperandLaws.{accepted-length, accepted-count, accepted-limit}
+use Rattle.rules.proofs.OperandLaws.{accepted_length, accepted_count, accepted_limit}
 use Rattle.extracts.specs.Walk.{Came}
 use Rattle.extracts.specs.Stored.{Stored}
-use Rattle.extracts.proofs.WalkLaws.{came-first}
-use Rattle.extracts.proofs.ExtractLaws.{Extracting, extracting-none, extracting-chunk, extracting-room, extracting-end}
+use Rattle.extracts.proofs.WalkLaws.{came_first}
+use Rattle.extracts.proofs.ExtractLaws.{Extracting, extracting_none, extracting_chunk, extracting_room, extracting_end}
 use Rattle.extracts.proofs.inner.recover_chunks.Statement.{statement}
 use Rattle.extracts.proofs.inner.recover_chunks.Tie as tie
 
@@ -73,11 +73,11 @@ module _ (c : tie.Start invariant-loop decreases-loop) where
   abbrev k : List Bool
   k = rows_of other
 
-  s-long : length s ≡ length_of c.args.s
-  s-long = accepted-length self c.requires.0
+  s_long : length s ≡ length_of c.args.s
+  s_long = accepted_length self c.requires.0
 
   same : length k ≡ length s
-  same = accepted-length other c.requires.1 ∙ c.requires.2 ∙ sym s-long
+  same = accepted_length other c.requires.1 ∙ c.requires.2 ∙ sym s_long
 
 -- ---- a turn: its row, how many rows it has, and what is known of them
 
@@ -107,13 +107,13 @@ module _ (c : tie.After-rows-in-chunk2 invariant-loop decreases-loop) where
   t = turn (masked c)
 
   few : ones (masked c).rows-in-chunk.result.bits ≡ count (take (n t) (drop (row t) (s (begun t))))
-  few = ap ones (masked c).rows-in-chunk.ensures.0 ∙ ones-word (take (n t) (drop (row t) (s (begun t))))
+  few = ap ones (masked c).rows-in-chunk.ensures.0 ∙ ones_word (take (n t) (drop (row t) (s (begun t))))
 
   room : (at_head t).loop.rank.0 + ones (masked c).rows-in-chunk.result.bits ≤ count (s (begun t))
   room =
       let l = (at_head t).loop in
       let b = begun t in
-      omega (arith, few, extracting-room (s b) (k b) b.args.at (same b) (row t) l.rank.0 b.args.out.now l.out l.inv.3 (n t))
+      omega (arith, few, extracting_room (s b) (k b) b.args.at (same b) (row t) l.rank.0 b.args.out.now l.out l.inv.3 (n t))
 
 -- ---- the answers
 
@@ -130,7 +130,7 @@ loop-holds c =
     let b = entry c in
     let out = b.args.out.now in
     let known = below_all (2 ^ 64) out (λ i. (c.before.slice-known.given i).fits) in
-    (omega arith, came-first (self b) b.pre.0, came-first (other b) b.pre.1, extracting-none (s b) (k b) b.args.at out known (omega (arith, accepted-count (self b) b.pre.0, b.pre.4.0)))
+    (omega arith, came_first (self b) b.pre.0, came_first (other b) b.pre.1, extracting_none (s b) (k b) b.args.at out known (omega (arith, accepted_count (self b) b.pre.0, b.pre.4.0)))
 
 chunk-len-requires : tie.Need-chunk-len-requires invariant-loop decreases-loop
 chunk-len-requires c κs = omega arith
@@ -151,7 +151,7 @@ cast-store-ranks : tie.Need-overflow-cast-store-ranks invariant-loop decreases-l
 cast-store-ranks c =
     let m = gathered c in
     let h = t m in
-    omega (arith, few m, count-take-le (n h) (drop (row h) (s (begun h))), sized h)
+    omega (arith, few m, count_take_le (n h) (drop (row h) (s (begun h))), sized h)
 
 store-ranks-requires : tie.Need-store-ranks-requires invariant-loop decreases-loop
 store-ranks-requires c κs =
@@ -159,8 +159,8 @@ store-ranks-requires c κs =
     let h = t m in
     let b = begun h in
     let p = b.pre in
-    let counted = accepted-count (self b) p.0 in (
-      omega (arith, few m, count-take-le (n h) (drop (row h) (s b)), sized h),
+    let counted = accepted_count (self b) p.0 in (
+      omega (arith, few m, count_take_le (n h) (drop (row h) (s b)), sized h),
       omega (arith, room m, counted, p.3),
       omega (arith, p.3, p.4.0, (at_head h).loop.inv.3.progress.long),
       omega (arith, p.3, p.4.1),
@@ -169,7 +169,7 @@ store-ranks-requires c κs =
 add-below : tie.Need-overflow-add-below invariant-loop decreases-loop
 add-below c =
     let h = t (gathered (taken (ended c))) in
-    omega (arith, sized h, accepted-limit (self (begun h)) (begun h).pre.0)
+    omega (arith, sized h, accepted_limit (self (begun h)) (begun h).pre.0)
 
 loop-less : tie.Need-loop-smaller invariant-loop decreases-loop
 loop-less c =
@@ -187,11 +187,11 @@ loop-again c =
     let own = (masked m).rows-in-chunk in
     let his = m.rows-in-chunk2 in
     let end : b.args.at + b.args.set ≡ b.args.at + count (s b) =
-    ap (λ (x : ℕ). b.args.at + x) (b.pre.3 ∙ sym (accepted-count (self b) b.pre.0)) in (
+    ap (λ (x : ℕ). b.args.at + x) (b.pre.3 ∙ sym (accepted_count (self b) b.pre.0)) in (
       omega (arith, sized h, long h),
       own.ensures.1,
       his.ensures.1,
-      extracting-chunk (s b) (k b) b.args.at (same b) (row h) l.rank.0 b.args.out.now l.out l.inv.3 (n h) (sized h).1
+      extracting_chunk (s b) (k b) b.args.at (same b) (row h) l.rank.0 b.args.out.now l.out l.inv.3 (n h) (sized h).1
           (b.args.at + b.args.set) own.result.bits his.result.bits _ end own.ensures.0 his.ensures.0
           (subst (λ (y : ℕ). Stored (b.args.at + l.rank.0) (b.args.at + b.args.set) (ones own.result.bits) y l.out p.store-ranks.last.1.1.1.1.1.0)
           x.extract-bits.ensures p.store-ranks.ensures.1) _ p.store-ranks.ensures.0,
@@ -204,11 +204,11 @@ returns : tie.Need-returns invariant-loop decreases-loop
 returns c =
     let l = (last c).loop in
     let b = entry (last c).before in
-    extracting-end (s b) (k b) b.args.at (same b) l.row.0 l.rank.0 b.args.out.now l.out l.inv.3
-    (omega (arith, s-long b, (last c).before.length-of.ensures))
+    extracting_end (s b) (k b) b.args.at (same b) l.row.0 l.rank.0 b.args.out.now l.out l.inv.3
+    (omega (arith, s_long b, (last c).before.length-of.ensures))
 
-pub recover-chunks-spec : {M : Type 1} → statement M
-recover-chunks-spec =
+pub recover_chunks_spec : {M : Type 1} → statement M
+recover_chunks_spec =
     tie.close
     (tie.spec
     invariant-loop

@@ -12,13 +12,13 @@ use borrow.Author.Rules.{rules}
 use Rattle.rows.specs.Rows.{count}
 use Rattle.rows.specs.Word.{word_of}
 use Rattle.rows.specs.Words.{view}
-use Rattle.rows.proofs.RowLaws.{count-take-le}
-use Rattle.rows.proofs.WordLaws.{ones-word}
-use Rattle.rows.proofs.WordsLaws.{view-length}
-use Rattle.rows.proofs.PartLaws.{view-chunk}
+use Rattle.rows.proofs.RowLaws.{count_take_le}
+use Rattle.rows.proofs.WordLaws.{ones_word}
+use Rattle.rows.proofs.WordsLaws.{view_length}
+use Rattle.rows.proofs.PartLaws.{view_chunk}
 use Rattle.rows.proofs.LaidLaws.{below_all}
 use Rattle.extracts.specs.Stored.{Stored}
-use Rattle.extracts.proofs.ExtractLaws.{Extracting, extracting-none, extracting-chunk, extracting-room, extracting-end}
+use Rattle.extracts.proofs.ExtractLaws.{Extracting, extracting_none, extracting_chunk, extracting_room, extracting_end}
 use Rattle.extracts.proofs.inner.recover_words.Statement.{statement}
 use Rattle.extracts.proofs.inner.recover_words.Tie as tie
 
@@ -61,11 +61,11 @@ module _ (c : tie.Start invariant-loop decreases-loop) where
   abbrev k : List Bool
   k = view c.args.from c.args.len c.args.kept.now
 
-  s-long : length s ≡ c.args.len
-  s-long = view-length c.args.start c.args.len c.args.words.now c.requires.0.2
+  s_long : length s ≡ c.args.len
+  s_long = view_length c.args.start c.args.len c.args.words.now c.requires.0.2
 
   same : length k ≡ length s
-  same = view-length c.args.from c.args.len c.args.kept.now c.requires.1.2 ∙ sym s-long
+  same = view_length c.args.from c.args.len c.args.kept.now c.requires.1.2 ∙ sym s_long
 
   end : c.args.at + c.args.set ≡ c.args.at + count s
   end = ap (λ (n : ℕ). c.args.at + n) c.requires.2
@@ -77,16 +77,16 @@ module _ (h : tie.At-loop invariant-loop decreases-loop) (row n mask : ℕ) (few
   abbrev b : tie.Start invariant-loop decreases-loop
   b = entry h.before
 
-  set-ones : ones mask ≡ count (take n (drop row (s b)))
-  set-ones = ap ones m ∙ ones-word (take n (drop row (s b)))
+  set_ones : ones mask ≡ count (take n (drop row (s b)))
+  set_ones = ap ones m ∙ ones_word (take n (drop row (s b)))
 
   asks : (ones mask ≤ 64) × (b.args.at + h.loop.rank.0 + ones mask ≤ b.args.at + b.args.set)
       × (b.args.at + b.args.set ≤ length h.loop.out * 64) × (b.args.at + b.args.set < 2 ^ 64)
   asks =
-      let room = extracting-room (s b) (k b) b.args.at (same b) row h.loop.rank.0 b.args.out.now h.loop.out r n in
+      let room = extracting_room (s b) (k b) b.args.at (same b) row h.loop.rank.0 b.args.out.now h.loop.out r n in
       let p = b.pre in (
-        omega (arith, set-ones, count-take-le n (drop row (s b))),
-        omega (arith, set-ones, room, p.2),
+        omega (arith, set_ones, count_take_le n (drop row (s b))),
+        omega (arith, set_ones, room, p.2),
         omega (arith, p.2, p.3.0, r.progress.long),
         omega (arith, p.2, p.3.1),
       )
@@ -124,31 +124,31 @@ own : (c : tie.After-whole-word invariant-loop decreases-loop) → let t = c.bef
 own c =
     let t = c.before in
     let a = (begun t).args in
-    c.whole_word.ensures ∙ view-chunk a.start (i t * 64) 64 a.len a.words.now (whole t) (begun t).requires.0.2
+    c.whole_word.ensures ∙ view_chunk a.start (i t * 64) 64 a.len a.words.now (whole t) (begun t).requires.0.2
 
 his : (c : tie.After-whole-word2 invariant-loop decreases-loop) → let t = turn c in c.whole-word2.result ≡ word_of (take 64 (drop (i t * 64) (k (begun t))))
 his c =
     let t = turn c in
     let a = (begun t).args in
-    c.whole-word2.ensures ∙ view-chunk a.from (i t * 64) 64 a.len a.kept.now (whole t) (begun t).pre.1.2
+    c.whole-word2.ensures ∙ view_chunk a.from (i t * 64) 64 a.len a.kept.now (whole t) (begun t).pre.1.2
 
-own-rest : (c : tie.After-self-bits invariant-loop decreases-loop) → let e = c.before in c.self-bits.result ≡ word_of (take (left e) (drop ((bb e).args.len - left e) (s (bb e))))
-own-rest c =
+own_rest : (c : tie.After-self-bits invariant-loop decreases-loop) → let e = c.before in c.self-bits.result ≡ word_of (take (left e) (drop ((bb e).args.len - left e) (s (bb e))))
+own_rest c =
     let e = c.before in
     let a = (bb e).args in
-    c.self-bits.ensures ∙ view-chunk a.start (a.len - left e) (left e) a.len a.words.now (omega arith) (bb e).requires.0.2
+    c.self-bits.ensures ∙ view_chunk a.start (a.len - left e) (left e) a.len a.words.now (omega arith) (bb e).requires.0.2
 
-his-rest : (c : tie.After-self-bits2 invariant-loop decreases-loop) → let e = c.before.before in c.self-bits2.result ≡ word_of (take (left e) (drop ((bb e).args.len - left e) (k (bb e))))
-his-rest c =
+his_rest : (c : tie.After-self-bits2 invariant-loop decreases-loop) → let e = c.before.before in c.self-bits2.result ≡ word_of (take (left e) (drop ((bb e).args.len - left e) (k (bb e))))
+his_rest c =
     let e = c.before.before in
     let a = (bb e).args in
-    c.self-bits2.ensures ∙ view-chunk a.from (a.len - left e) (left e) a.len a.kept.now (omega arith) (bb e).requires.1.2
+    c.self-bits2.ensures ∙ view_chunk a.from (a.len - left e) (left e) a.len a.kept.now (omega arith) (bb e).requires.1.2
 
 -- what storing their ranks asks
-asks-here : (c : tie.After-extract-bits invariant-loop decreases-loop) → let t = turn c.before in let b = begun t in let m = c.before.before.whole_word.result in
+asks_here : (c : tie.After-extract-bits invariant-loop decreases-loop) → let t = turn c.before in let b = begun t in let m = c.before.before.whole_word.result in
     (ones m ≤ 64) × (b.args.at + (at_head t).loop.rank.0 + ones m ≤ b.args.at + b.args.set)
     × (b.args.at + b.args.set ≤ length (at_head t).loop.out * 64) × (b.args.at + b.args.set < 2 ^ 64)
-asks-here c =
+asks_here c =
     let m = c.before in
     let t = turn m in
     asks (at_head t) (i t * 64) 64 m.before.whole_word.result (omega arith) (own m.before) (at_head t).loop.inv.1
@@ -159,7 +159,7 @@ asks_rest : (c : tie.After-extract-bits2 invariant-loop decreases-loop) → let 
 asks_rest c =
     let m = c.before in
     let e = m.before.before in
-    asks (last e) ((bb e).args.len - left e) (left e) m.before.self-bits.result (omega arith) (own-rest m.before) (progress e)
+    asks (last e) ((bb e).args.len - left e) (left e) m.before.self-bits.result (omega arith) (own_rest m.before) (progress e)
 
 -- ---- the answers
 
@@ -173,7 +173,7 @@ loop-holds c =
     let b = entry c in
     let out = b.args.out.now in
     let known = below_all (2 ^ 64) out (λ j. (c.slice-known.given j).fits) in
-    (omega arith, extracting-none (s b) (k b) b.args.at out known b.pre.3.0)
+    (omega arith, extracting_none (s b) (k b) b.args.at out known b.pre.3.0)
 
 whole-word-requires : tie.Need-whole-word-requires invariant-loop decreases-loop
 whole-word-requires c κs =
@@ -190,10 +190,10 @@ extract-bits-requires : tie.Need-extract-bits-requires invariant-loop decreases-
 extract-bits-requires c κs = refl
 
 cast-store-ranks : tie.Need-overflow-cast-store-ranks invariant-loop decreases-loop
-cast-store-ranks c = omega (arith, (asks-here c).0)
+cast-store-ranks c = omega (arith, (asks_here c).0)
 
 store-ranks-requires : tie.Need-store-ranks-requires invariant-loop decreases-loop
-store-ranks-requires c κs = asks-here c.before
+store-ranks-requires c κs = asks_here c.before
 
 add-i : tie.Need-overflow-add-i invariant-loop decreases-loop
 add-i c = omega arith
@@ -212,7 +212,7 @@ loop-again c =
     let next : i t * 64 + 64 ≡ (i t + 1) * 64 = omega arith in (
       omega arith,
       subst (λ (x : ℕ). Extracting (s b) (k b) b.args.at x p.store-ranks.result.0 b.args.out.now p.store-ranks.last.1.1.1.1.1.0) next
-          (extracting-chunk (s b) (k b) b.args.at (same b) (i t * 64) l.rank.0 b.args.out.now l.out l.inv.1 64 (omega arith)
+          (extracting_chunk (s b) (k b) b.args.at (same b) (i t * 64) l.rank.0 b.args.out.now l.out l.inv.1 64 (omega arith)
           (b.args.at + b.args.set) m.before.whole_word.result m.whole-word2.result _ (end b) (own m.before) (his m)
           (subst (λ (y : ℕ). Stored (b.args.at + l.rank.0) (b.args.at + b.args.set) (ones m.before.whole_word.result) y l.out
           p.store-ranks.last.1.1.1.1.1.0) x.extract-bits.ensures p.store-ranks.ensures.1) p.store-ranks.result.0 p.store-ranks.ensures.0),
@@ -226,8 +226,8 @@ returns c =
     let h = c.before.before in
     let l = h.loop in
     let b = entry h.before in
-    extracting-end (s b) (k b) b.args.at (same b) (l.i * 64) l.rank.0 b.args.out.now l.out l.invariant.1
-    (omega (arith, s-long b, l.invariant.0, c.if1.true))
+    extracting_end (s b) (k b) b.args.at (same b) (l.i * 64) l.rank.0 b.args.out.now l.out l.invariant.1
+    (omega (arith, s_long b, l.invariant.0, c.if1.true))
 
 sub-below : tie.Need-overflow-sub-below invariant-loop decreases-loop
 sub-below c = search rules
@@ -260,15 +260,15 @@ returns-2 c =
     let after = p.store-ranks2.new.1.1.1.1.1.0 in
     let l = (last e).loop in
     let done =
-    extracting-chunk (s b) (k b) b.args.at (same b) (b.args.len - left e) l.rank.0 b.args.out.now l.out (progress e) (left e) (omega arith)
-    (b.args.at + b.args.set) m.before.self-bits.result m.self-bits2.result after (end b) (own-rest m.before) (his-rest m)
+    extracting_chunk (s b) (k b) b.args.at (same b) (b.args.len - left e) l.rank.0 b.args.out.now l.out (progress e) (left e) (omega arith)
+    (b.args.at + b.args.set) m.before.self-bits.result m.self-bits2.result after (end b) (own_rest m.before) (his_rest m)
     (subst (λ (y : ℕ). Stored (b.args.at + l.rank.0) (b.args.at + b.args.set) (ones m.before.self-bits.result) y l.out after)
     x.extract-bits2.ensures p.store-ranks2.ensures.1) p.store-ranks2.result.0 p.store-ranks2.ensures.0 in
-    extracting-end (s b) (k b) b.args.at (same b) (b.args.len - left e + left e) p.store-ranks2.result.0 b.args.out.now after done
-    (omega (arith, s-long b))
+    extracting_end (s b) (k b) b.args.at (same b) (b.args.len - left e + left e) p.store-ranks2.result.0 b.args.out.now after done
+    (omega (arith, s_long b))
 
-pub recover-words-spec : {M : Type 1} → statement M
-recover-words-spec =
+pub recover_words_spec : {M : Type 1} → statement M
+recover_words_spec =
     tie.close
     (tie.spec
     invariant-loop

@@ -9,7 +9,7 @@ use lib.ListN.{length, set}
 use borrow.Author.Rules.{rules}
 use Rattle.rows.specs.Word.{bits_of}
 use Rattle.rows.specs.Laid.{laid}
-use Rattle.extracts.proofs.OverLaws.{stored-over}
+use Rattle.extracts.proofs.OverLaws.{stored_over}
 use Rattle.extracts.proofs.stores.put_over.Statement.{statement}
 use Rattle.extracts.proofs.stores.put_over.Tie as tie
 
@@ -54,7 +54,7 @@ returns : tie.Need-returns
 returns c =
     let t = stored c in
     let a = (start (asked t)).args in
-    stored-over a.out.now _ a.place a.bits (start (asked t)).ranges.bits.fits t.put.ensures
+    stored_over a.out.now _ a.place a.bits (start (asked t)).ranges.bits.fits t.put.ensures
 
-pub put-over-spec : {M : Type 1} → statement M
-put-over-spec = tie.close (tie.spec sub-put put-requires add-next sub_out shr-out mul-out slice-write-out same_length returns)
+pub put_over_spec : {M : Type 1} → statement M
+put_over_spec = tie.close (tie.spec sub-put put-requires add-next sub_out shr-out mul-out slice-write-out same_length returns)

@@ -87,8 +87,8 @@ returns-3 c =
     let t = w.before.before.before.before in
     (refl, record { many = (a t).args.n; enough = omega arith; within = (a t).pre.1; lies = w.put-ranks.ensures })
 
-pub store-ranks-spec : {M : Type 1} → statement M
-store-ranks-spec =
+pub store_ranks_spec : {M : Type 1} → statement M
+store_ranks_spec =
     tie.close
     (tie.spec
     add-past

@@ -3,7 +3,7 @@
 use mathlib.Core.Path.{ap, ◌∙◌}
 use borrow.Author.Rules.{rules}
 use Rattle.rows.specs.Rows.{count}
-use Rattle.in_runs.proofs.CountLaws.{view-later}
+use Rattle.in_runs.proofs.CountLaws.{view_later}
 use Rattle.in_runs.proofs.counts.count_from.Statement.{statement}
 use Rattle.in_runs.proofs.counts.count_from.Tie as tie
 
@@ -25,7 +25,7 @@ count-view-requires c κs = search rules
 returns : tie.Need-returns
 returns c =
     let a = c.before.before.before.args in
-    c.count-view.ensures ∙ ap count (view-later a.bit a.n a.words.now)
+    c.count-view.ensures ∙ ap count (view_later a.bit a.n a.words.now)
 
-pub count-from-spec : {M : Type 1} → statement M
-count-from-spec = tie.close (tie.spec mul-count-view sub-count-view part-count-view-start part-count-view-end count-view-requires returns)
+pub count_from_spec : {M : Type 1} → statement M
+count_from_spec = tie.close (tie.spec mul-count-view sub-count-view part-count-view-start part-count-view-end count-view-requires returns)

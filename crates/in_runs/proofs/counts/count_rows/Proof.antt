@@ -11,7 +11,7 @@ use Rattle.rows.specs.Asks.{InView}
 use Rattle.rules.specs.declared.Form.{Form}
 use Rattle.rules.specs.Operand.{lent, rows_of, length_of}
 use Rattle.operand.specs.Flat.{Flat}
-use Rattle.in_runs.proofs.CountLaws.{all-count, none-count}
+use Rattle.in_runs.proofs.CountLaws.{all_count, none_count}
 use Rattle.in_runs.proofs.UnderRunLaws.{read_under}
 use Rattle.in_runs.proofs.counts.count_rows.Statement.{statement}
 use Rattle.in_runs.proofs.counts.count_rows.Tie as tie
@@ -76,12 +76,12 @@ returns : tie.Need-returns
 returns c =
     let s = c.before.before.before in
     let e = c.enum_told.given.1 in
-    all-count s.args.row.0 s.args.n _ (asked s e).1 ∙ sym (ap (counted s) e)
+    all_count s.args.row.0 s.args.n _ (asked s e).1 ∙ sym (ap (counted s) e)
 
 returns-2 : tie.Need-returns-2
 returns-2 c =
     let s = c.before.before.before in
-    none-count s.args.row.0 s.args.n c.enum-told2.given.0.0 ∙ sym (ap (counted s) c.enum-told2.given.1)
+    none_count s.args.row.0 s.args.n c.enum-told2.given.0.0 ∙ sym (ap (counted s) c.enum-told2.given.1)
 
 returns-3 : tie.Need-returns-3
 returns-3 c =
@@ -96,8 +96,8 @@ returns-4 c = absurd (asked c.before.before.before c.enum-told3.given.1).0
 returns-5 : tie.Need-returns-5
 returns-5 c = absurd (asked c.before.before.before c.enum-told4.given.1).0
 
-pub count-rows-spec : {M : Type 1} → statement M
-count-rows-spec =
+pub count_rows_spec : {M : Type 1} → statement M
+count_rows_spec =
     tie.close
     (tie.spec
     enum_told

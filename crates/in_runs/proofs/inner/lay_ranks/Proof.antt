@@ -41,5 +41,5 @@ returns c =
     let set : r + a.unset + a.set - (r + a.unset) ≡ a.set = omega arith in
     (refl, (back c).lay-run.ensures ∙ ap₂ (λ (m n : ℕ). laid (a.at + r) (replicate m false ++ replicate n true) a.out.now) unset set)
 
-pub lay-ranks-spec : {M : Type 1} → statement M
-lay-ranks-spec = tie.close (tie.spec add-first add-past lay-run-requires same_length returns)
+pub lay_ranks_spec : {M : Type 1} → statement M
+lay_ranks_spec = tie.close (tie.spec add-first add-past lay-run-requires same_length returns)

@@ -11,12 +11,12 @@ use Rattle.rows.specs.Rows.{count}
 use Rattle.rows.proofs.LaidLaws.{below_all}
 use Rattle.rows.proofs.RunTurnLaws.{NextRun}
 use Rattle.rules.specs.Operand.{Operand, lent, rows_of, length_of, count_of}
-use Rattle.rules.proofs.OperandLaws.{accepted-length, accepted-count, accepted-limit, accepted-few}
+use Rattle.rules.proofs.OperandLaws.{accepted_length, accepted_count, accepted_limit, accepted_few}
 use Rattle.operand.proofs.NumberLaws.{list_count}
 use Rattle.extracts.specs.Walk.{Came}
-use Rattle.extracts.proofs.WalkLaws.{came-first, list-came}
-use Rattle.in_runs.proofs.SkipLaws.{came-behind}
-use Rattle.in_runs.proofs.FillLaws.{Filling, filling-none, filling-few, filling-next, filling-room, filling-run, filling-end, run-full}
+use Rattle.extracts.proofs.WalkLaws.{came_first, list_came}
+use Rattle.in_runs.proofs.SkipLaws.{came_behind}
+use Rattle.in_runs.proofs.FillLaws.{Filling, filling_none, filling_few, filling_next, filling_room, filling_run, filling_end, run_full}
 use Rattle.in_runs.proofs.inner.recover_runs.Statement.{statement}
 use Rattle.in_runs.proofs.inner.recover_runs.Tie as tie
 
@@ -72,10 +72,10 @@ module _ (c : tie.Start invariant-loop decreases-loop) where
   s = rows_of self
 
   long : length s ≡ length_of c.args.s
-  long = accepted-length self c.requires.0
+  long = accepted_length self c.requires.0
 
   counted : count s ≡ count_of self
-  counted = accepted-count self c.requires.0
+  counted = accepted_count self c.requires.0
 
 -- ---- a turn's run
 
@@ -99,13 +99,13 @@ module _ (c : tie.In-loop invariant-loop decreases-loop) where
   next =
       let l = (head c).loop in
       let a = b.args in
-      filling-next (s b) runs (length_of a.s) a.at (long b) row l.i l.rank.0 a.out.now l.out l.inv.1 (omega arith)
+      filling_next (s b) runs (length_of a.s) a.at (long b) row l.i l.rank.0 a.out.now l.out l.inv.1 (omega arith)
 
   full : count (take (past - first) (drop first (s b))) ≡ past - first
   full =
       let l = (head c).loop in
       let a = b.args in
-      run-full (s b) runs (length_of a.s) a.at (long b) row l.i l.rank.0 a.out.now l.out l.inv.1 b.pre.3 (omega arith)
+      run_full (s b) runs (length_of a.s) a.at (long b) row l.i l.rank.0 a.out.now l.out l.inv.1 b.pre.3 (omega arith)
 
 -- ---- what self has before it
 
@@ -120,7 +120,7 @@ module _ (c : tie.After-skip-rows invariant-loop decreases-loop) where
   room =
       let l = (head t).loop in
       let a = (b t).args in
-      filling-room (s (b t)) (runs t) (length_of a.s) a.at (long (b t)) (row t) l.i l.rank.0 a.out.now l.out l.inv.1
+      filling_room (s (b t)) (runs t) (length_of a.s) a.at (long (b t)) (row t) l.i l.rank.0 a.out.now l.out l.inv.1
       (b t).pre.3 (omega arith) set c.skip-rows.ensures.0
 
   -- the walk has come to the run
@@ -137,7 +137,7 @@ loop-holds c =
     let a = e.args in
     let out = a.out.now in
     let known = below_all (2 ^ 64) out (λ i. (c.slice-known.given i).fits) in
-    (came-first (self e) e.pre.0, filling-none (s e) a.runs.now (length_of a.s) a.at out e.pre.2 known)
+    (came_first (self e) e.pre.0, filling_none (s e) a.runs.now (length_of a.s) a.at out e.pre.2 known)
 
 mul-first : tie.Need-overflow-mul-first invariant-loop decreases-loop
 mul-first c = omega arith
@@ -185,8 +185,8 @@ skip-set-requires c κs = λ e.
     (let m = gone (written c) in
     let o = self (b (t m)) in
     let a = (b (t m)).pre.0 in
-    let within = (list-came o m.skip-rows.result.next (first (t m)) e (came m)).within in
-    omega (arith, within, list_count o e, accepted-few o a, accepted-limit o a, (next (t m)).within))
+    let within = (list_came o m.skip-rows.result.next (first (t m)) e (came m)).within in
+    omega (arith, within, list_count o e, accepted_few o a, accepted_limit o a, (next (t m)).within))
 
 add-i : tie.Need-overflow-add-i invariant-loop decreases-loop
 add-i c = omega (arith, (next (t (gone (back c)))).pair)
@@ -204,10 +204,10 @@ loop-again c =
     let o = self (b h) in
     let held : ℕ = past h - first h in
     let place : first h + held ≡ past h = omega (arith, r.some) in
-    let on = came-behind o (first h) held m.skip-rows.result.next (omega (arith, r.some, r.within)) (b h).pre.0 (full h) (came m) in
+    let on = came_behind o (first h) held m.skip-rows.result.next (omega (arith, r.some, r.within)) (b h).pre.0 (full h) (came m) in
     let e = (back c).lay-ranks.ensures in (
       subst (λ (x : ℕ). Came o c.skip-set.result x) place (subst (λ (j : ℕ). Came o j (first h + held)) (sym c.skip-set.ensures) on),
-      filling-run (s (b h)) (runs h) (length_of a.s) a.at (long (b h)) (row h) l.i l.rank.0 a.out.now l.out l.inv.1
+      filling_run (s (b h)) (runs h) (length_of a.s) a.at (long (b h)) (row h) l.i l.rank.0 a.out.now l.out l.inv.1
           (b h).pre.3 (omega arith) (set m) _ _ m.skip-rows.ensures.0 e.0 e.1,
     )
 
@@ -218,7 +218,7 @@ sub-left c =
     let l = h.loop in
     omega (
       arith,
-      filling-few (s (start h)) a.runs.now (length_of a.s) a.at (long (start h)) l.row.0 l.i l.rank.0 a.out.now l.out l.inv.1,
+      filling_few (s (start h)) a.runs.now (length_of a.s) a.at (long (start h)) l.row.0 l.i l.rank.0 a.out.now l.out l.inv.1,
       counted (start h),
       (start h).pre.1,
     )
@@ -240,11 +240,11 @@ returns c =
     let h = last k.before.before in
     let a = (start h).args in
     let l = h.loop in
-    filling-end (s (start h)) a.runs.now (length_of a.s) a.at (long (start h)) l.row.0 l.i l.rank.0 a.out.now l.out l.inv.1
+    filling_end (s (start h)) a.runs.now (length_of a.s) a.at (long (start h)) l.row.0 l.i l.rank.0 a.out.now l.out l.inv.1
     a.total _ (omega arith) ((start h).pre.1 ∙ sym (counted (start h))) k.clear-ranks.ensures
 
-pub recover-runs-spec : {M : Type 1} → statement M
-recover-runs-spec =
+pub recover_runs_spec : {M : Type 1} → statement M
+recover_runs_spec =
     tie.close
     (tie.spec
     invariant-loop

@@ -7,12 +7,12 @@ use mathlib.Core.List.{List}
 use native.Mathlib.Omega.{arith}
 use lib.ListN.{length, get_or}
 use Rattle.rows.specs.Words.{view}
-use Rattle.rows.specs.Runs.{runLengths}
+use Rattle.rows.specs.Runs.{run_lengths}
 use Rattle.rows.specs.Laid.{laid}
 use Rattle.rows.proofs.LaidLaws.{below_all}
 use Rattle.rows.proofs.RunTurnLaws.{NextRun}
-use Rattle.rows.proofs.WordsLaws.{view-length}
-use Rattle.in_runs.proofs.UnderRunLaws.{Taking, taking-none, taking-next, taking-room, taking-run, taking-end, read_under}
+use Rattle.rows.proofs.WordsLaws.{view_length}
+use Rattle.in_runs.proofs.UnderRunLaws.{Taking, taking_none, taking_next, taking_room, taking_run, taking_end, read_under}
 use Rattle.in_runs.proofs.inner.recover_under_runs.Statement.{statement}
 use Rattle.in_runs.proofs.inner.recover_under_runs.Tie as tie
 
@@ -49,7 +49,7 @@ module _ (s : tie.Start invariant-loop decreases-loop) where
   k = view s.args.from s.args.len s.args.kept.now
 
   long : length k ≡ s.args.len
-  long = view-length s.args.from s.args.len s.args.kept.now s.pre.1.2
+  long = view_length s.args.from s.args.len s.args.kept.now s.pre.1.2
 
 -- ---- a turn's run
 
@@ -70,13 +70,13 @@ module _ (c : tie.In-loop invariant-loop decreases-loop) where
   next =
       let l = (head c).loop in
       let a = s.args in
-      taking-next runs (k s) a.len a.at (long s) l.i l.rank a.out.now l.out l.inv (omega arith)
+      taking_next runs (k s) a.len a.at (long s) l.i l.rank a.out.now l.out l.inv (omega arith)
 
-  room : (head c).loop.rank + held ≤ runLengths runs
+  room : (head c).loop.rank + held ≤ run_lengths runs
   room =
       let l = (head c).loop in
       let a = s.args in
-      taking-room runs (k s) a.len a.at (long s) l.i l.rank a.out.now l.out l.inv (omega arith) s.pre.0
+      taking_room runs (k s) a.len a.at (long s) l.i l.rank a.out.now l.out l.inv (omega arith) s.pre.0
 
 -- ---- the answers
 
@@ -85,7 +85,7 @@ loop-holds c =
     let s = entry c in
     let a = s.args in
     let out = a.out.now in
-    taking-none a.runs.now (k s) a.len a.at out s.pre.0 (below_all (2 ^ 64) out (λ i. (c.slice-known.given i).fits))
+    taking_none a.runs.now (k s) a.len a.at out s.pre.0 (below_all (2 ^ 64) out (λ i. (c.slice-known.given i).fits))
 
 mul-first : tie.Need-overflow-mul-first invariant-loop decreases-loop
 mul-first c = omega arith
@@ -138,7 +138,7 @@ loop-again c =
     let a = (s t).args in
     let r = next t in
     let under = read_under a.from a.len (first t) (held t) a.kept.now (omega (arith, r.some, r.within)) in
-    taking-run (runs t) (k (s t)) a.len a.at (long (s t)) l.i l.rank a.out.now l.out l.inv (omega arith) _
+    taking_run (runs t) (k (s t)) a.len a.at (long (s t)) l.i l.rank a.out.now l.out l.inv (omega arith) _
     ((back c).copy-rows.ensures ∙ ap (λ (b : List Bool). laid (a.at + l.rank) b l.out) under)
 
 same_length : tie.Need-same-length invariant-loop decreases-loop
@@ -149,10 +149,10 @@ returns c =
     let h = c.before in
     let a = (start h).args in
     let l = h.loop in
-    taking-end a.runs.now (k (start h)) a.len a.at (long (start h)) l.i l.rank a.out.now l.out l.invariant (omega arith)
+    taking_end a.runs.now (k (start h)) a.len a.at (long (start h)) l.i l.rank a.out.now l.out l.invariant (omega arith)
 
-pub recover-under-runs-spec : {M : Type 1} → statement M
-recover-under-runs-spec =
+pub recover_under_runs_spec : {M : Type 1} → statement M
+recover_under_runs_spec =
     tie.close
     (tie.spec
     invariant-loop

@@ -8,7 +8,7 @@ use mathlib.Core.List.{List, []}
 use lib.ListN.{length, take, drop, get_or, drop_of_length-le}
 use Rattle.rows.specs.Words.{Below}
 use Rattle.books.specs.Gathers.{Climbs, Parted}
-use Rattle.books.proofs.GatherLaws.{climbs-at, climbs-past, climbs-from, below_next}
+use Rattle.books.proofs.GatherLaws.{climbs_at, climbs_past, climbs_from, below_next}
 use Rattle.in_runs.proofs.skips.skip_entries.Statement.{statement}
 use Rattle.in_runs.proofs.skips.skip_entries.Tie as tie
 
@@ -59,7 +59,7 @@ cast-entry c = omega (arith, c.shared-slice-known.given (j (head c)))
 returns : tie.Need-returns invariant-loop decreases-loop
 returns c =
     let h = turn c.before in
-    told h (climbs-past 0 h.before.args.end.0 (j h) (entries h) (omega arith) (omega arith) h.loop.inv.3)
+    told h (climbs_past 0 h.before.args.end.0 (j h) (entries h) (omega arith) (omega arith) h.loop.inv.3)
 
 add-j : tie.Need-overflow-add-j invariant-loop decreases-loop
 add-j c = omega arith
@@ -73,11 +73,11 @@ loop-again c =
     let l = h.loop in
     let end = h.before.args.end.0 in
     let e : ℕ = get_or (entries h) (j h) 0 in
-    let left = climbs-at 0 (j h) (entries h) (omega arith) l.inv.3 in (
+    let left = climbs_at 0 (j h) (entries h) (omega arith) l.inv.3 in (
       omega (arith, l.inv.0),
       omega arith,
       rw (add-one (j h)) (below_next end (j h) (entries h) (omega arith) l.inv.2 (omega arith)),
-      rw (add-one (j h)) (climbs-from 0 (suc e) (drop (suc (j h)) (entries h)) (omega arith) left.1),
+      rw (add-one (j h)) (climbs_from 0 (suc e) (drop (suc (j h)) (entries h)) (omega arith) left.1),
     )
 
 returns-2 : tie.Need-returns-2 invariant-loop decreases-loop
@@ -86,8 +86,8 @@ returns-2 c =
     let none : drop h.loop.j (entries h) ≡ [] = drop_of_length-le (entries h) {i = h.loop.j} (omega arith) in
     told h (subst (λ (l : List ℕ). Climbs h.before.args.end.0 l) (sym none) tt)
 
-pub skip-entries-spec : {M : Type 1} → statement M
-skip-entries-spec =
+pub skip_entries_spec : {M : Type 1} → statement M
+skip_entries_spec =
     tie.close
     (tie.spec
     invariant-loop

@@ -7,13 +7,13 @@ use mathlib.Core.Bool.{true, false}
 use lib.ListN.{take, drop}
 use borrow.Author.Rules.{rules}
 use Rattle.rules.specs.Operand.{Operand, lent}
-use Rattle.rules.proofs.OperandLaws.{accepted-limit}
-use Rattle.operand.specs.Flat.{hasRowNumbers, hasRuns, Flat}
-use Rattle.operand.proofs.FlatLaws.{accepted-flat}
+use Rattle.rules.proofs.OperandLaws.{accepted_limit}
+use Rattle.operand.specs.Flat.{has_row_numbers, has_runs, Flat}
+use Rattle.operand.proofs.FlatLaws.{accepted_flat}
 use Rattle.books.specs.Gathers.{Parted}
-use Rattle.books.proofs.GatherLaws.{below_more, climbs-from}
-use Rattle.extracts.proofs.WalkLaws.{list-came, runs-came}
-use Rattle.in_runs.proofs.SkipLaws.{list-skipped, runs-skipped, flat-skipped}
+use Rattle.books.proofs.GatherLaws.{below_more, climbs_from}
+use Rattle.extracts.proofs.WalkLaws.{list_came, runs_came}
+use Rattle.in_runs.proofs.SkipLaws.{list_skipped, runs_skipped, flat_skipped}
 use Rattle.in_runs.proofs.skips.skip_rows.Statement.{statement}
 use Rattle.in_runs.proofs.skips.skip_rows.Tie as tie
 
@@ -35,29 +35,29 @@ module _ (c : tie.Start) where
   o = lent c.args.form c.args.words.now c.args.numbers.now
 
   few : c.args.row.0 + c.args.n ≤ 1048576
-  few = omega (arith, accepted-limit o c.requires.0, c.requires.1)
+  few = omega (arith, accepted_limit o c.requires.0, c.requires.1)
 
-listed : (c : tie.Then1) → hasRowNumbers (start c.before).args.form ≡ true
+listed : (c : tie.Then1) → has_row_numbers (start c.before).args.form ≡ true
 listed c = sym c.before.has-row-numbers.ensures ∙ c.if1.true
 
-unlisted : (c : tie.Else1) → hasRowNumbers (start c.before).args.form ≡ false
+unlisted : (c : tie.Else1) → has_row_numbers (start c.before).args.form ≡ false
 unlisted c = sym c.before.has-row-numbers.ensures ∙ c.if1.false
 
-in-runs : (c : tie.Then2) → hasRuns (start (other c.before)).args.form ≡ true
-in-runs c = sym c.before.has-runs.ensures ∙ c.if2.true
+in_runs_lem : (c : tie.Then2) → has_runs (start (other c.before)).args.form ≡ true
+in_runs_lem c = sym c.before.has-runs.ensures ∙ c.if2.true
 
-no-runs : (c : tie.Else2) → hasRuns (start (other c.before)).args.form ≡ false
-no-runs c = sym c.before.has-runs.ensures ∙ c.if2.false
+no_runs_lem : (c : tie.Else2) → has_runs (start (other c.before)).args.form ≡ false
+no_runs_lem c = sym c.before.has-runs.ensures ∙ c.if2.false
 
 read : (c : tie.Else2) → Flat (o (start (other c.before)))
 read c =
     let s = start (other c.before) in
-    accepted-flat (o s) (unlisted c.before.before) (no-runs c) s.pre.0
+    accepted_flat (o s) (unlisted c.before.before) (no_runs_lem c) s.pre.0
 
 parted : (c : tie.Then1) → let a = (start c.before).args in Parted a.row.0 a.next a.numbers.now
 parted c =
     let s = start c.before in
-    list-came (o s) s.args.next s.args.row.0 (listed c) s.pre.2
+    list_came (o s) s.args.next s.args.row.0 (listed c) s.pre.2
 
 -- ---- the answers
 
@@ -73,7 +73,7 @@ skip-entries-requires c κs =
     let b = a.row.0 in
     let p = parted c.before in
     let es = a.numbers.now in
-    (p.within, below_more b (b + a.n) (take a.next es) (omega arith) p.before, climbs-from 0 b (drop a.next es) (omega arith) p.after)
+    (p.within, below_more b (b + a.n) (take a.next es) (omega arith) p.before, climbs_from 0 b (drop a.next es) (omega arith) p.after)
 
 sub-set : tie.Need-overflow-sub-set
 sub-set c = c.skip-entries.ensures.0
@@ -83,7 +83,7 @@ returns c =
     let t = c.before.before in
     let s = start t.before in
     let a = s.args in
-    list-skipped (o s) a.row.0 a.n s.pre.1 a.next _ (listed t) s.pre.0 s.pre.2 c.skip-entries.ensures.1
+    list_skipped (o s) a.row.0 a.n s.pre.1 a.next _ (listed t) s.pre.0 s.pre.2 c.skip-entries.ensures.1
 
 has-runs-requires : tie.Need-has-runs-requires
 has-runs-requires c κs = search rules
@@ -92,7 +92,7 @@ skip-runs-requires : tie.Need-skip-runs-requires
 skip-runs-requires c κs =
     let s = start (other c.before) in
     let a = s.args in
-    (runs-came (o s) a.next a.row.0 (in-runs c) s.pre.2, few s)
+    (runs_came (o s) a.next a.row.0 (in_runs_lem c) s.pre.2, few s)
 
 returns-2 : tie.Need-returns-2
 returns-2 c =
@@ -100,7 +100,7 @@ returns-2 c =
     let s = start (other t.before) in
     let a = s.args in
     let e = c.Skip-runs.ensures in
-    runs-skipped (o s) a.row.0 a.n s.pre.1 _ _ (in-runs t) e.0 e.1
+    runs_skipped (o s) a.row.0 a.n s.pre.1 _ _ (in_runs_lem t) e.0 e.1
 
 count-rows-requires : tie.Need-count-rows-requires
 count-rows-requires c κs =
@@ -112,10 +112,10 @@ returns-3 c =
     let t = c.before in
     let s = start (other t.before) in
     let a = s.args in
-    flat-skipped (o s) a.row.0 a.n s.pre.1 _ _ (unlisted t.before.before) (no-runs t) (read t) c.count-rows.ensures
+    flat_skipped (o s) a.row.0 a.n s.pre.1 _ _ (unlisted t.before.before) (no_runs_lem t) (read t) c.count-rows.ensures
 
-pub skip-rows-spec : {M : Type 1} → statement M
-skip-rows-spec =
+pub skip_rows_spec : {M : Type 1} → statement M
+skip_rows_spec =
     tie.close
     (tie.spec
     has-row-numbers-requires

@@ -8,7 +8,7 @@ use lib.ListN.{length, get_or}
 use borrow.Author.Rules.{rules}
 use Rattle.rows.proofs.RunTurnLaws.{NextRun}
 use Rattle.books.specs.Windows.{into}
-use Rattle.in_runs.proofs.SumLaws.{Summing, summing-none, summing-next, summing-few, summing-run, summing-stop, summing-end}
+use Rattle.in_runs.proofs.SumLaws.{Summing, summing_none, summing_next, summing_few, summing_run, summing_stop, summing_end}
 use Rattle.in_runs.proofs.skips.skip_runs.Statement.{statement}
 use Rattle.in_runs.proofs.skips.skip_runs.Tie as tie
 
@@ -47,7 +47,7 @@ module _ (c : tie.In-loop invariant-loop decreases-loop) where
   next : NextRun (head c).loop.invariant.from 1048576 (head c).loop.i runs
   next =
       let l = (head c).loop in
-      summing-next runs s.args.row.0 s.args.n l.i l.set l.inv (omega arith)
+      summing_next runs s.args.row.0 s.args.n l.i l.set l.inv (omega arith)
 
 -- ---- what it has among the rows
 
@@ -61,14 +61,14 @@ module _ (c : tie.After-rows-into2 invariant-loop decreases-loop) where
   abbrev stop : ℕ
   stop = into (s t).args.row.0 (s t).args.n (get_or (runs t) ((head t).loop.i + 1) 0)
 
-  begin-is : c.before.rows-into.result ≡ begin
-  begin-is = c.before.rows-into.ensures
+  begin_is : c.before.rows-into.result ≡ begin
+  begin_is = c.before.rows-into.ensures
 
   stop_is : c.rows-into2.result ≡ stop
   stop_is = c.rows-into2.ensures
 
   some_is : (head t).loop.set + (c.rows-into2.result - c.before.rows-into.result) ≡ (head t).loop.set + (stop - begin)
-  some_is = ap₂ (λ (x y : ℕ). (head t).loop.set + (x - y)) stop_is begin-is
+  some_is = ap₂ (λ (x y : ℕ). (head t).loop.set + (x - y)) stop_is begin_is
 
 -- ---- the answers
 
@@ -78,7 +78,7 @@ add-end c = omega (arith, (entry c).requires.1)
 loop-holds : tie.Need-loop-init invariant-loop decreases-loop
 loop-holds c =
     let a = (entry c).args in
-    summing-none a.runs.now a.row.0 a.n a.next (entry c).requires.0
+    summing_none a.runs.now a.row.0 a.n a.next (entry c).requires.0
 
 mul-first : tie.Need-overflow-mul-first invariant-loop decreases-loop
 mul-first c = omega arith
@@ -108,20 +108,20 @@ rows-into-requires-2 : tie.Need-rows-into-requires-2 invariant-loop decreases-lo
 rows-into-requires-2 c κs = search rules
 
 sub-set : tie.Need-overflow-sub-set invariant-loop decreases-loop
-sub-set c = omega (arith, begin-is c, stop_is c, (next (t c)).some)
+sub-set c = omega (arith, begin_is c, stop_is c, (next (t c)).some)
 
 add-set : tie.Need-overflow-add-set invariant-loop decreases-loop
 add-set c =
     let l = (head (t c)).loop in
     let a = (s (t c)).args in
-    omega (arith, some_is c, summing-few (runs (t c)) a.row.0 a.n l.i l.set l.inv (omega arith), (s (t c)).pre.1)
+    omega (arith, some_is c, summing_few (runs (t c)) a.row.0 a.n l.i l.set l.inv (omega arith), (s (t c)).pre.1)
 
 returns : tie.Need-returns invariant-loop decreases-loop
 returns c =
     let m = c.before in
     let l = (head (t m)).loop in
     let a = (s (t m)).args in
-    let e = summing-stop (runs (t m)) a.row.0 a.n l.i l.set l.inv (omega arith) c.if1.true in
+    let e = summing_stop (runs (t m)) a.row.0 a.n l.i l.set l.inv (omega arith) c.if1.true in
     (some_is m ∙ e.0, e.1)
 
 add-i : tie.Need-overflow-add-i invariant-loop decreases-loop
@@ -136,17 +136,17 @@ loop-again c =
     let l = (head (t m)).loop in
     let a = (s (t m)).args in
     subst (λ (x : ℕ). Summing (runs (t m)) a.row.0 a.n (l.i + 2) x) (sym (some_is m))
-    (summing-run (runs (t m)) a.row.0 a.n l.i l.set l.inv (omega arith) (omega arith))
+    (summing_run (runs (t m)) a.row.0 a.n l.i l.set l.inv (omega arith) (omega arith))
 
 returns-2 : tie.Need-returns-2 invariant-loop decreases-loop
 returns-2 c =
     let h = c.before in
     let l = h.loop in
     let a = (start h).args in
-    summing-end a.runs.now a.row.0 a.n l.i l.set l.invariant (omega arith)
+    summing_end a.runs.now a.row.0 a.n l.i l.set l.invariant (omega arith)
 
-pub skip-runs-spec : {M : Type 1} → statement M
-skip-runs-spec =
+pub skip_runs_spec : {M : Type 1} → statement M
+skip_runs_spec =
     tie.close
     (tie.spec
     invariant-loop

@@ -29,5 +29,5 @@ returns-2 c =
     let a = (start c.before).args in
     ap (λ (b : Bool). behind b a.next a.n) (sym c.if1.false ∙ c.before.has-row-numbers.ensures)
 
-pub skip-set-spec : {M : Type 1} → statement M
-skip-set-spec = tie.close (tie.spec has-row-numbers-requires add-result returns returns-2)
+pub skip_set_spec : {M : Type 1} → statement M
+skip_set_spec = tie.close (tie.spec has-row-numbers-requires add-result returns returns-2)

@@ -6,9 +6,9 @@ use native.Mathlib.Omega.{arith}
 use lib.Count.{ones, ones-le}
 use Rattle.rows.specs.Rows.{count}
 use Rattle.rows.specs.Pdep.{pdep}
-use Rattle.rows.proofs.RowLaws.{count-le-length}
-use Rattle.rows.proofs.WordLaws.{ones-word}
-use Rattle.rows.proofs.ListLaws.{tab-length}
+use Rattle.rows.proofs.RowLaws.{count_le_length}
+use Rattle.rows.proofs.WordLaws.{ones_word}
+use Rattle.rows.proofs.ListLaws.{tab_length}
 use Rattle.rows.specs.Runs.{held}
 use Rattle.books.specs.Windows.{window}
 use borrow.Author.Rules.{rules}
@@ -33,13 +33,13 @@ module _ (c : tie.After-run-bits-for-chunk) where
   s = start c
 
   kept : ones c.run-bits-for-chunk.result.bits ≡ count (window s.args.rank.0 (ones s.args.mask) s.args.ranks.now)
-  kept = ap ones c.run-bits-for-chunk.ensures.0 ∙ ones-word (window s.args.rank.0 (ones s.args.mask) s.args.ranks.now)
+  kept = ap ones c.run-bits-for-chunk.ensures.0 ∙ ones_word (window s.args.rank.0 (ones s.args.mask) s.args.ranks.now)
 
-  kept-few : ones c.run-bits-for-chunk.result.bits ≤ 64
-  kept-few =
+  kept_few : ones c.run-bits-for-chunk.result.bits ≤ 64
+  kept_few =
       let a = s.args in
       let w = window a.rank.0 (ones a.mask) a.ranks.now in
-      omega (arith, kept, count-le-length w, tab-length a.rank.0 (ones a.mask) (λ i. held i a.ranks.now), few s)
+      omega (arith, kept, count_le_length w, tab_length a.rank.0 (ones a.mask) (λ i. held i a.ranks.now), few s)
 
 -- ---- the answers
 
@@ -53,7 +53,7 @@ deposit-portable-requires : tie.Need-deposit-portable-requires
 deposit-portable-requires c κs = search rules
 
 cast-held : tie.Need-overflow-cast-held
-cast-held c = omega (arith, kept-few (read c))
+cast-held c = omega (arith, kept_few (read c))
 
 returns : tie.Need-returns
 returns c =
@@ -61,5 +61,5 @@ returns c =
     let e = r.run-bits-for-chunk.ensures in
     (refl, c.before.deposit-portable.ensures ∙ ap (λ (x : ℕ). pdep 64 x (start r).args.mask) e.0, kept r, e.1)
 
-pub keep-bits-spec : {M : Type 1} → statement M
-keep-bits-spec = tie.close (tie.spec cast-set run-bits-for-chunk-requires deposit-portable-requires cast-held returns)
+pub keep_bits_spec : {M : Type 1} → statement M
+keep_bits_spec = tie.close (tie.spec cast-set run-bits-for-chunk-requires deposit-portable-requires cast-held returns)

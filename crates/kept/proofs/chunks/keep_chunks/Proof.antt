@@ -11,24 +11,24 @@ use lib.Seq.{drop-drop}
 use lib.Count.{ones}
 use Rattle.rows.specs.Rows.{count, compose}
 use Rattle.rows.specs.Word.{bits_of, word_of}
-use Rattle.rows.specs.Words.{fit, bitsOfAll, view}
-use Rattle.rows.specs.Runs.{held, inRuns}
+use Rattle.rows.specs.Words.{fit, bits_of_all, view}
+use Rattle.rows.specs.Runs.{held, in_runs}
 use Rattle.rows.specs.Laid.{laid}
-use Rattle.rows.proofs.WordLaws.{ones-word}
+use Rattle.rows.proofs.WordLaws.{ones_word}
 use Rattle.rows.proofs.WordsLaws.{fit_length}
 use Rattle.rows.proofs.LaidLaws.{below_all}
 use Rattle.books.specs.Windows.{window, Reached}
 use Rattle.deposits.proofs.DepositLaws.{
   Deposited,
-  chunk-few,
-  chunk-sized,
-  deposited-none,
-  deposited-turn,
-  gathered-same,
-  rank-turn,
-  rank-within,
+  chunk_few,
+  chunk_sized,
+  deposited_none,
+  deposited_turn,
+  gathered_same,
+  rank_turn,
+  rank_within,
 }
-use Rattle.kept.proofs.AlikeLaws.{held_on, held-few}
+use Rattle.kept.proofs.AlikeLaws.{held_on, held_few}
 use borrow.Author.Rules.{rules}
 use Rattle.kept.proofs.chunks.keep_chunks.Statement.{statement}
 use Rattle.kept.proofs.chunks.keep_chunks.Tie as tie
@@ -36,9 +36,9 @@ use Rattle.kept.proofs.chunks.keep_chunks.Tie as tie
 abbrev invariant-loop : tie.invariant-loop
 invariant-loop words start len ranks at out₀ row₀ rank₀ next₀ held₀ out row rank next held =
     (row.0 ≤ len)
-    × Deposited start at rank₀.0 words out₀ (drop rank₀.0 (inRuns (rank₀.0 + count (view start len words)) ranks)) row.0 rank.0 out
+    × Deposited start at rank₀.0 words out₀ (drop rank₀.0 (in_runs (rank₀.0 + count (view start len words)) ranks)) row.0 rank.0 out
     × Reached ranks next rank.0
-    × (held ≡ count (inRuns rank.0 ranks))
+    × (held ≡ count (in_runs rank.0 ranks))
 
 abbrev decreases-loop : tie.decreases-loop
 decreases-loop words start len ranks at out₀ row₀ rank₀ next₀ held₀ out row rank next held = len - row.0
@@ -91,7 +91,7 @@ module _ (c : tie.After-chunk-len invariant-loop decreases-loop) where
   n = c.chunk-len.result
 
   abbrev rows : List Bool
-  rows = drop ((start c).args.start + row) (bitsOfAll 64 ws)
+  rows = drop ((start c).args.start + row) (bits_of_all 64 ws)
 
   abbrev chunk : List Bool
   chunk = fit n rows
@@ -104,10 +104,10 @@ module _ (c : tie.After-chunk-len invariant-loop decreases-loop) where
 
   -- the ranks from the first on
   abbrev r : List Bool
-  r = drop first (inRuns total runs)
+  r = drop first (in_runs total runs)
 
   sized : (0 < n) × (n ≤ 64) × (row + n ≤ (start c).args.len)
-  sized = chunk-sized n row (start c).args.len (omega arith) c.chunk-len.ensures
+  sized = chunk_sized n row (start c).args.len (omega arith) c.chunk-len.ensures
 
   reach : (start c).args.start + row + n ≤ length ws * 64
   reach = omega (arith, (start c).requires.1, sized)
@@ -116,15 +116,15 @@ module _ (c : tie.After-chunk-len invariant-loop decreases-loop) where
   ranked : first + passed + count chunk ≤ total
   ranked =
       let a = (start c).args in
-      let past = rank-turn a.start row n a.at ws a.out.now r reach in
-      omega (arith, past, ones-word chunk, rank-within a.start (row + n) a.len ws sized.2)
+      let past = rank_turn a.start row n a.at ws a.out.now r reach in
+      omega (arith, past, ones_word chunk, rank_within a.start (row + n) a.len ws sized.2)
 
 few : (c : tie.After-self-bits invariant-loop decreases-loop) → ones c.self-bits.result ≤ n (turn c)
-few c = omega (arith, ap ones c.self-bits.ensures, chunk-few (n (turn c)) (rows (turn c)))
+few c = omega (arith, ap ones c.self-bits.ensures, chunk_few (n (turn c)) (rows (turn c)))
 
 -- no rank comes near the end of its type
-rank-few : (c : tie.After-chunk-len invariant-loop decreases-loop) → (head c).loop.rank.0 ≤ 2097152
-rank-few c = omega (arith, (start c).requires.0, (start c).requires.3, (head c).loop.invariant.0, (head c).loop.invariant.1.few)
+rank_few : (c : tie.After-chunk-len invariant-loop decreases-loop) → (head c).loop.rank.0 ≤ 2097152
+rank_few c = omega (arith, (start c).requires.0, (start c).requires.3, (head c).loop.invariant.0, (head c).loop.invariant.1.few)
 
 -- the ranks that were read from the runs are those of its rows
 module _ (c : tie.After-keep-bits invariant-loop decreases-loop) where
@@ -143,13 +143,13 @@ module _ (c : tie.After-keep-bits invariant-loop decreases-loop) where
   same : compose (chunk here) (bits_of 64 (word_of part)) ≡ compose (chunk here) (drop (passed here) (r here))
   same =
       let t = chunk here in
-      let as_many : set ≡ count t = ap ones (masked c).self-bits.ensures ∙ ones-word t in
+      let as_many : set ≡ count t = ap ones (masked c).self-bits.ensures ∙ ones_word t in
       ap₂ (λ (x y : ℕ). compose t (bits_of 64 (word_of (window x y (runs here))))) (head here).loop.inv.1.counted as_many
-      ∙ gathered-same t (first here + passed here) (total here) (λ i. held i (runs here)) (omega (arith, fit_length (n here) (rows here), sized here)) (ranked here)
-      ∙ ap (compose t) (sym (drop-drop (passed here) (first here) (inRuns (total here) (runs here))))
+      ∙ gathered_same t (first here + passed here) (total here) (λ i. held i (runs here)) (omega (arith, fit_length (n here) (rows here), sized here)) (ranked here)
+      ∙ ap (compose t) (sym (drop-drop (passed here) (first here) (in_runs (total here) (runs here))))
 
   -- and so many of them are kept
-  more : (head here).loop.held + c.keep-bits.result.held ≡ count (inRuns (rank + set) (runs here))
+  more : (head here).loop.held + c.keep-bits.result.held ≡ count (in_runs (rank + set) (runs here))
   more = ap₂ (λ (x y : ℕ). x + y) (head here).loop.inv.3 c.keep-bits.ensures.2 ∙ sym (held_on rank set (runs here))
 
 -- ---- the answers
@@ -159,7 +159,7 @@ loop-holds c =
     let a = (entry c).args in
     let out = a.out.now in
     let known = below_all (2 ^ 64) out (λ i. (c.before.slice-known.given i).fits) in
-    (omega arith, deposited-none a.start a.at a.from.rank.0 a.words.now out _ known, (entry c).requires.4, (entry c).requires.5)
+    (omega arith, deposited_none a.start a.at a.from.rank.0 a.words.now out _ known, (entry c).requires.4, (entry c).requires.5)
 
 chunk-len-requires : tie.Need-chunk-len-requires invariant-loop decreases-loop
 chunk-len-requires c κs = omega arith
@@ -168,7 +168,7 @@ self-bits-requires : tie.Need-self-bits-requires invariant-loop decreases-loop
 self-bits-requires c κs = omega arith
 
 keep-bits-requires : tie.Need-keep-bits-requires invariant-loop decreases-loop
-keep-bits-requires c κs = (rank-few (turn c), (head (turn c)).loop.inv.2)
+keep-bits-requires c κs = (rank_few (turn c), (head (turn c)).loop.inv.2)
 
 put-rows-requires : tie.Need-put-rows-requires invariant-loop decreases-loop
 put-rows-requires c κs =
@@ -179,12 +179,12 @@ put-rows-requires c κs =
 add-held : tie.Need-overflow-add-held invariant-loop decreases-loop
 add-held c =
     let k = found (put c) in
-    omega (arith, more k, held-few (rank k + set k) (runs (here k)), rank-few (here k), few (masked k), sized (here k))
+    omega (arith, more k, held_few (rank k + set k) (runs (here k)), rank_few (here k), few (masked k), sized (here k))
 
 add-past : tie.Need-overflow-add-past invariant-loop decreases-loop
 add-past c =
     let k = found (put c.before.before) in
-    omega (arith, k.keep-bits.ensures.0, rank-few (here k), few (masked k), sized (here k))
+    omega (arith, k.keep-bits.ensures.0, rank_few (here k), few (masked k), sized (here k))
 
 add-below : tie.Need-overflow-add-below invariant-loop decreases-loop
 add-below c =
@@ -206,12 +206,12 @@ loop-again c =
     let then : ℕ = l.rank.0 + k.keep-bits.result.set in
     let past : l.rank.0 + ones m.self-bits.result ≡ then = ap (λ (x : ℕ). l.rank.0 + x) (sym set_is) in (
       (sized t).2,
-      rw past at (deposited-turn a.start (row t) (n t) a.at (ws t) a.out.now (r t) (reach t) (sized t).1
+      rw past at (deposited_turn a.start (row t) (n t) a.at (ws t) a.out.now (r t) (reach t) (sized t).1
           (first t) l.rank.0 m.self-bits.result (word_of (part k)) l.out _
           l.inv.1 m.self-bits.ensures (same k)
           (p.put-rows.ensures ∙ ap (λ (x : ℕ). laid (a.at + row t) (bits_of (n t) x) l.out) k.keep-bits.ensures.1)),
       rw past at k.keep-bits.ensures.3,
-      more k ∙ ap (λ (x : ℕ). count (inRuns x (runs t))) past,
+      more k ∙ ap (λ (x : ℕ). count (in_runs x (runs t))) past,
     )
 
 same_length : tie.Need-same-length invariant-loop decreases-loop
@@ -223,14 +223,14 @@ returns c =
     let a = (entry (last c).before).args in
     let ws = a.words.now in
     let runs = a.ranks.now in
-    let r = drop a.from.rank.0 (inRuns (a.from.rank.0 + count (view a.start a.len ws)) runs) in
+    let r = drop a.from.rank.0 (in_runs (a.from.rank.0 + count (view a.start a.len ws)) runs) in
     let done : l.row.0 ≡ a.len = omega arith in (
-      l.inv.3 ∙ ap (λ (x : ℕ). count (inRuns x runs)) (l.inv.1.counted ∙ ap (λ (k : ℕ). a.from.rank.0 + count (view a.start k ws)) done),
+      l.inv.3 ∙ ap (λ (x : ℕ). count (in_runs x runs)) (l.inv.1.counted ∙ ap (λ (k : ℕ). a.from.rank.0 + count (view a.start k ws)) done),
       l.inv.1.composed ∙ ap (λ (k : ℕ). laid a.at (compose (view a.start k ws) r) a.out.now) done,
     )
 
-pub keep-chunks-spec : {M : Type 1} → statement M
-keep-chunks-spec =
+pub keep_chunks_spec : {M : Type 1} → statement M
+keep_chunks_spec =
     tie.close
     (tie.spec
     invariant-loop

@@ -7,10 +7,10 @@ use mathlib.Core.List.{List, [], ◌∷◌}
 use native.Mathlib.Omega.{arith}
 use lib.ListN.{length, take, drop, get_or}
 use Rattle.rows.specs.Laid.{laid, marked}
-use Rattle.rows.proofs.LaidLaws.{laid-length}
+use Rattle.rows.proofs.LaidLaws.{laid_length}
 use Rattle.rows.proofs.MarkLaws.{below_at}
 use Rattle.marks.specs.Entries.{entries}
-use Rattle.kept.proofs.EntrySpanLaws.{span-next}
+use Rattle.kept.proofs.EntrySpanLaws.{span_next}
 use Rattle.kept.proofs.entries.mark_span.Statement.{statement}
 use Rattle.kept.proofs.entries.mark_span.Tie as tie
 
@@ -90,9 +90,9 @@ loop-again c =
     let l = (head t).loop in
     let out = m.mark-row.ensures ∙ ap (λ (x : ℕ). laid (a.at + x) (true ∷ []) l.out) e.entry_at.ensures in (
       omega arith,
-      ap length out ∙ laid-length 64 (a.at + get_or (rows t) (i t) 0) (true ∷ []) l.out ∙ l.inv.1,
+      ap length out ∙ laid_length 64 (a.at + get_or (rows t) (i t) 0) (true ∷ []) l.out ∙ l.inv.1,
       ap (marked a.at (take (a.past.0 - (i t + 1)) (drop (i t + 1) (rows t)))) out
-          ∙ sym (span-next a.at (i t) a.past.0 (rows t) l.out (omega arith) (there t)) ∙ l.inv.2,
+          ∙ sym (span_next a.at (i t) a.past.0 (rows t) l.out (omega arith) (there t)) ∙ l.inv.2,
     )
 
 same_length : tie.Need-same-length invariant-loop decreases-loop
@@ -106,8 +106,8 @@ returns c =
     let end : a.past.0 - l.i ≡ 0 = omega arith in
     sym (ap (λ (n : ℕ). marked a.at (take n (drop l.i (entries a.single a.rows.now))) l.out) end) ∙ l.invariant.2
 
-pub mark-span-spec : {M : Type 1} → statement M
-mark-span-spec =
+pub mark_span_spec : {M : Type 1} → statement M
+mark_span_spec =
     tie.close
     (tie.spec
     invariant-loop

@@ -6,21 +6,21 @@ use mathlib.Core.List.{List}
 use native.Mathlib.Omega.{arith}
 use lib.ListN.{length, take, drop, get_or}
 use Rattle.rows.specs.Rows.{compose}
-use Rattle.rows.specs.Lists.{listed, setRows}
-use Rattle.rows.specs.Runs.{inRuns}
+use Rattle.rows.specs.Lists.{listed, set_rows}
+use Rattle.rows.specs.Runs.{in_runs}
 use Rattle.rows.specs.Laid.{marked}
-use Rattle.rows.proofs.MarkLaws.{marked-length, ascending-below}
+use Rattle.rows.proofs.MarkLaws.{marked_length, ascending_below}
 use Rattle.rows.proofs.RunTurnLaws.{NextRun}
 use Rattle.marks.specs.Entries.{entries}
-use Rattle.marks.proofs.EntryLaws.{entries-few}
+use Rattle.marks.proofs.EntryLaws.{entries_few}
 use Rattle.kept.proofs.EntrySpanLaws.{
   Spanning,
-  spanning-none,
-  spanning-next,
-  spanning-few,
-  spanning-run,
-  spanning-all,
-  spanning-count,
+  spanning_none,
+  spanning_next,
+  spanning_few,
+  spanning_run,
+  spanning_all,
+  spanning_count,
 }
 use Rattle.kept.proofs.entries.mark_spans.Statement.{statement}
 use Rattle.kept.proofs.entries.mark_spans.Tie as tie
@@ -29,7 +29,7 @@ abbrev invariant-loop : tie.invariant-loop
 invariant-loop numbers single ranks len at out₀ sum₀ i₀ out sum i =
     (length out ≡ length out₀)
     × Spanning (entries single numbers) ranks at i sum out
-    (marked at (setRows 0 (compose (listed len (entries single numbers)) (inRuns (length (entries single numbers)) ranks))) out₀)
+    (marked at (set_rows 0 (compose (listed len (entries single numbers)) (in_runs (length (entries single numbers)) ranks))) out₀)
 
 abbrev decreases-loop : tie.decreases-loop
 decreases-loop numbers single ranks len at out₀ sum₀ i₀ out sum i = length ranks - i
@@ -65,7 +65,7 @@ module _ (c : tie.At-loop invariant-loop decreases-loop) where
 
   -- the output once all runs are marked
   abbrev goal : List ℕ
-  goal = marked (start c).args.at (setRows 0 (compose (listed (start c).args.len rows) (inRuns (length rows) ranks))) (start c).args.out.now
+  goal = marked (start c).args.at (set_rows 0 (compose (listed (start c).args.len rows) (in_runs (length rows) ranks))) (start c).args.out.now
 
 module _ (c : tie.In-loop invariant-loop decreases-loop) where
   abbrev s : tie.Start invariant-loop decreases-loop
@@ -83,7 +83,7 @@ module _ (c : tie.In-loop invariant-loop decreases-loop) where
   next : NextRun (head c).loop.invariant.1.rank (length (rows (head c))) i (ranks (head c))
   next =
       let h = head c in
-      spanning-next (rows h) (ranks h) s.args.at i h.loop.sum h.loop.out (goal h) h.loop.inv.1 (omega arith)
+      spanning_next (rows h) (ranks h) s.args.at i h.loop.sum h.loop.out (goal h) h.loop.inv.1 (omega arith)
 
   -- the number of the run behind it is a number, and so is how many entries are marked
   fits : i + 2 < 2 ^ 64
@@ -92,8 +92,8 @@ module _ (c : tie.In-loop invariant-loop decreases-loop) where
   few : (head c).loop.sum + (past - first) < 2 ^ 64
   few =
       let h = head c in
-      let all = entries-few s.args.single s.args.rows.now in
-      let held = spanning-few (rows h) (ranks h) s.args.at i h.loop.sum h.loop.out (goal h) h.loop.inv.1 (omega arith) s.pre.1 in
+      let all = entries_few s.args.single s.args.rows.now in
+      let held = spanning_few (rows h) (ranks h) s.args.at i h.loop.sum h.loop.out (goal h) h.loop.inv.1 (omega arith) s.pre.1 in
       omega (arith, held, all)
 
 -- ---- the answers
@@ -102,7 +102,7 @@ loop-holds : tie.Need-loop-init invariant-loop decreases-loop
 loop-holds c =
     let s = entry c in
     let a = s.args in
-    (refl, spanning-none (entries a.single a.rows.now) a.ranks.now a.at a.len a.out.now s.pre.0 s.pre.1)
+    (refl, spanning_none (entries a.single a.rows.now) a.ranks.now a.at a.len a.out.now s.pre.0 s.pre.1)
 
 mul-first : tie.Need-overflow-mul-first invariant-loop decreases-loop
 mul-first c = omega arith
@@ -130,7 +130,7 @@ mark-span-requires c κs =
     let t = both c.before in
     let pre = (s t).pre in
     let r = next t in (
-      ascending-below 0 (s t).args.len (rows (head t)) pre.0,
+      ascending_below 0 (s t).args.len (rows (head t)) pre.0,
       omega (arith, r.some),
       r.within,
       (omega (arith, (head t).loop.inv.0, pre.2.0), pre.2.1),
@@ -155,8 +155,8 @@ loop-again c =
     let a = (s t).args in
     let l = h.loop in
     let out = (back c).mark-span.ensures in (
-      ap length out ∙ marked-length a.at (take (past t - first t) (drop (first t) (rows h))) l.out ∙ l.inv.0,
-      spanning-run (rows h) (ranks h) a.at (i t) l.sum l.out (goal h) l.inv.1 (omega arith) _ out,
+      ap length out ∙ marked_length a.at (take (past t - first t) (drop (first t) (rows h))) l.out ∙ l.inv.0,
+      spanning_run (rows h) (ranks h) a.at (i t) l.sum l.out (goal h) l.inv.1 (omega arith) _ out,
     )
 
 same_length : tie.Need-same-length invariant-loop decreases-loop
@@ -168,12 +168,12 @@ returns c =
     let s = start h in
     let a = s.args in
     let l = h.loop in (
-      spanning-count (rows h) (ranks h) a.at l.i l.sum l.out (goal h) l.invariant.1 a.len (omega arith) s.pre.0 s.pre.1,
-      spanning-all (rows h) (ranks h) a.at l.i l.sum l.out (goal h) l.invariant.1 (omega arith),
+      spanning_count (rows h) (ranks h) a.at l.i l.sum l.out (goal h) l.invariant.1 a.len (omega arith) s.pre.0 s.pre.1,
+      spanning_all (rows h) (ranks h) a.at l.i l.sum l.out (goal h) l.invariant.1 (omega arith),
     )
 
-pub mark-spans-spec : {M : Type 1} → statement M
-mark-spans-spec =
+pub mark_spans_spec : {M : Type 1} → statement M
+mark_spans_spec =
     tie.close
     (tie.spec
     invariant-loop

@@ -8,15 +8,15 @@ use mathlib.Core.List.{List}
 use native.Mathlib.Omega.{arith}
 use lib.ListN.{length, drop}
 use Rattle.rows.specs.Rows.{count, compose}
-use Rattle.rows.specs.Words.{bitsOfAll, view}
-use Rattle.rows.specs.Runs.{held, inRuns}
+use Rattle.rows.specs.Words.{bits_of_all, view}
+use Rattle.rows.specs.Runs.{held, in_runs}
 use Rattle.rows.specs.Laid.{laid}
-use Rattle.rows.proofs.RowLaws.{count-take-le, compose-count}
-use Rattle.rows.proofs.ListLaws.{tab-length}
-use Rattle.rows.proofs.LaidLaws.{laid-length}
-use Rattle.rows.proofs.RunLaws.{apart-wider}
+use Rattle.rows.proofs.RowLaws.{count_take_le, compose_count}
+use Rattle.rows.proofs.ListLaws.{tab_length}
+use Rattle.rows.proofs.LaidLaws.{laid_length}
+use Rattle.rows.proofs.RunLaws.{apart_wider}
 use Rattle.books.specs.Windows.{Reached}
-use Rattle.deposits.proofs.WholeLaws.{whole-and-rest, count-rest, ranks-more}
+use Rattle.deposits.proofs.WholeLaws.{whole_and_rest, count_rest, ranks_more}
 use borrow.Author.Rules.{rules}
 use Rattle.kept.proofs.inner.keep_words.Statement.{statement}
 use Rattle.kept.proofs.inner.keep_words.Tie as tie
@@ -59,14 +59,14 @@ module _ (c : tie.Start) where
   abbrev total : ℕ
   total = count self
 
-  reached-none : Reached runs 0 0
-  reached-none =
-      let few : total ≤ 1048576 = omega (arith, c.requires.0.0, count-take-le c.args.len (drop c.args.start (bitsOfAll 64 ws))) in
-      record { ahead = apart-wider 0 0 total 1048576 runs (omega arith) few c.requires.2; behind = λ i h. refl }
+  reached_none : Reached runs 0 0
+  reached_none =
+      let few : total ≤ 1048576 = omega (arith, c.requires.0.0, count_take_le c.args.len (drop c.args.start (bits_of_all 64 ws))) in
+      record { ahead = apart_wider 0 0 total 1048576 runs (omega arith) few c.requires.2; behind = λ i h. refl }
 
   -- as many of them are kept as rows are laid
-  all_held : count (inRuns total runs) ≡ count (compose self (inRuns total runs))
-  all_held = sym (compose-count self (inRuns total runs) (tab-length 0 total (λ i. held i runs)))
+  all_held : count (in_runs total runs) ≡ count (compose self (in_runs total runs))
+  all_held = sym (compose_count self (in_runs total runs) (tab_length 0 total (λ i. held i runs)))
 
 -- ---- the whole words: how many rows they are, what they leave, and what is known once they are laid
 
@@ -91,22 +91,22 @@ module _ (c : tie.After-keep-whole) where
   reached = c.keep-whole.result.rank.0
 
   few : reached ≤ done
-  few = omega (arith, c.keep-whole.ensures.0, count-take-le done (drop start.args.start (bitsOfAll 64 (ws start))))
+  few = omega (arith, c.keep-whole.ensures.0, count_take_le done (drop start.args.start (bits_of_all 64 (ws start))))
 
   all : done + rest ≡ start.args.len
   all = omega arith
 
   sum : reached + more ≡ total start
   sum =
-      ap (λ (k : ℕ). k + more) c.keep-whole.ensures.0 ∙ count-rest start.args.start done rest (ws start)
+      ap (λ (k : ℕ). k + more) c.keep-whole.ensures.0 ∙ count_rest start.args.start done rest (ws start)
       ∙ ap (λ (k : ℕ). count (view start.args.start k (ws start))) all
 
   -- the ranks past the whole words do not matter to them
-  whole : laid (start.args.at / 64 * 64) (compose (view start.args.start done (ws start)) (inRuns passed (runs start))) start.args.out.now
-      ≡ laid start.args.at (compose (view start.args.start done (ws start)) (inRuns (total start) (runs start))) start.args.out.now
+  whole : laid (start.args.at / 64 * 64) (compose (view start.args.start done (ws start)) (in_runs passed (runs start))) start.args.out.now
+      ≡ laid start.args.at (compose (view start.args.start done (ws start)) (in_runs (total start) (runs start))) start.args.out.now
   whole =
       let place : start.args.at / 64 * 64 ≡ start.args.at = omega arith in
-      let same = ranks-more (view start.args.start done (ws start)) passed (total start) (λ i. held i (runs start)) (omega arith)
+      let same = ranks_more (view start.args.start done (ws start)) passed (total start) (λ i. held i (runs start)) (omega arith)
       (omega (arith, sum, c.keep-whole.ensures.0)) in
       ap₂ (λ (k : ℕ) (l : List Bool). laid k l start.args.out.now) place same
 
@@ -116,7 +116,7 @@ keep-chunks-requires : tie.Need-keep-chunks-requires
 keep-chunks-requires c κs =
     let s = astride c in
     let p = s.pre in
-    (p.0.0, p.0.2, p.1, omega arith, reached-none s, refl)
+    (p.0.0, p.0.2, p.1, omega arith, reached_none s, refl)
 
 same_length : tie.Need-same-length
 same_length c = search rules
@@ -127,14 +127,14 @@ returns c =
     let a = s.args in
     let e = (chunks c).keep-chunks.ensures in
     let all : 0 + total s ≡ total s = zero-add (total s) in (
-      e.0 ∙ ap (λ (k : ℕ). count (inRuns k (runs s))) all ∙ all_held s,
-      e.1 ∙ ap (λ (k : ℕ). laid a.at (compose (self s) (inRuns k (runs s))) a.out.now) all,
+      e.0 ∙ ap (λ (k : ℕ). count (in_runs k (runs s))) all ∙ all_held s,
+      e.1 ∙ ap (λ (k : ℕ). laid a.at (compose (self s) (in_runs k (runs s))) a.out.now) all,
     )
 
 keep-whole-requires : tie.Need-keep-whole-requires
 keep-whole-requires c κs =
     let s = aligned c in
-    (omega (arith, s.pre.0), omega (arith, s.pre.1), reached-none s)
+    (omega (arith, s.pre.0), omega (arith, s.pre.1), reached_none s)
 
 mul-done : tie.Need-overflow-mul-done
 mul-done c = omega arith
@@ -153,7 +153,7 @@ keep-chunks-requires-2 c κs =
     let k = words c.before in
     let p = (start k).pre in
     let e = k.keep-whole.ensures in
-    let long = rw laid-length at (ap length e.3) in
+    let long = rw laid_length at (ap length e.3) in
     (omega (arith, p.0), omega (arith, p.0), (omega (arith, p.1, long), omega (arith, p.1)), omega (arith, p.0, few k), e.1, e.2)
 
 same-length-2 : tie.Need-same-length-2
@@ -165,18 +165,18 @@ returns-2 c =
     let k = words (asked e) in
     let s = start k in
     let a = s.args in
-    let r = inRuns (total s) (runs s) in (
-      e.keep-chunks2.ensures.0 ∙ ap (λ (x : ℕ). count (inRuns x (runs s))) (sum k) ∙ all_held s,
+    let r = in_runs (total s) (runs s) in (
+      e.keep-chunks2.ensures.0 ∙ ap (λ (x : ℕ). count (in_runs x (runs s))) (sum k) ∙ all_held s,
       e.keep-chunks2.ensures.1
           ∙ ap₂ (λ (l : List Bool) (o : List ℕ). laid (a.at + done k) (compose (view (a.start + done k) (rest k) (ws s)) l) o)
-          (ap₂ (λ (x y : ℕ). drop x (inRuns y (runs s))) k.keep-whole.ensures.0 (sum k))
+          (ap₂ (λ (x y : ℕ). drop x (in_runs y (runs s))) k.keep-whole.ensures.0 (sum k))
           (k.keep-whole.ensures.3 ∙ whole k)
-          ∙ whole-and-rest a.start a.at (done k) (rest k) (ws s) a.out.now r (omega (arith, s.pre.0.2))
+          ∙ whole_and_rest a.start a.at (done k) (rest k) (ws s) a.out.now r (omega (arith, s.pre.0.2))
           ∙ ap (λ (i : ℕ). laid a.at (compose (view a.start i (ws s)) r) a.out.now) (all k),
     )
 
-pub keep-words-spec : {M : Type 1} → statement M
-keep-words-spec =
+pub keep_words_spec : {M : Type 1} → statement M
+keep_words_spec =
     tie.close
     (tie.spec
     keep-chunks-requires

@@ -4,12 +4,12 @@ use mathlib.Core.Path.{ap, ◌∙◌}
 use lib.ListN.{length}
 use borrow.Author.Rules.{rules}
 use Rattle.rows.specs.Rows.{compose}
-use Rattle.rows.specs.Lists.{member, listed, setRows}
-use Rattle.rows.specs.Runs.{inRuns}
+use Rattle.rows.specs.Lists.{member, listed, set_rows}
+use Rattle.rows.specs.Runs.{in_runs}
 use Rattle.rows.specs.Laid.{marked}
-use Rattle.rows.proofs.ListLaws.{tab-length}
+use Rattle.rows.proofs.ListLaws.{tab_length}
 use Rattle.marks.specs.Entries.{entries}
-use Rattle.marks.proofs.ListLaws.{marked-compose}
+use Rattle.marks.proofs.ListLaws.{marked_compose}
 use Rattle.kept.proofs.inner.lay_entries_by_runs.Statement.{statement}
 use Rattle.kept.proofs.inner.lay_entries_by_runs.Tie as tie
 
@@ -45,12 +45,12 @@ returns c =
     let a = (start z).args in
     let rows = entries a.single a.rows.now in
     let self = listed a.len rows in
-    let r = inRuns (length rows) a.ranks.now in (
+    let r = in_runs (length rows) a.ranks.now in (
       m.mark-spans.ensures.0,
-      m.mark-spans.ensures.1 ∙ ap (marked a.at (setRows 0 (compose self r))) z.clear.ensures
-          ∙ marked-compose a.at a.len self r a.out.now (tab-length 0 a.len (λ i. member i rows)),
+      m.mark-spans.ensures.1 ∙ ap (marked a.at (set_rows 0 (compose self r))) z.clear.ensures
+          ∙ marked_compose a.at a.len self r a.out.now (tab_length 0 a.len (λ i. member i rows)),
     )
 
-pub lay-entries-by-runs-spec : {M : Type 1} → statement M
-lay-entries-by-runs-spec =
+pub lay_entries_by_runs_spec : {M : Type 1} → statement M
+lay_entries_by_runs_spec =
     tie.close (tie.spec clear-requires mark-spans-requires same_length returns)

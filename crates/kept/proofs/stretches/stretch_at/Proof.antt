@@ -6,7 +6,7 @@ use mathlib.Core.List.{List}
 use native.Mathlib.Omega.{arith}
 use lib.ListN.{length}
 use Rattle.rows.proofs.RunTurnLaws.{NextRun}
-use Rattle.kept.proofs.AlikeLaws.{stretch-end, stretch-run, stretch-before, stretch-in}
+use Rattle.kept.proofs.AlikeLaws.{stretch_end, stretch_run, stretch_before, stretch_in}
 use borrow.Author.Rules.{rules}
 use Rattle.kept.proofs.stretches.stretch_at.Statement.{statement}
 use Rattle.kept.proofs.stretches.stretch_at.Tie as tie
@@ -35,14 +35,14 @@ module _ (c : tie.Else1) where
   some = c.if1.false
 
   run : NextRun 0 1048576 s.args.next runs
-  run = stretch-run runs s.args.next s.args.rank.0 s.pre some
+  run = stretch_run runs s.args.next s.args.rank.0 s.pre some
 
 -- ---- the answers
 
 returns : tie.Need-returns
 returns c =
     let a = c.before.args in
-    stretch-end a.ranks.now a.next a.rank.0 c.before.requires 1048576 c.if1.true
+    stretch_end a.ranks.now a.next a.rank.0 c.before.requires 1048576 c.if1.true
 
 mul-first : tie.Need-overflow-mul-first
 mul-first c = search rules
@@ -60,7 +60,7 @@ returns-2 : tie.Need-returns-2
 returns-2 c =
     let l = left c.before.before in
     let a = (s l).args in
-    stretch-before (runs l) a.next a.rank.0 (s l).pre (some l)
+    stretch_before (runs l) a.next a.rank.0 (s l).pre (some l)
 
 add-past : tie.Need-overflow-add-past
 add-past c = omega (arith, (run (left c.before)).pair)
@@ -82,10 +82,10 @@ returns-4 c =
     let e = past c in
     let l = left e.before in
     let a = (s l).args in
-    stretch-in (runs l) a.next a.rank.0 (s l).pre (some l) e.if2.left
+    stretch_in (runs l) a.next a.rank.0 (s l).pre (some l) e.if2.left
 
-pub stretch-at-spec : {M : Type 1} → statement M
-stretch-at-spec =
+pub stretch_at_spec : {M : Type 1} → statement M
+stretch_at_spec =
     tie.close
     (tie.spec
     returns

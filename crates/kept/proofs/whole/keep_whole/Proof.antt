@@ -10,17 +10,17 @@ use lib.ListN.{length, drop, replicate}
 use lib.Count.{ones}
 use Rattle.rows.specs.Rows.{count, compose}
 use Rattle.rows.specs.Word.{bits_of, word_of}
-use Rattle.rows.specs.Words.{fit, bitsOfAll, view}
-use Rattle.rows.specs.Runs.{held, inRuns}
+use Rattle.rows.specs.Words.{fit, bits_of_all, view}
+use Rattle.rows.specs.Runs.{held, in_runs}
 use Rattle.rows.specs.Laid.{laid}
-use Rattle.rows.proofs.WordLaws.{ones-word}
+use Rattle.rows.proofs.WordLaws.{ones_word}
 use Rattle.rows.proofs.WordsLaws.{fit_length}
 use Rattle.rows.proofs.LaidLaws.{below_all}
 use Rattle.books.specs.Windows.{window, Reached}
-use Rattle.deposits.proofs.DepositLaws.{gathered-same, rank-within, chunk-few}
-use Rattle.deposits.proofs.WholeLaws.{whole-rank, count-rest, Stored, stored-none, stored-word, stored-part}
-use Rattle.kept.specs.Alike.{allOrNone}
-use Rattle.kept.proofs.AlikeLaws.{reached-on, part-alike, alike-held, held_on, held-few}
+use Rattle.deposits.proofs.DepositLaws.{gathered_same, rank_within, chunk_few}
+use Rattle.deposits.proofs.WholeLaws.{whole_rank, count_rest, Stored, stored_none, stored_word, stored_part}
+use Rattle.kept.specs.Alike.{all_or_none}
+use Rattle.kept.proofs.AlikeLaws.{reached_on, part_alike, alike_held, held_on, held_few}
 use borrow.Author.Rules.{rules}
 use Rattle.kept.proofs.whole.keep_whole.Statement.{statement}
 use Rattle.kept.proofs.whole.keep_whole.Tie as tie
@@ -28,9 +28,9 @@ use Rattle.kept.proofs.whole.keep_whole.Tie as tie
 abbrev invariant-loop : tie.invariant-loop
 invariant-loop words start n ranks to out₀ i₀ rank₀ next₀ held₀ out i rank next held =
     (i ≤ n)
-    × Stored start to words out₀ (inRuns (count (view start (n * 64) words)) ranks) i rank.0 out
+    × Stored start to words out₀ (in_runs (count (view start (n * 64) words)) ranks) i rank.0 out
     × Reached ranks next rank.0
-    × (held ≡ count (inRuns rank.0 ranks))
+    × (held ≡ count (in_runs rank.0 ranks))
 
 abbrev decreases-loop : tie.decreases-loop
 decreases-loop words start n ranks to out₀ i₀ rank₀ next₀ held₀ out i rank next held = n - i
@@ -80,7 +80,7 @@ module _ (c : tie.After-store-alike invariant-loop decreases-loop) where
   total = count (view s.args.start (s.args.n * 64) ws)
 
   abbrev r : List Bool
-  r = inRuns total runs
+  r = in_runs total runs
 
   abbrev i : ℕ
   i = (head c).loop.i
@@ -116,35 +116,35 @@ module _ (c : tie.After-store-alike invariant-loop decreases-loop) where
         arith,
         set_is,
         (head c).loop.invariant.1.counted,
-        count-rest s.args.start (i * 64) (some * 64) ws,
-        rank-within s.args.start (i * 64 + some * 64) (s.args.n * 64) ws (omega (arith, within)),
+        count_rest s.args.start (i * 64) (some * 64) ws,
+        rank_within s.args.start (i * 64 + some * 64) (s.args.n * 64) ws (omega (arith, within)),
       )
 
   stored_on : (then : List ℕ) → then ≡ laid ((s.args.to + i) * 64) (compose part (replicate most v)) (head c).loop.out
       → Stored s.args.start s.args.to ws s.args.out.now r (i + some) (rank + set) then
   stored_on then e =
       let a = s.args in
-      let same = part-alike part runs rank most total v (stretch c).stretch-at.ensures (omega (arith, set_is, c.store-alike.ensures.2)) (omega (arith, set_is, ranked)) in
+      let same = part_alike part runs rank most total v (stretch c).stretch-at.ensures (omega (arith, set_is, c.store-alike.ensures.2)) (omega (arith, set_is, ranked)) in
       subst (λ (x : ℕ). Stored a.start a.to ws a.out.now r (i + some) (rank + x) then) (sym set_is)
-      (stored-part a.start a.to ws a.out.now r i some rank (replicate most v) (head c).loop.out then (head c).loop.invariant.1
+      (stored_part a.start a.to ws a.out.now r i some rank (replicate most v) (head c).loop.out then (head c).loop.invariant.1
       (omega (arith, s.pre.0.2, within)) same e)
 
   few : rank + set ≤ 1048576
   few = omega (arith, s.pre.0.0, within, (stored_on _ refl).few)
 
-  on-reached : Reached runs (head c).loop.next (rank + set)
-  on-reached = reached-on runs (head c).loop.next rank (rank + set) (omega arith) (head c).loop.invariant.2
+  on_reached : Reached runs (head c).loop.next (rank + set)
+  on_reached = reached_on runs (head c).loop.next rank (rank + set) (omega arith) (head c).loop.invariant.2
 
   -- and so many of them are kept
-  on-held : (head c).loop.held + allOrNone v set ≡ count (inRuns (rank + set) runs)
-  on-held =
-      ap₂ (λ (x y : ℕ). x + y) (head c).loop.invariant.3 (alike-held runs rank most v (stretch c).stretch-at.ensures set c.store-alike.ensures.2)
+  on_held : (head c).loop.held + all_or_none v set ≡ count (in_runs (rank + set) runs)
+  on_held =
+      ap₂ (λ (x y : ℕ). x + y) (head c).loop.invariant.3 (alike_held runs rank most v (stretch c).stretch-at.ensures set c.store-alike.ensures.2)
       ∙ sym (held_on rank set runs)
 
 -- with those before
 module _ (c : tie.After-all-or-none invariant-loop decreases-loop) where
-  told-held : (head (alike c)).loop.held + c.all-or-none.result ≡ count (inRuns (rank (alike c) + set (alike c)) (runs (alike c)))
-  told-held = ap (λ (x : ℕ). (head (alike c)).loop.held + x) c.all-or-none.ensures ∙ on-held (alike c)
+  told_held : (head (alike c)).loop.held + c.all-or-none.result ≡ count (in_runs (rank (alike c) + set (alike c)) (runs (alike c)))
+  told_held = ap (λ (x : ℕ). (head (alike c)).loop.held + x) c.all-or-none.ensures ∙ on_held (alike c)
 
 -- ---- the word behind them
 
@@ -163,37 +163,37 @@ module _ (c : tie.After-whole-word invariant-loop decreases-loop) where
   first = rank here + set here
 
   abbrev rows : List Bool
-  rows = drop ((s here).args.start + at * 64) (bitsOfAll 64 (ws here))
+  rows = drop ((s here).args.start + at * 64) (bits_of_all 64 (ws here))
 
   abbrev word : List Bool
   word = fit 64 rows
 
-  abbrev ones-set : ℕ
-  ones-set = ones c.whole_word.result
+  abbrev ones_set : ℕ
+  ones_set = ones c.whole_word.result
 
   reach : (s here).args.start + at * 64 + 64 ≤ length (ws here) * 64
   reach = omega (arith, (s here).pre.0.2, (mixed c).if1.false)
 
-  as_many : ones-set ≡ count word
-  as_many = ap ones c.whole_word.ensures ∙ ones-word word
+  as_many : ones_set ≡ count word
+  as_many = ap ones c.whole_word.ensures ∙ ones_word word
 
-  word-few : ones-set ≤ 64
-  word-few = omega (arith, ap ones c.whole_word.ensures, chunk-few 64 rows)
+  word_few : ones_set ≤ 64
+  word_few = omega (arith, ap ones c.whole_word.ensures, chunk_few 64 rows)
 
   passed_is : first ≡ count (view (s here).args.start (at * 64) (ws here))
   passed_is = (stored_on here _ refl).counted
 
-  word-ranked : first + count word ≤ total here
-  word-ranked =
+  word_ranked : first + count word ≤ total here
+  word_ranked =
       let a = (s here).args in
-      let past = whole-rank a.start at a.to (ws here) a.out.now (r here) reach in
-      omega (arith, passed_is, past, ones-word word, rank-within a.start ((at + 1) * 64) (a.n * 64) (ws here) (omega (arith, (mixed c).if1.false)))
+      let past = whole_rank a.start at a.to (ws here) a.out.now (r here) reach in
+      omega (arith, passed_is, past, ones_word word, rank_within a.start ((at + 1) * 64) (a.n * 64) (ws here) (omega (arith, (mixed c).if1.false)))
 
-  same : compose word (bits_of 64 (word_of (window first ones-set (runs here))))
+  same : compose word (bits_of 64 (word_of (window first ones_set (runs here))))
       ≡ compose word (drop (count (view (s here).args.start (at * 64) (ws here))) (r here))
   same =
       ap (λ (y : ℕ). compose word (bits_of 64 (word_of (window first y (runs here))))) as_many
-      ∙ gathered-same word first (total here) (λ k. held k (runs here)) (omega (arith, fit_length 64 rows)) word-ranked
+      ∙ gathered_same word first (total here) (λ k. held k (runs here)) (omega (arith, fit_length 64 rows)) word_ranked
       ∙ ap (λ (x : ℕ). compose word (drop x (r here))) passed_is
 
 -- ---- the answers
@@ -203,7 +203,7 @@ loop-holds c =
     let a = (entry c).args in
     let out = a.out.now in (
       omega arith,
-      stored-none a.start a.to a.words.now out _ (below_all (2 ^ 64) out (λ k. (c.slice-known.given k).fits)),
+      stored_none a.start a.to a.words.now out _ (below_all (2 ^ 64) out (λ k. (c.slice-known.given k).fits)),
       (entry c).requires.2,
       refl,
     )
@@ -220,7 +220,7 @@ all-or-none-requires : tie.Need-all-or-none-requires invariant-loop decreases-lo
 all-or-none-requires c κs = search rules
 
 add-held : tie.Need-overflow-add-held invariant-loop decreases-loop
-add-held c = omega (arith, told-held c, held-few (rank (alike c) + set (alike c)) (runs (alike c)), few (alike c))
+add-held c = omega (arith, told_held c, held_few (rank (alike c) + set (alike c)) (runs (alike c)), few (alike c))
 
 add-here : tie.Need-overflow-add-here invariant-loop decreases-loop
 add-here c = omega (arith, few (alike c.before.before))
@@ -239,8 +239,8 @@ returns c =
     let on = stored_on p _ p.store-alike.ensures.3 in
     let all : i p + some p ≡ a.n = omega (arith, within p, c.if1.true) in (
       on.counted ∙ ap (λ (k : ℕ). count (view a.start (k * 64) (ws p))) all,
-      on-reached p,
-      told-held t,
+      on_reached p,
+      told_held t,
       on.composed ∙ ap (λ (k : ℕ). laid (a.to * 64) (compose (view a.start (k * 64) (ws p)) (r p)) a.out.now) all,
     )
 
@@ -250,7 +250,7 @@ whole-word-requires c κs =
     ((s p).pre.0.1, omega (arith, (s p).pre.0.2, c.if1.false))
 
 keep-bits-requires : tie.Need-keep-bits-requires invariant-loop decreases-loop
-keep-bits-requires c κs = (omega (arith, few (here c)), on-reached (here c))
+keep-bits-requires c κs = (omega (arith, few (here c)), on_reached (here c))
 
 add_at : tie.Need-overflow-add-at invariant-loop decreases-loop
 add_at c =
@@ -274,18 +274,18 @@ add-held-2 c =
     let w = read k in
     omega (
       arith,
-      told-held (told_here w),
+      told_held (told_here w),
       k.keep-bits.ensures.2,
-      held_on (first w) (ones-set w) (runs (here w)),
-      held-few (first w + ones-set w) (runs (here w)),
+      held_on (first w) (ones_set w) (runs (here w)),
+      held_few (first w + ones_set w) (runs (here w)),
       few (here w),
-      word-few w,
+      word_few w,
     )
 
 add-past : tie.Need-overflow-add-past invariant-loop decreases-loop
 add-past c =
     let k = kept c in
-    omega (arith, few (here (read k)), k.keep-bits.ensures.0, word-few (read k))
+    omega (arith, few (here (read k)), k.keep-bits.ensures.0, word_few (read k))
 
 add-i : tie.Need-overflow-add-i invariant-loop decreases-loop
 add-i c =
@@ -303,18 +303,18 @@ loop-again c =
     let w = read k in
     let p = here w in
     let a = (s p).args in
-    let past : first w + ones-set w ≡ first w + k.keep-bits.result.set = ap (λ (x : ℕ). first w + x) (sym k.keep-bits.ensures.0) in (
+    let past : first w + ones_set w ≡ first w + k.keep-bits.result.set = ap (λ (x : ℕ). first w + x) (sym k.keep-bits.ensures.0) in (
       omega (arith, (mixed w).if1.left),
-      rw past at (stored-word a.start (at w) a.to (ws p) a.out.now (r p) (reach w)
-          (first w) w.whole_word.result (word_of (window (first w) (ones-set w) (runs p))) k.keep-bits.result.bits _
+      rw past at (stored_word a.start (at w) a.to (ws p) a.out.now (r p) (reach w)
+          (first w) w.whole_word.result (word_of (window (first w) (ones_set w) (runs p))) k.keep-bits.result.bits _
           (stored_on p _ p.store-alike.ensures.3) w.whole_word.ensures (same w) k.keep-bits.ensures.1),
       rw past at k.keep-bits.ensures.3,
-      ap₂ (λ (x y : ℕ). x + y) (told-held (told_here w)) k.keep-bits.ensures.2 ∙ sym (held_on (first w) (ones-set w) (runs p))
-          ∙ ap (λ (x : ℕ). count (inRuns x (runs p))) past,
+      ap₂ (λ (x y : ℕ). x + y) (told_held (told_here w)) k.keep-bits.ensures.2 ∙ sym (held_on (first w) (ones_set w) (runs p))
+          ∙ ap (λ (x : ℕ). count (in_runs x (runs p))) past,
     )
 
-pub keep-whole-spec : {M : Type 1} → statement M
-keep-whole-spec =
+pub keep_whole_spec : {M : Type 1} → statement M
+keep_whole_spec =
     tie.close
     (tie.spec
     invariant-loop

@@ -9,13 +9,13 @@ use lib.ListN.{length, drop, replicate}
 use lib.Count.{ones}
 use Rattle.rows.specs.Rows.{count}
 use Rattle.rows.specs.Word.{word_of}
-use Rattle.rows.specs.Words.{fit, bitsOfAll, view}
-use Rattle.rows.proofs.WordLaws.{ones-word, wordOf-lt}
+use Rattle.rows.specs.Words.{fit, bits_of_all, view}
+use Rattle.rows.proofs.WordLaws.{ones_word, word_of_lt}
 use Rattle.rows.proofs.WordsLaws.{fit_length}
 use Rattle.rows.proofs.LaidLaws.{below_all}
-use Rattle.deposits.proofs.DepositLaws.{chunk-few}
-use Rattle.deposits.proofs.WholeLaws.{Stored, stored-none, stored-word}
-use Rattle.kept.proofs.AlikeLaws.{alike_same, alike-word}
+use Rattle.deposits.proofs.DepositLaws.{chunk_few}
+use Rattle.deposits.proofs.WholeLaws.{Stored, stored_none, stored_word}
+use Rattle.kept.proofs.AlikeLaws.{alike_same, alike_word}
 use borrow.Author.Rules.{rules}
 use Rattle.kept.proofs.whole.store_alike.Statement.{statement}
 use Rattle.kept.proofs.whole.store_alike.Tie as tie
@@ -64,7 +64,7 @@ module _ (c : tie.In-loop invariant-loop decreases-loop) where
   from = s.args.start + s.args.first * 64
 
   abbrev rows : List Bool
-  rows = drop (from + k * 64) (bitsOfAll 64 ws)
+  rows = drop (from + k * 64) (bits_of_all 64 ws)
 
   abbrev word : List Bool
   word = fit 64 rows
@@ -79,13 +79,13 @@ module _ (c : tie.After-whole-word invariant-loop decreases-loop) where
   is : c.whole_word.result ≡ word_of (word here)
   is =
       let place : (s here).args.start + ((s here).args.first + k here) * 64 ≡ from here + k here * 64 = omega arith in
-      c.whole_word.ensures ∙ ap (λ (x : ℕ). word_of (fit 64 (drop x (bitsOfAll 64 (ws here))))) place
+      c.whole_word.ensures ∙ ap (λ (x : ℕ). word_of (fit 64 (drop x (bits_of_all 64 (ws here))))) place
 
   small : c.whole_word.result < 2 ^ 64
-  small = subst (λ (x : ℕ). x < 2 ^ 64) (sym is) (subst (λ (n : ℕ). word_of (word here) < 2 ^ n) (fit_length 64 (rows here)) (wordOf-lt (word here)))
+  small = subst (λ (x : ℕ). x < 2 ^ 64) (sym is) (subst (λ (n : ℕ). word_of (word here) < 2 ^ n) (fit_length 64 (rows here)) (word_of_lt (word here)))
 
   few : ones c.whole_word.result ≤ 64
-  few = omega (arith, ap ones is, chunk-few 64 (rows here))
+  few = omega (arith, ap ones is, chunk_few 64 (rows here))
 
 -- ---- the answers
 
@@ -98,7 +98,7 @@ loop-holds c =
     let out = a.out.now in (
       omega (arith, (entry c).requires.1),
       omega arith,
-      stored-none (a.start + a.first * 64) (a.to + a.first) a.words.now out _ (below_all (2 ^ 64) out (λ i. (c.slice-known.given i).fits)),
+      stored_none (a.start + a.first * 64) (a.to + a.first) a.words.now out _ (below_all (2 ^ 64) out (λ i. (c.slice-known.given i).fits)),
     )
 
 add-loop : tie.Need-overflow-add-loop invariant-loop decreases-loop
@@ -150,14 +150,14 @@ loop-again c =
     let l = (head t).loop in
     let v : Bool = a.alike.set in
     let most : ℕ = a.alike.most in
-    let set : ones r.whole_word.result ≡ count (word t) = ap ones (is r) ∙ ones-word (word t) in
+    let set : ones r.whole_word.result ≡ count (word t) = ap ones (is r) ∙ ones_word (word t) in
     let room : count (view (from t) (k t * 64) (ws t)) + count (word t) ≤ most = omega (arith, (fits c).if1.false, set, l.inv.2.counted) in (
       omega arith,
       omega (arith, (fits c).if1.false),
-      stored-word (from t) (k t) (a.to + a.first) (ws t) a.out.now (replicate most v) (reach t)
+      stored_word (from t) (k t) (a.to + a.first) (ws t) a.out.now (replicate most v) (reach t)
           l.set r.whole_word.result (word_of (replicate 64 v)) c.all-or-none.result l.out
           l.inv.2 (is r) (alike_same (word t) v (count (view (from t) (k t * 64) (ws t))) most (omega (arith, fit_length 64 (rows t))) room)
-          (c.all-or-none.ensures ∙ alike-word r.whole_word.result v (small r)),
+          (c.all-or-none.ensures ∙ alike_word r.whole_word.result v (small r)),
     )
 
 same-length-2 : tie.Need-same-length-2 invariant-loop decreases-loop
@@ -168,8 +168,8 @@ returns-2 c =
     let i = c.before.loop.invariant in
     (i.0, i.2.counted, i.1, i.2.composed)
 
-pub store-alike-spec : {M : Type 1} → statement M
-store-alike-spec =
+pub store_alike_spec : {M : Type 1} → statement M
+store_alike_spec =
     tie.close
     (tie.spec
     invariant-loop

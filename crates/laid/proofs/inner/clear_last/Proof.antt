@@ -5,7 +5,7 @@ use Prim.Native.Nat.{ℕ, suc, ◌-◌, ◌/◌}
 use native.Mathlib.Omega.{arith}
 use lib.ListN.{set}
 use borrow.Author.Rules.{rules}
-use Rattle.rows.specs.Laid.{lastCleared}
+use Rattle.rows.specs.Laid.{last_cleared}
 use Rattle.laid.proofs.inner.clear_last.Statement.{statement}
 use Rattle.laid.proofs.inner.clear_last.Tie as tie
 
@@ -29,8 +29,8 @@ returns-2 c =
     let a = c.before.args in
     let out = a.out.now in
     let e : a.bits ≡ suc (a.bits - 1) = omega arith in
-    subst (λ (n : ℕ). set out ((a.bits - 1) / 64) 0 ≡ lastCleared n out) (sym e) refl
+    subst (λ (n : ℕ). set out ((a.bits - 1) / 64) 0 ≡ last_cleared n out) (sym e) refl
 
-pub clear-last-spec : {M : Type 1} → statement M
-clear-last-spec =
+pub clear_last_spec : {M : Type 1} → statement M
+clear_last_spec =
     tie.close (tie.spec returns sub-last mul-out slice-write-out same_length returns-2)

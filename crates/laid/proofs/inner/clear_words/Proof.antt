@@ -8,7 +8,7 @@ use lib.ListN.{replicate}
 use borrow.Author.Rules.{rules}
 use Rattle.rows.specs.Laid.{laid}
 use Rattle.rows.proofs.FitLaws.{zero_word}
-use Rattle.laid.proofs.SameLaws.{Filled, filled_none, filled-word}
+use Rattle.laid.proofs.SameLaws.{Filled, filled_none, filled_word}
 use Rattle.laid.proofs.inner.clear_words.Statement.{statement}
 use Rattle.laid.proofs.inner.clear_words.Tie as tie
 
@@ -37,7 +37,7 @@ loop-again : tie.Need-loop-preserved invariant-loop decreases-loop
 loop-again c =
     let a = c.before.before.args in
     let l = c.before.loop in
-    (omega arith, omega arith, filled-word false 0 a.first l.i a.out.now l.out (omega arith) (zero_word 64) (omega arith) l.invariant.2)
+    (omega arith, omega arith, filled_word false 0 a.first l.i a.out.now l.out (omega arith) (zero_word 64) (omega arith) l.invariant.2)
 
 same_length : tie.Need-same-length invariant-loop decreases-loop
 same_length c = search rules
@@ -49,8 +49,8 @@ returns c =
     let all : l.i ≡ a.end = omega arith in
     l.invariant.2.filled ∙ ap (λ (x : ℕ). laid (a.first * 64) (replicate ((x - a.first) * 64) false) a.out.now) all
 
-pub clear-words-spec : {M : Type 1} → statement M
-clear-words-spec =
+pub clear_words_spec : {M : Type 1} → statement M
+clear_words_spec =
     tie.close
     (tie.spec
     invariant-loop

@@ -9,9 +9,9 @@ use lib.Bits.{bit_and}
 use lib.Count.{ones}
 use borrow.Author.Rules.{rules}
 use Rattle.rows.specs.Word.{word_of}
-use Rattle.rows.specs.Words.{fit, bitsOfAll}
+use Rattle.rows.specs.Words.{fit, bits_of_all}
 use Rattle.rows.proofs.LaidLaws.{below_all}
-use Rattle.laid.proofs.CopyLaws.{Copying, copying-none, part-few, copying-part, copying-all}
+use Rattle.laid.proofs.CopyLaws.{Copying, copying_none, part_few, copying_part, copying_all}
 use Rattle.laid.proofs.inner.copy_bits.Statement.{statement}
 use Rattle.laid.proofs.inner.copy_bits.Tie as tie
 
@@ -71,14 +71,14 @@ module _ (c : tie.After-ones invariant-loop decreases-loop) where
   abbrev place : ℕ
   place = (start here).args.from + here.loop.done
 
-  is_read : word.read.result ≡ word_of (fit 64 (drop place (bitsOfAll 64 (start here).args.words.now)))
-  is_read = word.read.ensures ∙ ap (λ (k : ℕ). word_of (fit 64 (drop k (bitsOfAll 64 (start here).args.words.now)))) (add-zero place)
+  is_read : word.read.result ≡ word_of (fit 64 (drop place (bits_of_all 64 (start here).args.words.now)))
+  is_read = word.read.ensures ∙ ap (λ (k : ℕ). word_of (fit 64 (drop k (bits_of_all 64 (start here).args.words.now)))) (add-zero place)
 
   counted : here.loop.sum + set ≤ (start here).args.n
   counted =
       let a = (start here).args in
       let l = here.loop in
-      part-few a.words.now a.from a.n a.at l.done l.sum a.out.now l.out l.inv
+      part_few a.words.now a.from a.n a.at l.done l.sum a.out.now l.out l.inv
       (n (sized word)) word.read.result c.ones.result l.out
       (few (sized word)) (in_rest (sized word)) (start here).pre.0 is_read c.ones.ensures
 
@@ -88,7 +88,7 @@ loop-holds : tie.Need-loop-init invariant-loop decreases-loop
 loop-holds c =
     let a = (entry c).args in
     let out = a.out.now in
-    copying-none a.words.now a.from a.n a.at out (below_all (2 ^ 64) out (λ i. (c.slice-known.given i).fits))
+    copying_none a.words.now a.from a.n a.at out (below_all (2 ^ 64) out (λ i. (c.slice-known.given i).fits))
 
 chunk-len-requires : tie.Need-chunk-len-requires invariant-loop decreases-loop
 chunk-len-requires c κs = c.before.loop.invariant.within
@@ -134,7 +134,7 @@ loop-again c =
     let l = h.loop in
     let w = word c in
     let t = sized w in
-    copying-part a.words.now a.from a.n a.at l.done l.sum a.out.now l.out l.inv
+    copying_part a.words.now a.from a.n a.at l.done l.sum a.out.now l.out l.inv
     (n t) w.read.result c.ones.result (masked c).put.new.0
     (few t) (in_rest t) (start h).pre.0 (is_read c) c.ones.ensures (masked c).put.ensures
 
@@ -146,7 +146,7 @@ returns c =
     let h = c.before in
     let a = (start h).args in
     let l = h.loop in
-    copying-all a.words.now a.from a.n a.at l.done l.sum a.out.now l.out l.invariant (omega arith)
+    copying_all a.words.now a.from a.n a.at l.done l.sum a.out.now l.out l.invariant (omega arith)
 
 pub copy_bits_spec : {M : Type 1} → statement M
 copy_bits_spec =

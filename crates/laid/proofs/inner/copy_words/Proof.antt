@@ -8,7 +8,7 @@ use native.Mathlib.Omega.{arith}
 use lib.ListN.{length, take, get_or, set, length-set}
 use borrow.Author.Rules.{rules}
 use Rattle.rows.specs.Rows.{splice}
-use Rattle.rows.proofs.SpliceLaws.{splice-nil, splice-turn}
+use Rattle.rows.proofs.SpliceLaws.{splice_nil, splice_turn}
 use Rattle.laid.proofs.inner.copy_words.Statement.{statement}
 use Rattle.laid.proofs.inner.copy_words.Tie as tie
 
@@ -19,7 +19,7 @@ abbrev decreases-loop : tie.decreases-loop
 decreases-loop words first n out₀ i₀ out i = n - i
 
 loop-holds : tie.Need-loop-init invariant-loop decreases-loop
-loop-holds c = (omega arith, refl, sym (splice-nil c.args.first c.args.out.now))
+loop-holds c = (omega arith, refl, sym (splice_nil c.args.first c.args.out.now))
 
 mul-out : tie.Need-overflow-mul-out invariant-loop decreases-loop
 mul-out c = search rules
@@ -50,7 +50,7 @@ loop-again c =
     let at : ℕ = a.first + l.i in (
       omega arith,
       length-set l.out at w ∙ l.invariant.1,
-      rw (add-one l.i) (ap (λ (o : List ℕ). set o at w) l.invariant.2 ∙ splice-turn a.first a.out.now a.words.now l.i 0 (omega arith)),
+      rw (add-one l.i) (ap (λ (o : List ℕ). set o at w) l.invariant.2 ∙ splice_turn a.first a.out.now a.words.now l.i 0 (omega arith)),
     )
 
 same_length : tie.Need-same-length invariant-loop decreases-loop
@@ -62,8 +62,8 @@ returns c =
     let all : c.before.loop.i ≡ a.n = omega arith in
     c.before.loop.invariant.2 ∙ ap (λ (k : ℕ). splice a.first a.out.now (take k a.words.now)) all
 
-pub copy-words-spec : {M : Type 1} → statement M
-copy-words-spec =
+pub copy_words_spec : {M : Type 1} → statement M
+copy_words_spec =
     tie.close
     (tie.spec
     invariant-loop

@@ -8,8 +8,8 @@ use native.Mathlib.Omega.{arith}
 use lib.ListN.{set, replicate, length-set}
 use borrow.Author.Rules.{rules}
 use Rattle.rows.specs.Laid.{laid}
-use Rattle.laid.proofs.LayLaws.{ones-bits}
-use Rattle.laid.proofs.SameLaws.{Filled, filled_none, filled-word}
+use Rattle.laid.proofs.LayLaws.{ones_bits}
+use Rattle.laid.proofs.SameLaws.{Filled, filled_none, filled_word}
 use Rattle.laid.proofs.inner.fill_four.Statement.{statement}
 use Rattle.laid.proofs.inner.fill_four.Tie as tie
 
@@ -25,7 +25,7 @@ module _ (c : tie.Start) where
   more : (at next : ℕ) (words : List ℕ) → i ≤ at → at + 1 ≡ next → Filled true i at out words → Filled true i next out (set words at (2 ^ 64 - 1))
   more at next words h e f =
       subst (λ (x : ℕ). Filled true i x out (set words at (2 ^ 64 - 1))) e
-      (filled-word true (2 ^ 64 - 1) i at out words (omega arith) (ones-bits 64) h f)
+      (filled_word true (2 ^ 64 - 1) i at out words (omega arith) (ones_bits 64) h f)
 
   abbrev one : List ℕ
   one = set out i (2 ^ 64 - 1)
@@ -85,8 +85,8 @@ returns c =
     let bits : (i c + 4 - i c) * 64 ≡ 256 = omega arith in
     (four c).filled ∙ ap (λ (x : ℕ). laid (i c * 64) (replicate x true) (out c)) bits
 
-pub fill-four-spec : {M : Type 1} → statement M
-fill-four-spec =
+pub fill_four_spec : {M : Type 1} → statement M
+fill_four_spec =
     tie.close
     (tie.spec
     mul-out

@@ -7,8 +7,8 @@ use native.Mathlib.Omega.{arith}
 use lib.ListN.{replicate}
 use borrow.Author.Rules.{rules}
 use Rattle.rows.specs.Laid.{laid}
-use Rattle.laid.proofs.LayLaws.{ones-bits}
-use Rattle.laid.proofs.SameLaws.{Filled, filled_none, filled-word}
+use Rattle.laid.proofs.LayLaws.{ones_bits}
+use Rattle.laid.proofs.SameLaws.{Filled, filled_none, filled_word}
 use Rattle.laid.proofs.inner.fill_many.Statement.{statement}
 use Rattle.laid.proofs.inner.fill_many.Tie as tie
 
@@ -37,7 +37,7 @@ loop-again : tie.Need-loop-preserved invariant-loop decreases-loop
 loop-again c =
     let a = c.before.before.args in
     let l = c.before.loop in
-    (omega arith, omega arith, filled-word true (2 ^ 64 - 1) a.first l.i a.out.now l.out (omega arith) (ones-bits 64) (omega arith) l.invariant.2)
+    (omega arith, omega arith, filled_word true (2 ^ 64 - 1) a.first l.i a.out.now l.out (omega arith) (ones_bits 64) (omega arith) l.invariant.2)
 
 same_length : tie.Need-same-length invariant-loop decreases-loop
 same_length c = search rules
@@ -49,8 +49,8 @@ returns c =
     let all : l.i ≡ a.end = omega arith in
     l.invariant.2.filled ∙ ap (λ (x : ℕ). laid (a.first * 64) (replicate ((x - a.first) * 64) true) a.out.now) all
 
-pub fill-many-spec : {M : Type 1} → statement M
-fill-many-spec =
+pub fill_many_spec : {M : Type 1} → statement M
+fill_many_spec =
     tie.close
     (tie.spec
     invariant-loop

@@ -9,7 +9,7 @@ use borrow.Author.Rules.{rules}
 use borrow.Author.Tests.{ltb-false}
 use Rattle.rows.specs.Laid.{laid}
 use Rattle.rows.proofs.LaidLaws.{below_all}
-use Rattle.laid.proofs.SameLaws.{laid-again}
+use Rattle.laid.proofs.SameLaws.{laid_again}
 use Rattle.laid.proofs.inner.fill_words.Statement.{statement}
 use Rattle.laid.proofs.inner.fill_words.Tie as tie
 
@@ -68,11 +68,11 @@ returns-2 c =
     let skipped : ℕ = next - from in
     let all : skipped + 256 ≡ (a.end - a.first) * 64 = omega arith in
     last.fill-four2.ensures ∙ ap (laid next (replicate 256 true)) first.fill-four.ensures
-    ∙ laid-again 64 from next skipped 256 256 true a.out.now (omega arith) (omega (arith, few (short first))) (omega arith)
+    ∙ laid_again 64 from next skipped 256 256 true a.out.now (omega arith) (omega (arith, few (short first))) (omega arith)
     ∙ ap (λ (x : ℕ). laid from (replicate x true) a.out.now) all
 
-pub fill-words-spec : {M : Type 1} → statement M
-fill-words-spec =
+pub fill_words_spec : {M : Type 1} → statement M
+fill_words_spec =
     tie.close
     (tie.spec
     sub-n

@@ -76,19 +76,19 @@ returns-2 c =
     let a = (start (head from)).args in
     let out = a.out.now in
     let next : ℕ = a.at / 64 + 1 in
-    let in-first : ℕ = 64 - a.at % 64 in
+    let in_first : ℕ = 64 - a.at % 64 in
     let in_words : ℕ = ((a.at + a.n) / 64 - next) * 64 in
     let left : ℕ = (a.at + a.n) % 64 in
-    let all : in-first + in_words + left ≡ a.n = omega arith in
+    let all : in_first + in_words + left ≡ a.n = omega arith in
     end.lay-some3.ensures
     ∙ ap (laid (a.at + a.n - left) (replicate left a.set))
     (words.same-words.ensures ∙ ap (laid (next * 64) (replicate in_words a.set)) from.lay-some2.ensures
-    ∙ laid_same 64 a.at (next * 64) in-first in_words a.set out (omega arith))
-    ∙ laid_same 64 a.at (a.at + a.n - left) (in-first + in_words) left a.set out (omega arith)
+    ∙ laid_same 64 a.at (next * 64) in_first in_words a.set out (omega arith))
+    ∙ laid_same 64 a.at (a.at + a.n - left) (in_first + in_words) left a.set out (omega arith)
     ∙ ap (λ (x : ℕ). laid a.at (replicate x a.set) out) all
 
-pub lay-same-spec : {M : Type 1} → statement M
-lay-same-spec =
+pub lay_same_spec : {M : Type 1} → statement M
+lay_same_spec =
     tie.close
     (tie.spec
     add-if1

@@ -43,5 +43,5 @@ returns-2 c =
     let a = s.args in
     put.put.ensures ∙ ap (λ (z : List Bool). laid a.at z a.out.now) (put.before.same_word.ensures a.n s.pre.0)
 
-pub lay-some-spec : {M : Type 1} → statement M
-lay-some-spec = tie.close (tie.spec returns same-word-requires put-requires same_length returns-2)
+pub lay_some_spec : {M : Type 1} → statement M
+lay_some_spec = tie.close (tie.spec returns same-word-requires put-requires same_length returns-2)

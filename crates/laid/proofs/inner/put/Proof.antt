@@ -3,7 +3,7 @@
 use native.Mathlib.Omega.{arith}
 use lib.ListN.{length-set}
 use borrow.Author.Rules.{rules}
-use Rattle.laid.proofs.StoreLaws.{one_word, two-words}
+use Rattle.laid.proofs.StoreLaws.{one_word, two_words}
 use Rattle.laid.proofs.inner.put.Statement.{statement}
 use Rattle.laid.proofs.inner.put.Tie as tie
 
@@ -64,7 +64,7 @@ same_length c = search rules
 returns : tie.Need-returns
 returns c =
     let s = c.before.before.before.before.before in
-    two-words s.args.out.now s.args.at s.args.n s.args.bits c.before.before.before.ones.result c.before.before.before.ones.ensures (omega arith) (omega arith) (omega arith)
+    two_words s.args.out.now s.args.at s.args.n s.args.bits c.before.before.before.ones.result c.before.before.before.ones.ensures (omega arith) (omega arith) (omega arith)
     s.ranges.bits.fits (λ i. (c.before.before.before.before.slice-known.given i).fits)
 
 same-length-2 : tie.Need-same-length-2

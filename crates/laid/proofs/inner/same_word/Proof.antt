@@ -5,16 +5,16 @@ use mathlib.Core.Path.{sym, ap, ◌∙◌}
 use mathlib.Core.Bool.{true}
 use lib.ListN.{replicate}
 use Rattle.rows.proofs.FitLaws.{zero_word}
-use Rattle.laid.proofs.LayLaws.{ones-bits}
+use Rattle.laid.proofs.LayLaws.{ones_bits}
 use Rattle.laid.proofs.SameLaws.{low_same}
 use Rattle.laid.proofs.inner.same_word.Statement.{statement}
 use Rattle.laid.proofs.inner.same_word.Tie as tie
 
 returns : tie.Need-returns
-returns c n h = low_same n 64 (2 ^ 64 - 1) true h (ones-bits 64) ∙ ap (replicate n) (sym c.if1.true)
+returns c n h = low_same n 64 (2 ^ 64 - 1) true h (ones_bits 64) ∙ ap (replicate n) (sym c.if1.true)
 
 returns-2 : tie.Need-returns-2
 returns-2 c n h = zero_word n ∙ ap (replicate n) (sym c.if1.false)
 
-pub same-word-spec : {M : Type 1} → statement M
-same-word-spec = tie.close (tie.spec returns returns-2)
+pub same_word_spec : {M : Type 1} → statement M
+same_word_spec = tie.close (tie.spec returns returns-2)

@@ -35,6 +35,6 @@ returns-2 c =
     let a = else.before.before.args in
     done.clear-words.ensures ∙ ap (λ (b : Bool). laid (a.first * 64) (replicate ((a.end - a.first) * 64) b) a.out.now) (sym else.if1.false)
 
-pub same-words-spec : {M : Type 1} → statement M
-same-words-spec =
+pub same_words_spec : {M : Type 1} → statement M
+same_words_spec =
     tie.close (tie.spec fill-words-requires same_length returns clear-words-requires same-length-2 returns-2)

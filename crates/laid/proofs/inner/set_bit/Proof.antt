@@ -24,5 +24,5 @@ returns c =
     let a = c.before.before.before.before.before.args in
     c.before.before.put.ensures ∙ ap (λ (l : List Bool). laid a.at l a.out.now) one_bit
 
-pub set-bit-spec : {M : Type 1} → statement M
-set-bit-spec = tie.close (tie.spec put-requires same_length returns)
+pub set_bit_spec : {M : Type 1} → statement M
+set_bit_spec = tie.close (tie.spec put-requires same_length returns)

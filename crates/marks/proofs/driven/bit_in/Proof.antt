@@ -13,28 +13,28 @@ use Rattle.rows.specs.Rows.{count}
 use Rattle.rows.specs.Word.{bits_of}
 use Rattle.rows.specs.Lists.{select}
 use Rattle.rows.proofs.WordLaws.{count_bits}
-use Rattle.rows.proofs.SelectLaws.{select-set}
-use Rattle.word.proofs.SelectWord.{select-first, select-second, first-lt}
-use Rattle.laid.proofs.LayLaws.{ones-bits}
+use Rattle.rows.proofs.SelectLaws.{select_set}
+use Rattle.word.proofs.SelectWord.{select_first, select_second, first_lt}
+use Rattle.laid.proofs.LayLaws.{ones_bits}
 use Rattle.marks.proofs.driven.bit_in.Statement.{statement}
 use Rattle.marks.proofs.driven.bit_in.Tie as tie
 
-select-all : (n r : ℕ) → r < n → select (replicate n true) r ≡ r
-select-all zero r h = absurd (omega arith)
-select-all (suc n) zero h = refl
-select-all (suc n) (suc r) h = select-set (replicate n true) r ∙ ap suc (select-all n r (le_of_suc-le-suc h))
+select_all : (n r : ℕ) → r < n → select (replicate n true) r ≡ r
+select_all zero r h = absurd (omega arith)
+select_all (suc n) zero h = refl
+select_all (suc n) (suc r) h = select_set (replicate n true) r ∙ ap suc (select_all n r (le_of_suc-le-suc h))
 
 returns : tie.Need-returns
 returns c =
     let s = c.before in
-    let all = ap (bits_of 64) c.if1.true ∙ ones-bits 64 in
+    let all = ap (bits_of 64) c.if1.true ∙ ones_bits 64 in
     let few : s.args.rank < 64 = omega (arith, s.requires, ones-le 64 s.args.chunk s.ranges.chunk.fits) in
-    sym (ap (λ (l : List Bool). select l s.args.rank) all ∙ select-all 64 s.args.rank few)
+    sym (ap (λ (l : List Bool). select l s.args.rank) all ∙ select_all 64 s.args.rank few)
 
 returns-2 : tie.Need-returns-2
 returns-2 c =
     let a = c.before.before.args in
-    sym (ap (select (bits_of 64 a.chunk)) c.if2.true ∙ select-first 64 a.chunk)
+    sym (ap (select (bits_of 64 a.chunk)) c.if2.true ∙ select_first 64 a.chunk)
 
 -- a rank that a word holds is the rank of one of its bits
 held : (n r : ℕ) → n < 2 ^ 64 → r < ones n → r < count (bits_of 64 n)
@@ -46,7 +46,7 @@ cast-past c = record { fits = omega (arith, trailing_le 64 c.before.before.befor
 shr-past : tie.Need-overflow-shr-past
 shr-past c =
     let s = c.before.before.before in
-    first-lt 64 s.args.chunk (held s.args.chunk 0 s.ranges.chunk.fits (omega (arith, s.requires)))
+    first_lt 64 s.args.chunk (held s.args.chunk 0 s.ranges.chunk.fits (omega (arith, s.requires)))
 
 add-result : tie.Need-overflow-add-result
 add-result c = record { fits = omega (arith, trailing_le 64 c.before.before.before.args.chunk) }
@@ -62,7 +62,7 @@ returns-3 c =
     let n : ℕ = s.args.chunk in
     let t : ℕ = count_trailing_zeros 64 n in
     let past : n / 2 ^ t / 2 ≡ n / 2 ^ suc t = div-div-eq-div-mul n (2 ^ t) 2 ∙ ap (λ (d : ℕ). n / d) (sym (pow-suc 2 t)) in
-    let second = select-second 64 n (held n 1 s.ranges.chunk.fits (omega (arith, s.requires, c.if3.true))) in
+    let second = select_second 64 n (held n 1 s.ranges.chunk.fits (omega (arith, s.requires, c.if3.true))) in
     omega (arith, ap (count_trailing_zeros 64) past, second, ap (select (bits_of 64 n)) c.if3.true)
 
 select-bit-position-requires : tie.Need-select-bit-position-requires
@@ -71,5 +71,5 @@ select-bit-position-requires c κs = search rules
 returns-4 : tie.Need-returns-4
 returns-4 c = c.select-bit-position.ensures
 
-pub bit-in-spec : {M : Type 1} → statement M
-bit-in-spec = tie.close (tie.spec returns returns-2 cast-past shr-past add-result add-result-2 returns-3 select-bit-position-requires returns-4)
+pub bit_in_spec : {M : Type 1} → statement M
+bit_in_spec = tie.close (tie.spec returns returns-2 cast-past shr-past add-result add-result-2 returns-3 select-bit-position-requires returns-4)

@@ -12,8 +12,8 @@ use lib.Seq.{drop-cons}
 use Rattle.rows.specs.Words.{view}
 use Rattle.rows.specs.Lists.{select}
 use Rattle.rows.specs.Laid.{marked}
-use Rattle.rows.proofs.LaidLaws.{laid-length}
-use Rattle.marks.proofs.DrivenLaws.{Left, left-turn, rows_at}
+use Rattle.rows.proofs.LaidLaws.{laid_length}
+use Rattle.marks.proofs.DrivenLaws.{Left, left_turn, rows_at}
 use Rattle.marks.proofs.driven.intersect_mask_driven_list.Statement.{statement}
 use Rattle.marks.proofs.driven.intersect_mask_driven_list.Tie as tie
 
@@ -59,8 +59,8 @@ loop-again c =
     let r = get_or a.ranks.now l.i 0 in
     let rs = drop (l.i + 1) a.ranks.now in (
       omega arith,
-      ap length m.ensures.2 ∙ laid-length 64 (a.at + select v r) (true ∷ []) l.out ∙ l.invariant.1,
-      left-turn v a.at l.place m.result r rs l.out _ (marked a.at (map (select v) a.ranks.now) a.out.now)
+      ap length m.ensures.2 ∙ laid_length 64 (a.at + select v r) (true ∷ []) l.out ∙ l.invariant.1,
+      left_turn v a.at l.place m.result r rs l.out _ (marked a.at (map (select v) a.ranks.now) a.out.now)
           (rw (add-one l.i) (rw (drop-cons a.ranks.now l.i 0 (omega arith)) at l.invariant.2)) m.ensures.0 m.ensures.1 m.ensures.2,
     )
 
@@ -77,8 +77,8 @@ returns c =
     sym (ap (λ (rs : List ℕ). marked a.at (map (select v) rs) l.out) none) ∙ l.invariant.2.marks
     ∙ ap (λ (rs : List ℕ). marked a.at rs a.out.now) (sym (rows_at v a.ranks.now s.requires.1))
 
-pub intersect-mask-driven-list-spec : {M : Type 1} → statement M
-intersect-mask-driven-list-spec =
+pub intersect_mask_driven_list_spec : {M : Type 1} → statement M
+intersect_mask_driven_list_spec =
     tie.close
     (tie.spec
     invariant-loop

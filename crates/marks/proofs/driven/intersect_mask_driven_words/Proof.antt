@@ -11,14 +11,14 @@ use lib.Seq.{take_all}
 use Rattle.rows.specs.Rows.{count}
 use Rattle.rows.specs.Word.{bits_of, word_of}
 use Rattle.rows.specs.Words.{view}
-use Rattle.rows.specs.Lists.{setRows, select}
+use Rattle.rows.specs.Lists.{set_rows, select}
 use Rattle.rows.specs.Laid.{marked}
-use Rattle.rows.proofs.KeptLaws.{rows-compose-list}
-use Rattle.rows.proofs.MarkLaws.{marked-length}
-use Rattle.rows.proofs.WordsLaws.{view-length}
-use Rattle.books.specs.Chunks.{chunkAt}
+use Rattle.rows.proofs.KeptLaws.{rows_compose_list}
+use Rattle.rows.proofs.MarkLaws.{marked_length}
+use Rattle.rows.proofs.WordsLaws.{view_length}
+use Rattle.books.specs.Chunks.{chunk_at}
 use Rattle.marks.specs.Driven.{Walked}
-use Rattle.marks.proofs.DrivenLaws.{view-few, chunk-ranks, chunk-marks}
+use Rattle.marks.proofs.DrivenLaws.{view_few, chunk_ranks, chunk_marks}
 use Rattle.marks.proofs.driven.intersect_mask_driven_words.Statement.{
   statement,
 }
@@ -27,7 +27,7 @@ use Rattle.marks.proofs.driven.intersect_mask_driven_words.Tie as tie
 abbrev invariant-loop : tie.invariant-loop
 invariant-loop words start len ranks from ranklen at out₀ place₀ rank₀ out place rank =
     (length out ≡ length out₀) × Walked (view start len words) place × (place.passed.0 ≤ rank.0)
-    × (out ≡ marked at (map (select (view start len words)) (setRows 0 (take rank.0 (view from ranklen ranks)))) out₀)
+    × (out ≡ marked at (map (select (view start len words)) (set_rows 0 (take rank.0 (view from ranklen ranks)))) out₀)
 
 abbrev decreases-loop : tie.decreases-loop
 decreases-loop words start len ranks from ranklen at out₀ place₀ rank₀ out place rank = ranklen - rank.0
@@ -65,7 +65,7 @@ module _ (c : tie.Start invariant-loop decreases-loop) where
   r = view c.args.from c.args.ranklen c.args.ranks.now
 
   long : length r ≡ c.args.ranklen
-  long = view-length c.args.from c.args.ranklen c.args.ranks.now c.requires.3
+  long = view_length c.args.from c.args.ranklen c.args.ranks.now c.requires.3
 
 -- ---- the answers
 
@@ -81,7 +81,7 @@ mark-chunk-requires c κs =
     let t = turn k in
     let s = start t in
     let l = (head t).loop in
-    let ups = chunk-ranks (r s) l.rank.0 l.place.passed.0 (count (self s)) l.inv.2 (omega (arith, long s)) (omega (arith, long s, s.pre.1)) in (
+    let ups = chunk_ranks (r s) l.rank.0 l.place.passed.0 (count (self s)) l.inv.2 (omega (arith, long s)) (omega (arith, long s, s.pre.1)) in (
       s.pre.0,
       (omega (arith, l.inv.0, s.pre.4.0), s.pre.4.1),
       l.inv.1,
@@ -92,7 +92,7 @@ mark-chunk-requires c κs =
 add-t17 : tie.Need-overflow-add-t17 invariant-loop decreases-loop
 add-t17 c =
     let s = start (turn (read (back c))) in
-    omega (arith, view-few s.args.start s.args.len s.args.words.now s.pre.0.2, s.pre.1)
+    omega (arith, view_few s.args.start s.args.len s.args.words.now s.pre.0.2, s.pre.1)
 
 loop-less : tie.Need-loop-smaller invariant-loop decreases-loop
 loop-less c = omega arith
@@ -106,12 +106,12 @@ loop-again c =
     let l = (head (turn k)).loop in
     let f : ℕ → ℕ = select (self s) in
     let done : ℕ = l.rank.0 in (
-      ap length m.2 ∙ marked-length a.at (map f (setRows done (bits_of 64 k.rank-chunk.result))) l.out ∙ l.inv.0,
+      ap length m.2 ∙ marked_length a.at (map f (set_rows done (bits_of 64 k.rank-chunk.result))) l.out ∙ l.inv.0,
       m.0,
       m.1,
-      m.2 ∙ ap (λ (x : ℕ). marked a.at (map f (setRows done (bits_of 64 x))) l.out) k.rank-chunk.ensures
-          ∙ ap (marked a.at (map f (setRows done (bits_of 64 (word_of (chunkAt (r s) done)))))) l.inv.3
-          ∙ chunk-marks a.at f (r s) done a.out.now (omega (arith, long s)),
+      m.2 ∙ ap (λ (x : ℕ). marked a.at (map f (set_rows done (bits_of 64 x))) l.out) k.rank-chunk.ensures
+          ∙ ap (marked a.at (map f (set_rows done (bits_of 64 (word_of (chunk_at (r s) done)))))) l.inv.3
+          ∙ chunk_marks a.at f (r s) done a.out.now (omega (arith, long s)),
     )
 
 same_length : tie.Need-same-length invariant-loop decreases-loop
@@ -123,11 +123,11 @@ returns c =
     let s = entry (last c).before in
     let a = s.args in
     let all = take_all l.rank.0 (r s) (omega (arith, long s)) in
-    l.inv.3 ∙ ap (λ (t : List Bool). marked a.at (map (select (self s)) (setRows 0 t)) a.out.now) all
-    ∙ ap (λ (rs : List ℕ). marked a.at rs a.out.now) (sym (rows-compose-list (self s) (r s) (long s ∙ s.pre.1)))
+    l.inv.3 ∙ ap (λ (t : List Bool). marked a.at (map (select (self s)) (set_rows 0 t)) a.out.now) all
+    ∙ ap (λ (rs : List ℕ). marked a.at rs a.out.now) (sym (rows_compose_list (self s) (r s) (long s ∙ s.pre.1)))
 
-pub intersect-mask-driven-words-spec : {M : Type 1} → statement M
-intersect-mask-driven-words-spec =
+pub intersect_mask_driven_words_spec : {M : Type 1} → statement M
+intersect_mask_driven_words_spec =
     tie.close
     (tie.spec
     invariant-loop

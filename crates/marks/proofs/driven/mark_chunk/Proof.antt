@@ -12,20 +12,20 @@ use lib.Count.{count_trailing_zeros, trailing_le}
 use Rattle.rows.specs.Rows.{count}
 use Rattle.rows.specs.Word.{bits_of}
 use Rattle.rows.specs.Words.{view}
-use Rattle.rows.specs.Lists.{setRows, select}
+use Rattle.rows.specs.Lists.{set_rows, select}
 use Rattle.rows.specs.Laid.{marked}
-use Rattle.rows.proofs.LaidLaws.{laid-length}
-use Rattle.rows.proofs.ClearLaws.{rows-low, count_low}
-use Rattle.rows.proofs.PartLaws.{rows-zero}
-use Rattle.marks.proofs.DrivenLaws.{view-few, Left, left-turn}
+use Rattle.rows.proofs.LaidLaws.{laid_length}
+use Rattle.rows.proofs.ClearLaws.{rows_low, count_low}
+use Rattle.rows.proofs.PartLaws.{rows_zero}
+use Rattle.marks.proofs.DrivenLaws.{view_few, Left, left_turn}
 use Rattle.marks.proofs.driven.mark_chunk.Statement.{statement}
 use Rattle.marks.proofs.driven.mark_chunk.Tie as tie
 
 abbrev invariant-loop : tie.invariant-loop
 invariant-loop words start len chunk base at out₀ place₀ rest₀ out place rest =
     (rest < 2 ^ 64) × (length out ≡ length out₀) × (place.passed.0 ≤ base.0 + 64)
-    × Left (view start len words) at place (setRows base.0 (bits_of 64 rest)) out
-    (marked at (map (select (view start len words)) (setRows base.0 (bits_of 64 chunk))) out₀)
+    × Left (view start len words) at place (set_rows base.0 (bits_of 64 rest)) out
+    (marked at (map (select (view start len words)) (set_rows base.0 (bits_of 64 chunk))) out₀)
 
 abbrev decreases-loop : tie.decreases-loop
 decreases-loop words start len chunk base at out₀ place₀ rest₀ out place rest = count (bits_of 64 rest)
@@ -69,14 +69,14 @@ module _ (c : tie.In-loop invariant-loop decreases-loop) where
   lowest = base + count_trailing_zeros 64 rest
 
   abbrev others : List ℕ
-  others = setRows base (bits_of 64 (bit_and rest (rest - 1)))
+  others = set_rows base (bits_of 64 (bit_and rest (rest - 1)))
 
   -- the output once all ranks of the chunk are marked
   abbrev goal : List ℕ
-  goal = marked (start c).args.at (map (select self) (setRows base (bits_of 64 (start c).args.chunk))) (start c).args.out.now
+  goal = marked (start c).args.at (map (select self) (set_rows base (bits_of 64 (start c).args.chunk))) (start c).args.out.now
 
   left : Left self (start c).args.at (head c).loop.place (lowest ∷ others) (head c).loop.out goal
-  left = rw (rows-low base 64 rest (omega arith) (head c).loop.invariant.0) at (head c).loop.invariant.3
+  left = rw (rows_low base 64 rest (omega arith) (head c).loop.invariant.0) at (head c).loop.invariant.3
 
 -- ---- the answers
 
@@ -91,7 +91,7 @@ cast-bit c = omega (arith, trailing_le 64 (rest c))
 add-rest : tie.Need-overflow-add-rest invariant-loop decreases-loop
 add-rest c =
     let s = start (turn c) in
-    omega (arith, (left (turn c)).ahead.1, view-few s.args.start s.args.len s.args.words.now s.pre.0.2)
+    omega (arith, (left (turn c)).ahead.1, view_few s.args.start s.args.len s.args.words.now s.pre.0.2)
 
 mark-rank-requires : tie.Need-mark-rank-requires invariant-loop decreases-loop
 mark-rank-requires c κs =
@@ -115,9 +115,9 @@ loop-again c =
     let a = (start t).args in
     let l = (head t).loop in (
       omega (arith, and_le_l (rest t) (rest t - 1), l.inv.0),
-      ap length m.ensures.2 ∙ laid-length 64 (a.at + select (self t) (lowest t)) (true ∷ []) l.out ∙ l.inv.1,
+      ap length m.ensures.2 ∙ laid_length 64 (a.at + select (self t) (lowest t)) (true ∷ []) l.out ∙ l.inv.1,
       omega (arith, m.ensures.1, trailing_le 64 (rest t)),
-      left-turn (self t) a.at l.place m.result (lowest t) (others t) l.out _ (goal t) (left t) m.ensures.0 m.ensures.1 m.ensures.2,
+      left_turn (self t) a.at l.place m.result (lowest t) (others t) l.out _ (goal t) (left t) m.ensures.0 m.ensures.1 m.ensures.2,
     )
 
 same_length : tie.Need-same-length invariant-loop decreases-loop
@@ -129,11 +129,11 @@ returns c =
     let a = (entry (last c).before).args in
     let b = a.base.0 in
     let f : ℕ → ℕ = select (view a.start a.len a.words.now) in
-    let none : setRows b (bits_of 64 l.rest) ≡ [] = ap (λ (x : ℕ). setRows b (bits_of 64 x)) c.loop-test.false ∙ rows-zero b 64 in
+    let none : set_rows b (bits_of 64 l.rest) ≡ [] = ap (λ (x : ℕ). set_rows b (bits_of 64 x)) c.loop-test.false ∙ rows_zero b 64 in
     (l.inv.3.walked, l.inv.2, sym (ap (λ (rs : List ℕ). marked a.at (map f rs) l.out) none) ∙ l.inv.3.marks)
 
-pub mark-chunk-spec : {M : Type 1} → statement M
-mark-chunk-spec =
+pub mark_chunk_spec : {M : Type 1} → statement M
+mark_chunk_spec =
     tie.close
     (tie.spec
     invariant-loop

@@ -7,7 +7,7 @@ use mathlib.Core.List.{[], ◌∷◌}
 use native.Mathlib.Omega.{arith}
 use borrow.Author.Rules.{rules}
 use Rattle.rows.specs.Laid.{laid}
-use Rattle.marks.proofs.DrivenLaws.{view-few, view-row}
+use Rattle.marks.proofs.DrivenLaws.{view_few, view_row}
 use Rattle.marks.proofs.driven.mark_rank.Statement.{statement}
 use Rattle.marks.proofs.driven.mark_rank.Tie as tie
 
@@ -17,14 +17,14 @@ seek-requires c κs = search rules
 row-in-requires : tie.Need-row-in-requires
 row-in-requires c κs = search rules
 
--- the row's bit has room. So has the rank's, by `view-few`: were it marked instead, only the promise would fail
+-- the row's bit has room. So has the rank's, by `view_few`: were it marked instead, only the promise would fail
 mark-row-requires : tie.Need-mark-row-requires
 mark-row-requires c κs =
     let k = c.before in
     let s = k.before.before.before.before in
     let a = s.args in
-    let room = view-few a.start a.len a.words.now s.requires.0.2 in
-    let row = view-row a.start a.len a.words.now s.requires.0.2 a.rank.0 s.requires.4 in
+    let room = view_few a.start a.len a.words.now s.requires.0.2 in
+    let row = view_row a.start a.len a.words.now s.requires.0.2 a.rank.0 s.requires.4 in
     (omega (arith, k.row_in.ensures), omega (arith, k.row_in.ensures))
 
 same_length : tie.Need-same-length
@@ -37,6 +37,6 @@ returns c =
     let h = k.before.seek.ensures in
     (h.walked, h.reached, c.before.before.mark-row.ensures ∙ ap (λ (r : ℕ). laid (a.at + r) (true ∷ []) a.out.now) k.row_in.ensures)
 
-pub mark-rank-spec : {M : Type 1} → statement M
-mark-rank-spec =
+pub mark_rank_spec : {M : Type 1} → statement M
+mark_rank_spec =
     tie.close (tie.spec seek-requires row-in-requires mark-row-requires same_length returns)

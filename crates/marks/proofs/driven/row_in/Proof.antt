@@ -10,9 +10,9 @@ use Rattle.rows.specs.Rows.{count}
 use Rattle.rows.specs.Word.{bits_of}
 use Rattle.rows.specs.Words.{view}
 use Rattle.rows.specs.Lists.{select}
-use Rattle.rows.proofs.WordsLaws.{view-length}
-use Rattle.books.specs.Chunks.{chunkAt}
-use Rattle.marks.proofs.DrivenLaws.{chunk_count, chunk-few, place_in, left_in, row_of}
+use Rattle.rows.proofs.WordsLaws.{view_length}
+use Rattle.books.specs.Chunks.{chunk_at}
+use Rattle.marks.proofs.DrivenLaws.{chunk_count, chunk_few, place_in, left_in, row_of}
 use Rattle.marks.proofs.driven.row_in.Statement.{statement}
 use Rattle.marks.proofs.driven.row_in.Tie as tie
 
@@ -40,9 +40,9 @@ module _ (s : tie.Start) where
   within : s.args.place.done.0 < s.args.len
   within =
       let a = s.args in
-      omega (arith, place_in v a.place a.rank s.pre.1, view-length a.start a.len a.words.now s.pre.0.2)
+      omega (arith, place_in v a.place a.rank s.pre.1, view_length a.start a.len a.words.now s.pre.0.2)
 
-  held : left < count (chunkAt v s.args.place.done.0)
+  held : left < count (chunk_at v s.args.place.done.0)
   held = left_in v s.args.place s.args.rank s.pre.1
 
 -- ---- the answers
@@ -53,7 +53,7 @@ sub-left c = search rules
 cast-left : tie.Need-overflow-cast-left
 cast-left c =
     let s = start c in
-    omega (arith, held s, chunk-few (v s) s.args.place.done.0)
+    omega (arith, held s, chunk_few (v s) s.args.place.done.0)
 
 self-chunk-requires : tie.Need-self-chunk-requires
 self-chunk-requires c κs = ((start c).requires.0.2, within (start c))
@@ -79,8 +79,8 @@ returns c =
     ap (λ (x : ℕ). a.place.done.0 + x) (k.bit_in.ensures ∙ ap (λ (x : ℕ). select (bits_of 64 x) (left s)) (read k).self-chunk.ensures)
     ∙ sym (row_of (v s) a.place a.rank s.pre.1)
 
-pub row-in-spec : {M : Type 1} → statement M
-row-in-spec =
+pub row_in_spec : {M : Type 1} → statement M
+row_in_spec =
     tie.close
     (tie.spec
     sub-left

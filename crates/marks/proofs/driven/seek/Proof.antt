@@ -7,9 +7,9 @@ use borrow.Author.Rules.{rules}
 use lib.Count.{ones}
 use Rattle.rows.specs.Rows.{count}
 use Rattle.rows.specs.Words.{view}
-use Rattle.books.specs.Chunks.{chunkAt}
+use Rattle.books.specs.Chunks.{chunk_at}
 use Rattle.marks.specs.Driven.{Walked}
-use Rattle.marks.proofs.DrivenLaws.{chunk_count, chunk-few, rank-next, view-few, view-behind}
+use Rattle.marks.proofs.DrivenLaws.{chunk_count, chunk_few, rank_next, view_few, view_behind}
 use Rattle.marks.proofs.driven.seek.Statement.{statement}
 use Rattle.marks.proofs.driven.seek.Tie as tie
 
@@ -26,7 +26,7 @@ loop-holds c = search rules
 within : (c : tie.At-loop invariant-loop decreases-loop) → c.loop.place.done.0 < c.before.before.args.len
 within c =
     let s = c.before.before in
-    view-behind s.args.start s.args.len s.args.words.now s.requires.0.2 c.loop.place.done.0 s.args.rank.0 (omega (arith, c.loop.invariant.0)) s.requires.3
+    view_behind s.args.start s.args.len s.args.words.now s.requires.0.2 c.loop.place.done.0 s.args.rank.0 (omega (arith, c.loop.invariant.0)) s.requires.3
 
 self-chunk-requires : tie.Need-self-chunk-requires invariant-loop decreases-loop
 self-chunk-requires c κs = (c.before.before.requires.0.2, within c)
@@ -36,13 +36,13 @@ module _ (c : tie.After-self-chunk invariant-loop decreases-loop) where
   abbrev start : tie.Start invariant-loop decreases-loop
   start = c.before.before.before
 
-  counted : ones c.self-chunk.result ≡ count (chunkAt (view start.args.start start.args.len start.args.words.now) c.before.loop.place.done.0)
+  counted : ones c.self-chunk.result ≡ count (chunk_at (view start.args.start start.args.len start.args.words.now) c.before.loop.place.done.0)
   counted = chunk_count (view start.args.start start.args.len start.args.words.now) c.before.loop.place.done.0 c.self-chunk.result c.self-chunk.ensures
 
   small : c.before.loop.place.passed.0 + ones c.self-chunk.result < 1048640
   small =
       let a = start.args in
-      omega (arith, counted, chunk-few (view a.start a.len a.words.now) c.before.loop.place.done.0, view-few a.start a.len a.words.now start.pre.0.2)
+      omega (arith, counted, chunk_few (view a.start a.len a.words.now) c.before.loop.place.done.0, view_few a.start a.len a.words.now start.pre.0.2)
 
 cast-count : tie.Need-overflow-cast-count invariant-loop decreases-loop
 cast-count c = omega (arith, small c)
@@ -69,10 +69,10 @@ loop-again c =
     let k = c.before.before.before.before.before in
     let a = (start k).args in
     let l = k.before.loop in
-    (omega (arith, l.invariant.0, counted k, rank-next (view a.start a.len a.words.now) l.place.done.0), omega arith)
+    (omega (arith, l.invariant.0, counted k, rank_next (view a.start a.len a.words.now) l.place.done.0), omega arith)
 
-pub seek-spec : {M : Type 1} → statement M
-seek-spec =
+pub seek_spec : {M : Type 1} → statement M
+seek_spec =
     tie.close
     (tie.spec
     invariant-loop

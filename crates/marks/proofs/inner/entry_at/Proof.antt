@@ -8,7 +8,7 @@ use native.Mathlib.Omega.{arith}
 use lib.ListN.{length, get_or}
 use borrow.Author.Rules.{rules}
 use Rattle.marks.specs.Entries.{firsts, entries}
-use Rattle.marks.proofs.EntryLaws.{firsts-length, firsts_at}
+use Rattle.marks.proofs.EntryLaws.{firsts_length, firsts_at}
 use Rattle.marks.proofs.inner.entry_at.Statement.{statement}
 use Rattle.marks.proofs.inner.entry_at.Tie as tie
 
@@ -25,7 +25,7 @@ module _ (c : tie.Then1) where
   ranked = rw c.if1.true at c.before.requires
 
   there : rank * 2 + 1 < length numbers
-  there = omega (arith, ranked, firsts-length numbers)
+  there = omega (arith, ranked, firsts_length numbers)
 
 mul-first : tie.Need-overflow-mul-first
 mul-first c = search (rules, there c)
@@ -48,14 +48,14 @@ returns c =
 -- ---- a list
 
 module _ (c : tie.Else1) where
-  listed-there : c.before.args.rank.0 < length c.before.args.rows.now
-  listed-there = rw c.if1.false at c.before.requires
+  listed_there : c.before.args.rank.0 < length c.before.args.rows.now
+  listed_there = rw c.if1.false at c.before.requires
 
 mul-entry : tie.Need-overflow-mul-entry
-mul-entry c = omega (arith, listed-there c)
+mul-entry c = omega (arith, listed_there c)
 
 shared-slice-read-entry : tie.Need-shared-slice-read-entry
-shared-slice-read-entry c = listed-there c.before
+shared-slice-read-entry c = listed_there c.before
 
 cast-entry : tie.Need-overflow-cast-entry
 cast-entry c = omega (arith, c.shared-slice-known2.given c.before.before.args.rank.0)
@@ -66,8 +66,8 @@ returns-2 c =
     let a = e.before.args in
     sym (ap (λ (b : Bool). get_or (entries b a.rows.now) a.rank.0 0) e.if1.false)
 
-pub entry-at-spec : {M : Type 1} → statement M
-entry-at-spec =
+pub entry_at_spec : {M : Type 1} → statement M
+entry_at_spec =
     tie.close
     (tie.spec
     mul-first

@@ -5,11 +5,11 @@ use native.Mathlib.Omega.{arith}
 use lib.ListN.{length}
 use Rattle.rows.specs.Rows.{count, compose}
 use Rattle.rows.specs.Words.{view}
-use Rattle.rows.specs.Lists.{listed, setRows}
+use Rattle.rows.specs.Lists.{listed, set_rows}
 use Rattle.rows.specs.Laid.{marked}
-use Rattle.rows.proofs.WordsLaws.{view-length}
-use Rattle.rows.proofs.LaidLaws.{laid-length}
-use Rattle.marks.proofs.ListLaws.{marked-compose}
+use Rattle.rows.proofs.WordsLaws.{view_length}
+use Rattle.rows.proofs.LaidLaws.{laid_length}
+use Rattle.marks.proofs.ListLaws.{marked_compose}
 use borrow.Author.Rules.{rules}
 use Rattle.marks.proofs.inner.lay_driven_by_list.Statement.{statement}
 use Rattle.marks.proofs.inner.lay_driven_by_list.Tie as tie
@@ -37,7 +37,7 @@ intersect-mask-driven-list-requires : tie.Need-intersect-mask-driven-list-requir
 intersect-mask-driven-list-requires c κs =
     let k = cleared c in
     let s = entry k.before in
-    let long = rw laid-length at (ap length k.clear.ensures) in
+    let long = rw laid_length at (ap length k.clear.ensures) in
     (s.pre.0, s.pre.1, (omega (arith, s.pre.2.0, long), s.pre.2.1))
 
 same_length : tie.Need-same-length
@@ -51,11 +51,11 @@ returns c =
     let a = s.args in
     let self = view a.start a.len a.words.now in
     let rank = listed (count self) a.ranks.now in
-    e.intersect-mask-driven-list.ensures ∙ ap (marked a.at (setRows 0 (compose self rank))) k.clear.ensures
-    ∙ marked-compose a.at a.len self rank a.out.now (view-length a.start a.len a.words.now s.pre.0.2)
+    e.intersect-mask-driven-list.ensures ∙ ap (marked a.at (set_rows 0 (compose self rank))) k.clear.ensures
+    ∙ marked_compose a.at a.len self rank a.out.now (view_length a.start a.len a.words.now s.pre.0.2)
 
-pub lay-driven-by-list-spec : {M : Type 1} → statement M
-lay-driven-by-list-spec =
+pub lay_driven_by_list_spec : {M : Type 1} → statement M
+lay_driven_by_list_spec =
     tie.close
     (tie.spec
     clear-requires

@@ -5,11 +5,11 @@ use native.Mathlib.Omega.{arith}
 use lib.ListN.{length}
 use Rattle.rows.specs.Rows.{compose}
 use Rattle.rows.specs.Words.{view}
-use Rattle.rows.specs.Lists.{setRows}
+use Rattle.rows.specs.Lists.{set_rows}
 use Rattle.rows.specs.Laid.{marked}
-use Rattle.rows.proofs.WordsLaws.{view-length}
-use Rattle.rows.proofs.LaidLaws.{laid-length}
-use Rattle.marks.proofs.ListLaws.{marked-compose}
+use Rattle.rows.proofs.WordsLaws.{view_length}
+use Rattle.rows.proofs.LaidLaws.{laid_length}
+use Rattle.marks.proofs.ListLaws.{marked_compose}
 use borrow.Author.Rules.{rules}
 use Rattle.marks.proofs.inner.lay_driven_by_words.Statement.{statement}
 use Rattle.marks.proofs.inner.lay_driven_by_words.Tie as tie
@@ -37,7 +37,7 @@ intersect-mask-driven-words-requires : tie.Need-intersect-mask-driven-words-requ
 intersect-mask-driven-words-requires c κs =
     let k = cleared c in
     let s = entry k.before in
-    let long = rw laid-length at (ap length k.clear.ensures) in
+    let long = rw laid_length at (ap length k.clear.ensures) in
     (s.pre.0, s.pre.1, s.pre.2, s.pre.3, (omega (arith, s.pre.4.0, long), s.pre.4.1))
 
 same_length : tie.Need-same-length
@@ -51,11 +51,11 @@ returns c =
     let a = s.args in
     let self = view a.start a.len a.words.now in
     let rank = view a.from a.ranklen a.ranks.now in
-    e.intersect-mask-driven-words.ensures ∙ ap (marked a.at (setRows 0 (compose self rank))) k.clear.ensures
-    ∙ marked-compose a.at a.len self rank a.out.now (view-length a.start a.len a.words.now s.pre.0.2)
+    e.intersect-mask-driven-words.ensures ∙ ap (marked a.at (set_rows 0 (compose self rank))) k.clear.ensures
+    ∙ marked_compose a.at a.len self rank a.out.now (view_length a.start a.len a.words.now s.pre.0.2)
 
-pub lay-driven-by-words-spec : {M : Type 1} → statement M
-lay-driven-by-words-spec =
+pub lay_driven_by_words_spec : {M : Type 1} → statement M
+lay_driven_by_words_spec =
     tie.close
     (tie.spec
     clear-requires

@@ -4,12 +4,12 @@ use mathlib.Core.Path.{ap, ◌∙◌}
 use native.Mathlib.Omega.{arith}
 use lib.ListN.{length}
 use Rattle.rows.specs.Rows.{compose}
-use Rattle.rows.specs.Lists.{listed, setRows, member}
+use Rattle.rows.specs.Lists.{listed, set_rows, member}
 use Rattle.rows.specs.Laid.{marked}
-use Rattle.rows.proofs.ListLaws.{tab-length}
-use Rattle.rows.proofs.LaidLaws.{laid-length}
+use Rattle.rows.proofs.ListLaws.{tab_length}
+use Rattle.rows.proofs.LaidLaws.{laid_length}
 use Rattle.marks.specs.Entries.{entries}
-use Rattle.marks.proofs.ListLaws.{marked-compose}
+use Rattle.marks.proofs.ListLaws.{marked_compose}
 use borrow.Author.Rules.{rules}
 use Rattle.marks.proofs.inner.lay_entry_at_rank.Statement.{statement}
 use Rattle.marks.proofs.inner.lay_entry_at_rank.Tie as tie
@@ -37,7 +37,7 @@ intersect-by-rank-indices-requires : tie.Need-intersect-by-rank-indices-requires
 intersect-by-rank-indices-requires c κs =
     let k = cleared c in
     let s = entry k.before in
-    let long = rw laid-length at (ap length k.clear.ensures) in
+    let long = rw laid_length at (ap length k.clear.ensures) in
     (s.pre.0, s.pre.1, (omega (arith, s.pre.2.0, long), s.pre.2.1))
 
 same_length : tie.Need-same-length
@@ -52,11 +52,11 @@ returns c =
     let rows = entries a.single a.rows.now in
     let self = listed a.len rows in
     let rank = listed (length rows) a.ranks.now in
-    e.intersect-by-rank-indices.ensures ∙ ap (marked a.at (setRows 0 (compose self rank))) k.clear.ensures
-    ∙ marked-compose a.at a.len self rank a.out.now (tab-length 0 a.len (λ i. member i rows))
+    e.intersect-by-rank-indices.ensures ∙ ap (marked a.at (set_rows 0 (compose self rank))) k.clear.ensures
+    ∙ marked_compose a.at a.len self rank a.out.now (tab_length 0 a.len (λ i. member i rows))
 
-pub lay-entry-at-rank-spec : {M : Type 1} → statement M
-lay-entry-at-rank-spec =
+pub lay_entry_at_rank_spec : {M : Type 1} → statement M
+lay_entry_at_rank_spec =
     tie.close
     (tie.spec
     clear-requires

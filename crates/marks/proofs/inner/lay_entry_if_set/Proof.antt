@@ -4,13 +4,13 @@ use mathlib.Core.Path.{ap, ◌∙◌}
 use native.Mathlib.Omega.{arith}
 use lib.ListN.{length, drop}
 use Rattle.rows.specs.Rows.{compose}
-use Rattle.rows.specs.Words.{bitsOfAll}
-use Rattle.rows.specs.Lists.{listed, setRows, member}
+use Rattle.rows.specs.Words.{bits_of_all}
+use Rattle.rows.specs.Lists.{listed, set_rows, member}
 use Rattle.rows.specs.Laid.{marked}
-use Rattle.rows.proofs.ListLaws.{tab-length}
-use Rattle.rows.proofs.LaidLaws.{laid-length}
+use Rattle.rows.proofs.ListLaws.{tab_length}
+use Rattle.rows.proofs.LaidLaws.{laid_length}
 use Rattle.marks.specs.Entries.{entries}
-use Rattle.marks.proofs.ListLaws.{marked-compose}
+use Rattle.marks.proofs.ListLaws.{marked_compose}
 use borrow.Author.Rules.{rules}
 use Rattle.marks.proofs.inner.lay_entry_if_set.Statement.{statement}
 use Rattle.marks.proofs.inner.lay_entry_if_set.Tie as tie
@@ -38,7 +38,7 @@ intersect-indices-by-rank-bits-requires : tie.Need-intersect-indices-by-rank-bit
 intersect-indices-by-rank-bits-requires c κs =
     let k = cleared c in
     let s = entry k.before in
-    let long = rw laid-length at (ap length k.clear.ensures) in
+    let long = rw laid_length at (ap length k.clear.ensures) in
     (s.pre.0, s.pre.1, s.pre.2, (omega (arith, s.pre.3.0, long), s.pre.3.1))
 
 same_length : tie.Need-same-length
@@ -52,12 +52,12 @@ returns c =
     let a = s.args in
     let rows = entries a.single a.rows.now in
     let self = listed a.len rows in
-    let rank = drop a.from (bitsOfAll 64 a.ranks.now) in
-    e.intersect-indices-by-rank-bits.ensures ∙ ap (marked a.at (setRows 0 (compose self rank))) k.clear.ensures
-    ∙ marked-compose a.at a.len self rank a.out.now (tab-length 0 a.len (λ i. member i rows))
+    let rank = drop a.from (bits_of_all 64 a.ranks.now) in
+    e.intersect-indices-by-rank-bits.ensures ∙ ap (marked a.at (set_rows 0 (compose self rank))) k.clear.ensures
+    ∙ marked_compose a.at a.len self rank a.out.now (tab_length 0 a.len (λ i. member i rows))
 
-pub lay-entry-if-set-spec : {M : Type 1} → statement M
-lay-entry-if-set-spec =
+pub lay_entry_if_set_spec : {M : Type 1} → statement M
+lay_entry_if_set_spec =
     tie.close
     (tie.spec
     clear-requires

@@ -4,7 +4,7 @@ use mathlib.Core.Path.{sym, ap, ◌∙◌}
 use mathlib.Core.Bool.{Bool}
 use lib.ListN.{length}
 use Rattle.marks.specs.Entries.{entries}
-use Rattle.marks.proofs.EntryLaws.{firsts-length}
+use Rattle.marks.proofs.EntryLaws.{firsts_length}
 use Rattle.marks.proofs.lists.entry_count.Statement.{statement}
 use Rattle.marks.proofs.lists.entry_count.Tie as tie
 
@@ -12,12 +12,12 @@ returns : tie.Need-returns
 returns c =
     let a = c.before.args in
     let ns = a.rows.now in
-    sym (ap (λ (b : Bool). length (entries b ns)) c.if1.true ∙ firsts-length ns)
+    sym (ap (λ (b : Bool). length (entries b ns)) c.if1.true ∙ firsts_length ns)
 
 returns-2 : tie.Need-returns-2
 returns-2 c =
     let a = c.before.args in
     sym (ap (λ (b : Bool). length (entries b a.rows.now)) c.if1.false)
 
-pub entry-count-spec : {M : Type 1} → statement M
-entry-count-spec = tie.close (tie.spec returns returns-2)
+pub entry_count_spec : {M : Type 1} → statement M
+entry_count_spec = tie.close (tie.spec returns returns-2)

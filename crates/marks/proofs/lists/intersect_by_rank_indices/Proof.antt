@@ -9,12 +9,12 @@ use native.Mathlib.Omega.{arith}
 use lib.ListN.{length, take, get_or}
 use lib.Seq.{take_all}
 use Rattle.rows.specs.Rows.{compose}
-use Rattle.rows.specs.Lists.{listed, setRows}
+use Rattle.rows.specs.Lists.{listed, set_rows}
 use Rattle.rows.specs.Laid.{laid, marked}
-use Rattle.rows.proofs.LaidLaws.{laid-length}
-use Rattle.rows.proofs.MarkLaws.{marked_next, ascending-below, below_at}
+use Rattle.rows.proofs.LaidLaws.{laid_length}
+use Rattle.rows.proofs.MarkLaws.{marked_next, ascending_below, below_at}
 use Rattle.marks.specs.Entries.{entries}
-use Rattle.marks.proofs.ListLaws.{ranked-length, ranked-at}
+use Rattle.marks.proofs.ListLaws.{ranked_length, ranked_at}
 use borrow.Author.Rules.{rules}
 use Rattle.marks.proofs.lists.intersect_by_rank_indices.Statement.{statement}
 use Rattle.marks.proofs.lists.intersect_by_rank_indices.Tie as tie
@@ -22,7 +22,7 @@ use Rattle.marks.proofs.lists.intersect_by_rank_indices.Tie as tie
 abbrev invariant-loop : tie.invariant-loop
 invariant-loop numbers single ranks len at out₀ i₀ out i =
     (i ≤ length ranks) × (length out ≡ length out₀)
-    × (out ≡ marked at (take i (setRows 0 (compose (listed len (entries single numbers)) (listed (length (entries single numbers)) ranks)))) out₀)
+    × (out ≡ marked at (take i (set_rows 0 (compose (listed len (entries single numbers)) (listed (length (entries single numbers)) ranks)))) out₀)
 
 abbrev decreases-loop : tie.decreases-loop
 decreases-loop numbers single ranks len at out₀ i₀ out i = length ranks - i
@@ -60,10 +60,10 @@ module _ (c : tie.Start invariant-loop decreases-loop) where
   ranks = c.args.ranks.now
 
   abbrev result : List ℕ
-  result = setRows 0 (compose (listed c.args.len rows) (listed (length rows) ranks))
+  result = set_rows 0 (compose (listed c.args.len rows) (listed (length rows) ranks))
 
   long : length result ≡ length ranks
-  long = ranked-length c.args.len rows ranks c.requires.0 c.requires.1
+  long = ranked_length c.args.len rows ranks c.requires.0 c.requires.1
 
 -- ---- a turn: the listed rank is one of self's, and its entry is the composition's row
 
@@ -77,15 +77,15 @@ module _ (c : tie.After-shared-slice-known3 invariant-loop decreases-loop) where
   ranked : rank < length (rows (start c))
   ranked =
       let n : ℕ = length (rows (start c)) in
-      below_at n (ranks (start c)) i (ascending-below 0 n (ranks (start c)) (start c).requires.1) (omega arith)
+      below_at n (ranks (start c)) i (ascending_below 0 n (ranks (start c)) (start c).requires.1) (omega arith)
 
   row : get_or (rows (start c)) rank 0 < (start c).args.len
   row =
       let len : ℕ = (start c).args.len in
-      below_at len (rows (start c)) rank (ascending-below 0 len (rows (start c)) (start c).requires.0) ranked
+      below_at len (rows (start c)) rank (ascending_below 0 len (rows (start c)) (start c).requires.0) ranked
 
   composed : get_or (result (start c)) i 0 ≡ get_or (rows (start c)) rank 0
-  composed = ranked-at (start c).args.len (rows (start c)) (ranks (start c)) (start c).requires.0 (start c).requires.1 i (omega arith)
+  composed = ranked_at (start c).args.len (rows (start c)) (ranks (start c)) (start c).requires.0 (start c).requires.1 i (omega arith)
 
 -- ---- the answers
 
@@ -126,7 +126,7 @@ loop-again c =
     let a = s.args in
     let l = (head k).loop in (
       omega arith,
-      ap length m.mark-row.ensures ∙ laid-length 64 (a.at + e.entry_at.result.0) (true ∷ []) l.out ∙ l.inv.1,
+      ap length m.mark-row.ensures ∙ laid_length 64 (a.at + e.entry_at.result.0) (true ∷ []) l.out ∙ l.inv.1,
       m.mark-row.ensures
           ∙ ap₂ (λ (x : ℕ) (o : List ℕ). laid (a.at + x) (true ∷ []) o) (e.entry_at.ensures ∙ sym (composed k)) l.inv.2
           ∙ marked_next a.at l.i (result s) a.out.now (omega (arith, long s))
@@ -142,8 +142,8 @@ returns c =
     let s = entry (last c).before in
     l.inv.2 ∙ ap (λ (rs : List ℕ). marked s.args.at rs s.args.out.now) (take_all l.i (result s) (omega (arith, long s)))
 
-pub intersect-by-rank-indices-spec : {M : Type 1} → statement M
-intersect-by-rank-indices-spec =
+pub intersect_by_rank_indices_spec : {M : Type 1} → statement M
+intersect_by_rank_indices_spec =
     tie.close
     (tie.spec
     invariant-loop

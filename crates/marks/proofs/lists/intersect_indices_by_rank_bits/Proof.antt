@@ -8,15 +8,15 @@ use native.Mathlib.Omega.{arith}
 use lib.ListN.{length, take, drop, get_or}
 use lib.Seq.{take_all}
 use Rattle.rows.specs.Word.{bits_of, word_of}
-use Rattle.rows.specs.Words.{bitsOfAll, view}
-use Rattle.rows.specs.Lists.{setRows}
+use Rattle.rows.specs.Words.{bits_of_all, view}
+use Rattle.rows.specs.Lists.{set_rows}
 use Rattle.rows.specs.Laid.{marked}
-use Rattle.rows.proofs.WordsLaws.{view-length}
-use Rattle.rows.proofs.MarkLaws.{marked-length, ascending-below}
-use Rattle.books.specs.Chunks.{chunkAt}
+use Rattle.rows.proofs.WordsLaws.{view_length}
+use Rattle.rows.proofs.MarkLaws.{marked_length, ascending_below}
+use Rattle.books.specs.Chunks.{chunk_at}
 use Rattle.marks.specs.Entries.{entries}
-use Rattle.marks.proofs.DrivenLaws.{chunk-ranks, chunk-marks}
-use Rattle.marks.proofs.ListLaws.{rows-at-set}
+use Rattle.marks.proofs.DrivenLaws.{chunk_ranks, chunk_marks}
+use Rattle.marks.proofs.ListLaws.{rows_at_set}
 use borrow.Author.Rules.{rules}
 use Rattle.marks.proofs.lists.intersect_indices_by_rank_bits.Statement.{statement}
 use Rattle.marks.proofs.lists.intersect_indices_by_rank_bits.Tie as tie
@@ -24,7 +24,7 @@ use Rattle.marks.proofs.lists.intersect_indices_by_rank_bits.Tie as tie
 abbrev invariant-loop : tie.invariant-loop
 invariant-loop numbers single ranks from len at out₀ count rank₀ out rank =
     (length out ≡ length out₀)
-    × (out ≡ marked at (map (λ k. get_or (entries single numbers) k 0) (setRows 0 (take rank.0 (view from count ranks)))) out₀)
+    × (out ≡ marked at (map (λ k. get_or (entries single numbers) k 0) (set_rows 0 (take rank.0 (view from count ranks)))) out₀)
 
 abbrev decreases-loop : tie.decreases-loop
 decreases-loop numbers single ranks from len at out₀ count rank₀ out rank = count - rank.0
@@ -65,10 +65,10 @@ module _ (c : tie.After-entry-count invariant-loop decreases-loop) where
   entry_of = λ k. get_or rows k 0
 
   abbrev n : ℕ
-  n = c.entry-count.result
+  n = c.entry_count.result
 
   all : n ≡ length rows
-  all = c.entry-count.ensures
+  all = c.entry_count.ensures
 
   abbrev r : List Bool
   r = view s.args.from n s.args.ranks.now
@@ -77,7 +77,7 @@ module _ (c : tie.After-entry-count invariant-loop decreases-loop) where
   within = omega (arith, all, s.pre.2)
 
   long : length r ≡ n
-  long = view-length s.args.from n s.args.ranks.now within
+  long = view_length s.args.from n s.args.ranks.now within
 
 -- ---- the answers
 
@@ -97,10 +97,10 @@ mark-entries-requires c κs =
     let o = counted t in
     let pre = (s o).pre in
     let done : ℕ = (head t).loop.rank.0 in
-    let ups = chunk-ranks (r o) done 0 (length (rows o)) (omega arith) (omega (arith, long o)) (omega (arith, long o, all o)) in (
-      ascending-below 0 (s o).args.len (rows o) pre.0,
+    let ups = chunk_ranks (r o) done 0 (length (rows o)) (omega arith) (omega (arith, long o)) (omega (arith, long o, all o)) in (
+      ascending_below 0 (s o).args.len (rows o) pre.0,
       (omega (arith, (head t).loop.inv.0, pre.3.0), pre.3.1),
-      rw k.rank-chunk.ensures (ascending-below 0 (length (rows o)) (setRows done (bits_of 64 (word_of (chunkAt (r o) done)))) ups),
+      rw k.rank-chunk.ensures (ascending_below 0 (length (rows o)) (set_rows done (bits_of 64 (word_of (chunk_at (r o) done)))) ups),
     )
 
 add-t15 : tie.Need-overflow-add-t15 invariant-loop decreases-loop
@@ -121,11 +121,11 @@ loop-again c =
     let done : ℕ = l.rank.0 in
     let f : ℕ → ℕ = entry_of o in (
       ap length m.mark-entries.ensures
-          ∙ marked-length a.at (map f (setRows done (bits_of 64 k.rank-chunk.result))) l.out ∙ l.inv.0,
+          ∙ marked_length a.at (map f (set_rows done (bits_of 64 k.rank-chunk.result))) l.out ∙ l.inv.0,
       m.mark-entries.ensures
-          ∙ ap (λ (x : ℕ). marked a.at (map f (setRows done (bits_of 64 x))) l.out) k.rank-chunk.ensures
-          ∙ ap (marked a.at (map f (setRows done (bits_of 64 (word_of (chunkAt (r o) done)))))) l.inv.1
-          ∙ chunk-marks a.at f (r o) done a.out.now (omega (arith, long o)),
+          ∙ ap (λ (x : ℕ). marked a.at (map f (set_rows done (bits_of 64 x))) l.out) k.rank-chunk.ensures
+          ∙ ap (marked a.at (map f (set_rows done (bits_of 64 (word_of (chunk_at (r o) done)))))) l.inv.1
+          ∙ chunk_marks a.at f (r o) done a.out.now (omega (arith, long o)),
     )
 
 same_length : tie.Need-same-length invariant-loop decreases-loop
@@ -136,13 +136,13 @@ returns c =
     let l = (last c).loop in
     let o = (last c).before in
     let a = (s o).args in
-    let bits = drop a.from (bitsOfAll 64 a.ranks.now) in
+    let bits = drop a.from (bits_of_all 64 a.ranks.now) in
     let read_all = take_all l.rank.0 (r o) (omega (arith, long o)) ∙ ap (λ (k : ℕ). take k bits) (all o) in
-    l.inv.1 ∙ ap (λ (t : List Bool). marked a.at (map (entry_of o) (setRows 0 t)) a.out.now) read_all
-    ∙ ap (λ (rs : List ℕ). marked a.at rs a.out.now) (sym (rows-at-set a.len (rows o) bits (s o).pre.0))
+    l.inv.1 ∙ ap (λ (t : List Bool). marked a.at (map (entry_of o) (set_rows 0 t)) a.out.now) read_all
+    ∙ ap (λ (rs : List ℕ). marked a.at rs a.out.now) (sym (rows_at_set a.len (rows o) bits (s o).pre.0))
 
-pub intersect-indices-by-rank-bits-spec : {M : Type 1} → statement M
-intersect-indices-by-rank-bits-spec =
+pub intersect_indices_by_rank_bits_spec : {M : Type 1} → statement M
+intersect_indices_by_rank_bits_spec =
     tie.close
     (tie.spec
     invariant-loop

@@ -11,23 +11,23 @@ use lib.Count.{count_trailing_zeros, trailing_le}
 use Rattle.rows.specs.Rows.{count}
 use Rattle.rows.specs.Word.{bits_of}
 use Rattle.rows.specs.Words.{Below}
-use Rattle.rows.specs.Lists.{setRows}
+use Rattle.rows.specs.Lists.{set_rows}
 use Rattle.rows.specs.Laid.{laid, marked}
-use Rattle.rows.proofs.LaidLaws.{laid-length}
+use Rattle.rows.proofs.LaidLaws.{laid_length}
 use Rattle.rows.proofs.MarkLaws.{below_at}
-use Rattle.rows.proofs.ClearLaws.{rows-low, count_low}
-use Rattle.rows.proofs.PartLaws.{rows-zero}
+use Rattle.rows.proofs.ClearLaws.{rows_low, count_low}
+use Rattle.rows.proofs.PartLaws.{rows_zero}
 use borrow.Author.Rules.{rules}
 use Rattle.marks.specs.Entries.{entries}
-use Rattle.marks.proofs.EntryLaws.{entries-few}
+use Rattle.marks.proofs.EntryLaws.{entries_few}
 use Rattle.marks.proofs.lists.mark_entries.Statement.{statement}
 use Rattle.marks.proofs.lists.mark_entries.Tie as tie
 
 abbrev invariant-loop : tie.invariant-loop
 invariant-loop numbers single len chunk base at out₀ rest₀ out rest =
-    (rest < 2 ^ 64) × (length out ≡ length out₀) × Below (length (entries single numbers)) (setRows base.0 (bits_of 64 rest))
-    × (marked at (map (λ k. get_or (entries single numbers) k 0) (setRows base.0 (bits_of 64 rest))) out
-    ≡ marked at (map (λ k. get_or (entries single numbers) k 0) (setRows base.0 (bits_of 64 chunk))) out₀)
+    (rest < 2 ^ 64) × (length out ≡ length out₀) × Below (length (entries single numbers)) (set_rows base.0 (bits_of 64 rest))
+    × (marked at (map (λ k. get_or (entries single numbers) k 0) (set_rows base.0 (bits_of 64 rest))) out
+    ≡ marked at (map (λ k. get_or (entries single numbers) k 0) (set_rows base.0 (bits_of 64 chunk))) out₀)
 
 abbrev decreases-loop : tie.decreases-loop
 decreases-loop numbers single len chunk base at out₀ rest₀ out rest = count (bits_of 64 rest)
@@ -74,10 +74,10 @@ module _ (c : tie.In-loop invariant-loop decreases-loop) where
   lowest = base + count_trailing_zeros 64 rest
 
   abbrev others : List ℕ
-  others = setRows base (bits_of 64 (bit_and rest (rest - 1)))
+  others = set_rows base (bits_of 64 (bit_and rest (rest - 1)))
 
-  split : setRows base (bits_of 64 rest) ≡ lowest ∷ others
-  split = rows-low base 64 rest (omega arith) (head c).loop.invariant.0
+  split : set_rows base (bits_of 64 rest) ≡ lowest ∷ others
+  split = rows_low base 64 rest (omega arith) (head c).loop.invariant.0
 
   below : (lowest < length rows) × Below (length rows) others
   below = rw split at (head c).loop.invariant.2
@@ -96,7 +96,7 @@ cast-bit c = omega (arith, trailing_le 64 (rest c))
 add-rest : tie.Need-overflow-add-rest invariant-loop decreases-loop
 add-rest c =
     let t = turn c in
-    let few = entries-few (start t).args.single (start t).args.rows.now in
+    let few = entries_few (start t).args.single (start t).args.rows.now in
     omega (arith, (below t).0, few, (lent (head t).before).shared-slice-known.given 0)
 
 entry-at-requires : tie.Need-entry-at-requires invariant-loop decreases-loop
@@ -127,7 +127,7 @@ loop-again c =
     let f : ℕ → ℕ = λ j. get_or (rows k) j 0 in
     let out = m.mark-row.ensures ∙ ap (λ (x : ℕ). laid (a.at + x) (true ∷ []) l.out) e.entry_at.ensures in (
       omega (arith, and_le_l (rest k) (rest k - 1), l.inv.0),
-      ap length out ∙ laid-length 64 (a.at + f (lowest k)) (true ∷ []) l.out ∙ l.inv.1,
+      ap length out ∙ laid_length 64 (a.at + f (lowest k)) (true ∷ []) l.out ∙ l.inv.1,
       (below k).1,
       ap (marked a.at (map f (others k))) out ∙ sym (ap (λ (rs : List ℕ). marked a.at (map f rs) l.out) (split k)) ∙ l.inv.3,
     )
@@ -141,11 +141,11 @@ returns c =
     let a = (entry (last c).before).args in
     let b = a.base.0 in
     let f : ℕ → ℕ = λ k. get_or (entries a.single a.rows.now) k 0 in
-    let none : setRows b (bits_of 64 l.rest) ≡ [] = ap (λ (x : ℕ). setRows b (bits_of 64 x)) c.loop-test.false ∙ rows-zero b 64 in
+    let none : set_rows b (bits_of 64 l.rest) ≡ [] = ap (λ (x : ℕ). set_rows b (bits_of 64 x)) c.loop-test.false ∙ rows_zero b 64 in
     sym (ap (λ (rs : List ℕ). marked a.at (map f rs) l.out) none) ∙ l.inv.3
 
-pub mark-entries-spec : {M : Type 1} → statement M
-mark-entries-spec =
+pub mark_entries_spec : {M : Type 1} → statement M
+mark_entries_spec =
     tie.close
     (tie.spec
     invariant-loop

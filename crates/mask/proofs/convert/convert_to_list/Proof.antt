@@ -5,9 +5,9 @@ use mathlib.Core.Path.{ap, ◌∙◌}
 use native.Mathlib.Omega.{arith}
 use borrow.Author.Rules.{rules}
 use Rattle.rules.specs.Operand.{Operand, lent, length_of}
-use Rattle.rules.specs.Answer.{accepted, noRoute}
-use Rattle.rules.proofs.OperandLaws.{accepted-limit, accepted-few}
-use Rattle.rules.proofs.AnswerLaws.{own-answer}
+use Rattle.rules.specs.Answer.{accepted, no_route}
+use Rattle.rules.proofs.OperandLaws.{accepted_limit, accepted_few}
+use Rattle.rules.proofs.AnswerLaws.{own_answer}
 use Rattle.mask.proofs.convert.convert_to_list.Statement.{statement}
 use Rattle.mask.proofs.convert.convert_to_list.Tie as tie
 
@@ -26,7 +26,7 @@ write-list-requires c κs = search rules
 own-answer-requires : tie.Need-own-answer-requires
 own-answer-requires c κs =
     let s = begun c.before.before in
-    (omega (arith, s.pre.1, accepted-few (operand s) s.pre.0), accepted-limit (operand s) s.pre.0)
+    (omega (arith, s.pre.1, accepted_few (operand s) s.pre.0), accepted_limit (operand s) s.pre.0)
 
 same_length : tie.Need-same-length
 same_length c = search rules
@@ -35,8 +35,8 @@ returns : tie.Need-returns
 returns c =
     let w = c.before.before.before in
     let s = begun w in
-    let told = ap (λ (n : ℕ). accepted n noRoute (length_of s.args.operand.form)) s.pre.1 in
-    (c.own-answer.ensures ∙ told ∙ own-answer (operand s) noRoute s.pre.0, w.write-list.ensures)
+    let told = ap (λ (n : ℕ). accepted n no_route (length_of s.args.operand.form)) s.pre.1 in
+    (c.own_answer.ensures ∙ told ∙ own_answer (operand s) no_route s.pre.0, w.write-list.ensures)
 
-pub convert-to-list-spec : {M : Type 1} → statement M
-convert-to-list-spec = tie.close (tie.spec write-list-requires own-answer-requires same_length returns)
+pub convert_to_list_spec : {M : Type 1} → statement M
+convert_to_list_spec = tie.close (tie.spec write-list-requires own-answer-requires same_length returns)

@@ -7,16 +7,16 @@ use native.Mathlib.Omega.{arith}
 use lib.ListN.{length}
 use borrow.Author.Rules.{rules}
 use Rattle.rows.specs.declared.Verdict.TheVariants.{Fine}
-use Rattle.rows.specs.Runs.{runsOf}
+use Rattle.rows.specs.Runs.{runs_of}
 use Rattle.rows.specs.Table.{refusal}
 use Rattle.rules.specs.declared.Answer.{Answer}
 use Rattle.rules.specs.declared.Written.{Written}
 use Rattle.rules.specs.Operand.{Operand, lent, rows_of, length_of}
-use Rattle.rules.specs.Answer.{accepted, answered, noRoute}
-use Rattle.rules.proofs.OperandLaws.{accepted-limit, accepted-few}
-use Rattle.rules.proofs.AnswerLaws.{own-answer}
-use Rattle.mask.specs.Judged.{noRuns}
-use Rattle.mask.proofs.RunOutLaws.{runs-no-room, runs-refused, runs-written}
+use Rattle.rules.specs.Answer.{accepted, answered, no_route}
+use Rattle.rules.proofs.OperandLaws.{accepted_limit, accepted_few}
+use Rattle.rules.proofs.AnswerLaws.{own_answer}
+use Rattle.mask.specs.Judged.{no_runs}
+use Rattle.mask.proofs.RunOutLaws.{runs_no_room, runs_refused, runs_written}
 use Rattle.mask.proofs.convert.convert_to_runs.Statement.{statement}
 use Rattle.mask.proofs.convert.convert_to_runs.Tie as tie
 
@@ -47,7 +47,7 @@ module _ (s : tie.Start) where
   out = s.args.out.now
 
   abbrev runs : List ℕ
-  runs = runsOf (rows_of operand)
+  runs = runs_of (rows_of operand)
 
 no_room : (c : tie.Then1) → length (out (begun c.before)) < length (runs (begun c.before))
 no_room c = omega (arith, c.if1.true, c.before.count_runs.ensures)
@@ -70,8 +70,8 @@ returns : tie.Need-returns
 returns c =
     let t = barred c in
     let s = begun t.before in
-    let p = runs-refused (operand s) (out s) (refusal 8 0) (runs-no-room (operand s) (out s) s.pre.0 (no_room t)) in
-    (c.no-runs.ensures ∙ ap noRuns c.before.refusal.ensures ∙ p.0, p.1)
+    let p = runs_refused (operand s) (out s) (refusal 8 0) (runs_no_room (operand s) (out s) s.pre.0 (no_room t)) in
+    (c.no_runs_lem.ensures ∙ ap no_runs c.before.refusal.ensures ∙ p.0, p.1)
 
 write-runs-requires : tie.Need-write-runs-requires
 write-runs-requires c κs = ((begun c.before.before).requires.0, room c.before)
@@ -79,7 +79,7 @@ write-runs-requires c κs = ((begun c.before.before).requires.0, room c.before)
 own-answer-requires : tie.Need-own-answer-requires
 own-answer-requires c κs =
     let s = begun (writing (wrote c)).before in
-    (omega (arith, s.pre.1, accepted-few (operand s) s.pre.0), accepted-limit (operand s) s.pre.0)
+    (omega (arith, s.pre.1, accepted_few (operand s) s.pre.0), accepted_limit (operand s) s.pre.0)
 
 same_length : tie.Need-same-length
 same_length c = search rules
@@ -93,13 +93,13 @@ returns-2 c =
     let e = writing w in
     let s = begun e.before in
     let o = operand s in
-    let counted = ap (λ (n : ℕ). accepted n noRoute (length_of s.args.operand.form)) s.pre.1 in
-    let own : c.own-answer.result ≡ answered Fine (rows_of o) noRoute = c.own-answer.ensures ∙ counted ∙ own-answer o noRoute s.pre.0 in
-    let p = runs-written o (out s) s.pre.0 (room e) in
+    let counted = ap (λ (n : ℕ). accepted n no_route (length_of s.args.operand.form)) s.pre.1 in
+    let own : c.own_answer.result ≡ answered Fine (rows_of o) no_route = c.own_answer.ensures ∙ counted ∙ own_answer o no_route s.pre.0 in
+    let p = runs_written o (out s) s.pre.0 (room e) in
     (ap₂ with own e.before.count_runs.ensures ∙ p.0, w.write-runs.ensures ∙ p.1)
 
-pub convert-to-runs-spec : {M : Type 1} → statement M
-convert-to-runs-spec =
+pub convert_to_runs_spec : {M : Type 1} → statement M
+convert_to_runs_spec =
     tie.close
     (tie.spec
     count-runs-requires

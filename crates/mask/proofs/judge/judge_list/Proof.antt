@@ -4,8 +4,8 @@ use mathlib.Core.Path.{ap, ◌∙◌}
 use borrow.Author.Rules.{rules}
 use Rattle.rules.specs.Operand.{lent}
 use Rattle.operand.specs.declared.inner.counts.Checked.{Checked}
-use Rattle.mask.specs.Judged.{withRoom}
-use Rattle.mask.proofs.JudgeLaws.{room-counted}
+use Rattle.mask.specs.Judged.{with_room}
+use Rattle.mask.proofs.JudgeLaws.{room_counted}
 use Rattle.mask.proofs.judge.judge_list.Statement.{statement}
 use Rattle.mask.proofs.judge.judge_list.Tie as tie
 
@@ -19,7 +19,7 @@ returns : tie.Need-returns
 returns c =
     let a = c.before.before.before.before.args in
     let o = lent a.form a.words.now a.rows.now in
-    c.with-room.ensures ∙ ap (λ (d : Checked). withRoom d d.count a.room) c.before.check.ensures ∙ room-counted o a.room
+    c.with-room.ensures ∙ ap (λ (d : Checked). with_room d d.count a.room) c.before.check.ensures ∙ room_counted o a.room
 
-pub judge-list-spec : {M : Type 1} → statement M
-judge-list-spec = tie.close (tie.spec check-requires with-room-requires returns)
+pub judge_list_spec : {M : Type 1} → statement M
+judge_list_spec = tie.close (tie.spec check-requires with-room-requires returns)

@@ -3,11 +3,11 @@
 use Prim.Native.Nat.{ℕ}
 use mathlib.Core.Path.{ap, ap₂, ◌∙◌}
 use borrow.Author.Rules.{rules}
-use Rattle.rows.specs.Laid.{wordsFor}
+use Rattle.rows.specs.Laid.{words_for}
 use Rattle.rules.specs.Operand.{lent, length_of}
 use Rattle.operand.specs.declared.inner.counts.Checked.{Checked}
-use Rattle.mask.specs.Judged.{withRoom}
-use Rattle.mask.proofs.JudgeLaws.{room-judged}
+use Rattle.mask.specs.Judged.{with_room}
+use Rattle.mask.proofs.JudgeLaws.{room_judged}
 use Rattle.mask.proofs.judge.judge_words.Statement.{statement}
 use Rattle.mask.proofs.judge.judge_words.Tie as tie
 
@@ -29,8 +29,8 @@ returns c =
     let told = sized.before in
     let a = told.before.before.before.args in
     let o = lent a.form a.words.now a.rows.now in
-    let needed = c.before.words-for.ensures ∙ ap wordsFor sized.length-of.ensures in
-    c.with-room.ensures ∙ ap₂ (λ (d : Checked) (n : ℕ). withRoom d n a.room) told.check.ensures needed ∙ room-judged o a.room (wordsFor (length_of a.form))
+    let needed = c.before.words-for.ensures ∙ ap words_for sized.length-of.ensures in
+    c.with-room.ensures ∙ ap₂ (λ (d : Checked) (n : ℕ). with_room d n a.room) told.check.ensures needed ∙ room_judged o a.room (words_for (length_of a.form))
 
-pub judge-words-spec : {M : Type 1} → statement M
-judge-words-spec = tie.close (tie.spec check-requires length-of-requires words-for-requires with-room-requires returns)
+pub judge_words_spec : {M : Type 1} → statement M
+judge_words_spec = tie.close (tie.spec check-requires length-of-requires words-for-requires with-room-requires returns)

@@ -3,7 +3,7 @@
 use mathlib.Core.Path.{ap, ◌∙◌}
 use borrow.Author.Rules.{rules}
 use Rattle.rows.specs.declared.Verdict.{Verdict}
-use Rattle.rows.specs.Table.{ifFine}
+use Rattle.rows.specs.Table.{if_fine}
 use Rattle.operand.specs.declared.inner.counts.Checked.{Checked}
 use Rattle.mask.proofs.judge.with_room.Statement.{statement}
 use Rattle.mask.proofs.judge.with_room.Tie as tie
@@ -21,8 +21,8 @@ told d v = record { verdict = v; count = d.count }
 returns : tie.Need-returns
 returns c =
     let d = c.before.before.args.checked in
-    let joined = c.then.ensures ∙ ap (λ (v : Verdict). ifFine d.verdict v d.verdict) c.before.has_room.ensures in
+    let joined = c.then.ensures ∙ ap (λ (v : Verdict). if_fine d.verdict v d.verdict) c.before.has_room.ensures in
     ap (told d) joined
 
-pub with-room-spec : {M : Type 1} → statement M
-with-room-spec = tie.close (tie.spec has-room-requires then-requires returns)
+pub with_room_spec : {M : Type 1} → statement M
+with_room_spec = tie.close (tie.spec has-room-requires then-requires returns)

@@ -9,7 +9,7 @@ use native.Mathlib.Omega.{arith}
 use lib.ListN.{length, take, get_or, set, length-set}
 use lib.Seq.{take_all}
 use Rattle.rows.specs.Rows.{splice}
-use Rattle.rows.proofs.SpliceLaws.{splice-nil, splice-turn}
+use Rattle.rows.proofs.SpliceLaws.{splice_nil, splice_turn}
 use borrow.Author.Rules.{rules}
 use Rattle.mask.proofs.list.copy_list.Statement.{statement}
 use Rattle.mask.proofs.list.copy_list.Tie as tie
@@ -21,7 +21,7 @@ abbrev decreases-loop : tie.decreases-loop
 decreases-loop rows out₀ i₀ i-end out i = i-end - i
 
 loop-holds : tie.Need-loop-init invariant-loop decreases-loop
-loop-holds c = (omega arith, refl, refl, sym (splice-nil 0 c.args.out.now))
+loop-holds c = (omega arith, refl, refl, sym (splice_nil 0 c.args.out.now))
 
 mul-out : tie.Need-overflow-mul-out invariant-loop decreases-loop
 mul-out c = search rules
@@ -50,7 +50,7 @@ loop-again c =
       refl,
       length-set l.out l.i y ∙ l.invariant.2,
       rw (add-one l.i)
-          (ap₂ (λ (o : List ℕ) (k : ℕ). set o k y) l.invariant.3 (sym (zero-add l.i)) ∙ splice-turn 0 a.out.now a.rows.now l.i 0 (omega arith)),
+          (ap₂ (λ (o : List ℕ) (k : ℕ). set o k y) l.invariant.3 (sym (zero-add l.i)) ∙ splice_turn 0 a.out.now a.rows.now l.i 0 (omega arith)),
     )
 
 same_length : tie.Need-same-length invariant-loop decreases-loop
@@ -62,8 +62,8 @@ returns c =
     let l = c.before.loop in
     l.invariant.3 ∙ ap (splice 0 a.out.now) (take_all l.i a.rows.now (omega arith))
 
-pub copy-list-spec : {M : Type 1} → statement M
-copy-list-spec =
+pub copy_list_spec : {M : Type 1} → statement M
+copy_list_spec =
     tie.close
     (tie.spec
     invariant-loop

@@ -9,12 +9,12 @@ use lib.ListN.{length, take, drop}
 use lib.Seq.{take_all}
 use Rattle.rows.specs.Rows.{count, splice}
 use Rattle.rows.specs.Word.{bits_of, word_of}
-use Rattle.rows.specs.Lists.{setRows}
-use Rattle.rows.proofs.SpliceLaws.{splice-nil, splice-length}
-use Rattle.rows.proofs.PartLaws.{count-part}
+use Rattle.rows.specs.Lists.{set_rows}
+use Rattle.rows.proofs.SpliceLaws.{splice_nil, splice_length}
+use Rattle.rows.proofs.PartLaws.{count_part}
 use Rattle.rules.specs.Operand.{Operand, lent, rows_of, length_of, limit}
-use Rattle.operand.proofs.FlatLaws.{flat-length, flat-limit}
-use Rattle.mask.proofs.ListOutLaws.{list_count, list-turn}
+use Rattle.operand.proofs.FlatLaws.{flat_length, flat_limit}
+use Rattle.mask.proofs.ListOutLaws.{list_count, list_turn}
 use Rattle.mask.proofs.list.list_flat.Statement.{statement}
 use Rattle.mask.proofs.list.list_flat.Tie as tie
 use borrow.Author.Rules.{rules}
@@ -22,7 +22,7 @@ use borrow.Author.Rules.{rules}
 abbrev invariant-loop : tie.invariant-loop
 invariant-loop form words out₀ len k₀ row₀ out k row =
     (row ≤ len) × (len ≡ length_of form) × (length out ≡ length out₀) × (k ≡ count (take row (rows_of (lent form words []))))
-    × (out ≡ splice 0 out₀ (setRows 0 (take row (rows_of (lent form words [])))))
+    × (out ≡ splice 0 out₀ (set_rows 0 (take row (rows_of (lent form words [])))))
 
 abbrev decreases-loop : tie.decreases-loop
 decreases-loop form words out₀ len k₀ row₀ out k row = len - row
@@ -63,10 +63,10 @@ module _ (c : tie.At-loop invariant-loop decreases-loop) where
   row = c.loop.row
 
   long : length rows ≡ c.before.length-of.result
-  long = flat-length operand (start c).requires.0 ∙ sym c.loop.invariant.1
+  long = flat_length operand (start c).requires.0 ∙ sym c.loop.invariant.1
 
   limited : c.before.length-of.result ≤ limit
-  limited = omega (arith, c.loop.invariant.1, flat-limit operand (start c).requires.0)
+  limited = omega (arith, c.loop.invariant.1, flat_limit operand (start c).requires.0)
 
 -- a turn's rows, and the word of them
 module _ (c : tie.After-chunk-len invariant-loop decreases-loop) where
@@ -102,26 +102,26 @@ module _ (c : tie.After-list-chunk invariant-loop decreases-loop) where
   abbrev after : List ℕ
   after = c.list-chunk.new.1.1.1.0
 
-  next-entry : c.list-chunk.result ≡ count (take next (rows here))
-  next-entry =
+  next_entry : c.list-chunk.result ≡ count (take next (rows here))
+  next_entry =
       let l = here.loop in
       c.list-chunk.ensures.0
       ∙ ap₂ (λ (i : ℕ) (z : List Bool). i + count z) l.inv.3 (read_word (read c))
       ∙ sym (more (sized (read c)))
 
-  rows_written : after ≡ splice 0 out (setRows 0 (take next (rows here)))
+  rows_written : after ≡ splice 0 out (set_rows 0 (take next (rows here)))
   rows_written =
       let l = here.loop in
       let t = sized (read c) in
       c.list-chunk.ensures.1
-      ∙ ap (λ (z : List Bool). splice l.k l.out (setRows l.row z)) (read_word (read c))
-      ∙ ap₂ (λ (i : ℕ) (o : List ℕ). splice i o (setRows l.row (bits_of 64 (word t)))) l.inv.3 l.inv.4
-      ∙ list-turn 64 l.row (n t) (rows here) (short t) (room t) out
+      ∙ ap (λ (z : List Bool). splice l.k l.out (set_rows l.row z)) (read_word (read c))
+      ∙ ap₂ (λ (i : ℕ) (o : List ℕ). splice i o (set_rows l.row (bits_of 64 (word t)))) l.inv.3 l.inv.4
+      ∙ list_turn 64 l.row (n t) (rows here) (short t) (room t) out
 
-  length-kept : length after ≡ length out
-  length-kept =
+  length_kept : length after ≡ length out
+  length_kept =
       let l = here.loop in
-      ap length c.list-chunk.ensures.1 ∙ splice-length l.k l.out _ ∙ l.inv.2
+      ap length c.list-chunk.ensures.1 ∙ splice_length l.k l.out _ ∙ l.inv.2
 
 -- ---- the answers
 
@@ -129,7 +129,7 @@ length-of-requires : tie.Need-length-of-requires invariant-loop decreases-loop
 length-of-requires c κs = search rules
 
 loop-holds : tie.Need-loop-init invariant-loop decreases-loop
-loop-holds c = (omega arith, c.length-of.ensures, refl, refl, sym (splice-nil 0 (entry c).args.out.now))
+loop-holds c = (omega arith, c.length-of.ensures, refl, refl, sym (splice_nil 0 (entry c).args.out.now))
 
 chunk-len-requires : tie.Need-chunk-len-requires invariant-loop decreases-loop
 chunk-len-requires c κs = omega arith
@@ -147,7 +147,7 @@ list-chunk-requires c κs =
     let w = c.before in
     let t = sized w in
     let h = head t in
-    let within = count-part (row h + n t) (rows h) in
+    let within = count_part (row h + n t) (rows h) in
     (omega (arith, limited h), omega (arith, ap count (read_word w), more t, within, (start h).pre.1, h.loop.inv.2, h.loop.inv.3))
 
 add_row : tie.Need-overflow-add-row invariant-loop decreases-loop
@@ -159,7 +159,7 @@ loop-less c = omega arith
 loop-again : tie.Need-loop-preserved invariant-loop decreases-loop
 loop-again c =
     let w = listed c in
-    (omega arith, (here w).loop.inv.1, length-kept w, next-entry w, rows_written w)
+    (omega arith, (here w).loop.inv.1, length_kept w, next_entry w, rows_written w)
 
 same_length : tie.Need-same-length invariant-loop decreases-loop
 same_length c = search rules
@@ -168,10 +168,10 @@ returns : tie.Need-returns invariant-loop decreases-loop
 returns c =
     let h = c.before in
     let all = take_all (row h) (rows h) (omega (arith, long h)) in
-    h.loop.invariant.4 ∙ ap (λ (z : List Bool). splice 0 (start h).args.out.now (setRows 0 z)) all
+    h.loop.invariant.4 ∙ ap (λ (z : List Bool). splice 0 (start h).args.out.now (set_rows 0 z)) all
 
-pub list-flat-spec : {M : Type 1} → statement M
-list-flat-spec =
+pub list_flat_spec : {M : Type 1} → statement M
+list_flat_spec =
     tie.close
     (tie.spec
     invariant-loop

@@ -7,14 +7,14 @@ use mathlib.Core.List.{List}
 use native.Mathlib.Omega.{arith}
 use borrow.Author.Rules.{rules}
 use Rattle.rows.specs.Rows.{splice}
-use Rattle.rows.specs.Lists.{setRows}
-use Rattle.rows.specs.Runs.{inRuns}
-use Rattle.rows.proofs.ListLaws.{rows-count}
+use Rattle.rows.specs.Lists.{set_rows}
+use Rattle.rows.specs.Runs.{in_runs}
+use Rattle.rows.proofs.ListLaws.{rows_count}
 use Rattle.rules.specs.Operand.{Operand, lent, rows_of, count_of}
-use Rattle.rules.proofs.OperandLaws.{accepted-count, accepted-limit}
-use Rattle.operand.specs.Flat.{hasRuns}
-use Rattle.operand.proofs.NumberLaws.{accepted-runs, runs-rows, runs-sum}
-use Rattle.mask.proofs.ListOutLaws.{list-front}
+use Rattle.rules.proofs.OperandLaws.{accepted_count, accepted_limit}
+use Rattle.operand.specs.Flat.{has_runs}
+use Rattle.operand.proofs.NumberLaws.{accepted_runs, runs_rows, runs_sum}
+use Rattle.mask.proofs.ListOutLaws.{list_front}
 use Rattle.mask.proofs.list.write_list.Statement.{statement}
 use Rattle.mask.proofs.list.write_list.Tie as tie
 
@@ -48,7 +48,7 @@ module _ (c : tie.Then1) where
   abbrev lists : tie.Start
   lists = start c.before
 
-  runs : hasRuns lists.args.form ≡ true
+  runs : has_runs lists.args.form ≡ true
   runs = sym c.before.has-runs.ensures ∙ c.if1.true
 
 -- ---- the answers
@@ -65,7 +65,7 @@ list-runs-requires c κs =
     let s = lists t in
     let o = operand s in
     rw c.before.length-of.ensures
-    (accepted-runs o (runs t) s.pre.0, omega (arith, runs-sum o (runs t), s.pre.1), accepted-limit o s.pre.0)
+    (accepted_runs o (runs t) s.pre.0, omega (arith, runs_sum o (runs t), s.pre.1), accepted_limit o s.pre.0)
 
 same_length : tie.Need-same-length
 same_length c = search rules
@@ -77,9 +77,9 @@ returns c =
     let s = lists t in
     let o = operand s in
     l.list-runs.ensures
-    ∙ ap (λ (n : ℕ). splice 0 (out s) (setRows 0 (inRuns n s.args.rows.now))) (measured l).length-of.ensures
-    ∙ ap (λ (z : List Bool). splice 0 (out s) (setRows 0 z)) (sym (runs-rows o (runs t)))
-    ∙ list-front (out s) (setRows 0 (rows_of o)) (count_of o) (rows-count 0 (rows_of o) ∙ accepted-count o s.pre.0) s.pre.1
+    ∙ ap (λ (n : ℕ). splice 0 (out s) (set_rows 0 (in_runs n s.args.rows.now))) (measured l).length-of.ensures
+    ∙ ap (λ (z : List Bool). splice 0 (out s) (set_rows 0 z)) (sym (runs_rows o (runs t)))
+    ∙ list_front (out s) (set_rows 0 (rows_of o)) (count_of o) (rows_count 0 (rows_of o) ∙ accepted_count o s.pre.0) s.pre.1
 
 write-other-requires : tie.Need-write-other-requires
 write-other-requires c κs =
@@ -93,8 +93,8 @@ same-length-2 c = search rules
 returns-2 : tie.Need-returns-2
 returns-2 c = c.before.before.write-other.ensures
 
-pub write-list-spec : {M : Type 1} → statement M
-write-list-spec =
+pub write_list_spec : {M : Type 1} → statement M
+write_list_spec =
     tie.close
     (tie.spec
     has-runs-requires

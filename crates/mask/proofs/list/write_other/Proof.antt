@@ -8,14 +8,14 @@ use native.Mathlib.Nat.{zero-add}
 use native.Mathlib.Omega.{arith}
 use lib.ListN.{length}
 use Rattle.rows.specs.Rows.{count, splice}
-use Rattle.rows.specs.Lists.{setRows}
-use Rattle.rows.proofs.ListLaws.{rows-listed, rows-count}
+use Rattle.rows.specs.Lists.{set_rows}
+use Rattle.rows.proofs.ListLaws.{rows_listed, rows_count}
 use Rattle.rules.specs.Operand.{Operand, lent, rows_of, length_of, count_of}
-use Rattle.rules.proofs.OperandLaws.{accepted-count}
-use Rattle.operand.specs.Flat.{hasRowNumbers, Flat}
-use Rattle.operand.proofs.NumberLaws.{accepted-list, list-rows, list_count}
-use Rattle.operand.proofs.FlatLaws.{accepted-flat, flat_rows}
-use Rattle.mask.proofs.ListOutLaws.{list-front}
+use Rattle.rules.proofs.OperandLaws.{accepted_count}
+use Rattle.operand.specs.Flat.{has_row_numbers, Flat}
+use Rattle.operand.proofs.NumberLaws.{accepted_list, list_rows, list_count}
+use Rattle.operand.proofs.FlatLaws.{accepted_flat, flat_rows}
+use Rattle.mask.proofs.ListOutLaws.{list_front}
 use borrow.Author.Rules.{rules}
 use Rattle.mask.proofs.list.write_other.Statement.{statement}
 use Rattle.mask.proofs.list.write_other.Tie as tie
@@ -51,28 +51,28 @@ module _ (c : tie.Start) where
 
   -- what is to be written
   abbrev entries : List ℕ
-  entries = setRows 0 (rows_of operand)
+  entries = set_rows 0 (rows_of operand)
 
 module _ (c : tie.Then1) where
   abbrev copies : tie.Start
   copies = start c.before
 
-  numbered : hasRowNumbers copies.args.form ≡ true
+  numbered : has_row_numbers copies.args.form ≡ true
   numbered = sym c.before.has-row-numbers.ensures ∙ c.if1.true
 
   same : entries copies ≡ copies.args.rows.now
   same =
       let o = operand copies in
       let len = length_of copies.args.form in
-      ap (setRows 0) (list-rows o numbered)
-      ∙ rows-listed len 0 len copies.args.rows.now (zero-add len) (accepted-list o numbered copies.pre.0)
+      ap (set_rows 0) (list_rows o numbered)
+      ∙ rows_listed len 0 len copies.args.rows.now (zero-add len) (accepted_list o numbered copies.pre.0)
 
 module _ (c : tie.Else1) where
   abbrev lists : tie.Start
   lists = start c.before
 
   accepted : Flat (operand lists)
-  accepted = accepted-flat (operand lists) (sym c.before.has-row-numbers.ensures ∙ c.if1.false) lists.pre.2 lists.pre.0
+  accepted = accepted_flat (operand lists) (sym c.before.has-row-numbers.ensures ∙ c.if1.false) lists.pre.2 lists.pre.0
 
 -- ---- the answers
 
@@ -94,14 +94,14 @@ returns c =
     let o = operand s in
     (copied c).copy-list.ensures
     ∙ ap (splice 0 (out s)) (sym (same t))
-    ∙ list-front (out s) (entries s) (count_of o) (ap length (same t) ∙ sym (list_count o (numbered t))) s.pre.1
+    ∙ list_front (out s) (entries s) (count_of o) (ap length (same t) ∙ sym (list_count o (numbered t))) s.pre.1
 
 list-flat-requires : tie.Need-list-flat-requires
 list-flat-requires c κs =
     let e = c.before in
     let s = lists e in
     let o = operand s in
-    (accepted e, omega (arith, ap count (flat_rows o (accepted e)), accepted-count o s.pre.0, s.pre.1))
+    (accepted e, omega (arith, ap count (flat_rows o (accepted e)), accepted_count o s.pre.0, s.pre.1))
 
 same-length-2 : tie.Need-same-length-2
 same-length-2 c = search rules
@@ -112,11 +112,11 @@ returns-2 c =
     let s = lists e in
     let o = operand s in
     (listed c).list-flat.ensures
-    ∙ ap (λ (z : List Bool). splice 0 (out s) (setRows 0 z)) (sym (flat_rows o (accepted e)))
-    ∙ list-front (out s) (entries s) (count_of o) (rows-count 0 (rows_of o) ∙ accepted-count o s.pre.0) s.pre.1
+    ∙ ap (λ (z : List Bool). splice 0 (out s) (set_rows 0 z)) (sym (flat_rows o (accepted e)))
+    ∙ list_front (out s) (entries s) (count_of o) (rows_count 0 (rows_of o) ∙ accepted_count o s.pre.0) s.pre.1
 
-pub write-other-spec : {M : Type 1} → statement M
-write-other-spec =
+pub write_other_spec : {M : Type 1} → statement M
+write_other_spec =
     tie.close
     (tie.spec
     has-row-numbers-requires

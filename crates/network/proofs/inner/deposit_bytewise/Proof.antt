@@ -2,9 +2,9 @@
 -- spreads them. Assumes nothing.
 use Rattle.std.proofs.Common.{◌≡◌, ℕ, ◌*◌, ◌/◌, ◌%◌, ◌^◌, ◌<◌, List, sym, ap, ◌∙◌, subst, ap₂, arith, rules}
 use lib.Bits.{bit_and}
-use Rattle.network.specs.Lanes.{before, gathered, undoFrom}
+use Rattle.network.specs.Lanes.{before, gathered, undo_from}
 use Rattle.network.proofs.GatherLaws.{before_small, lows}
-use Rattle.network.proofs.Bytewise.{low-is, bytewise}
+use Rattle.network.proofs.Bytewise.{low_is, bytewise}
 use Rattle.network.proofs.inner.deposit_bytewise.Statement.{statement}
 use Rattle.network.proofs.inner.deposit_bytewise.Tie as tie
 
@@ -26,13 +26,13 @@ returns c =
     let start = at.before.before.before in
     let m : ℕ = start.args.mask in
     let s : ℕ = start.args.source in
-    let g : at.before.gather.result ≡ lows 8 s m = at.before.gather.ensures ∙ ap (gathered 8 s) at.before.before.below.ensures ∙ low-is s m in
+    let g : at.before.gather.result ≡ lows 8 s m = at.before.gather.ensures ∙ ap (gathered 8 s) at.before.before.below.ensures ∙ low_is s m in
     let p = at.compress in
     ap (λ (n : ℕ). bit_and n m)
     (c.spread.ensures
-    ∙ ap₂ (λ (l : List ℕ) (n : ℕ). undoFrom 64 l 3 (bit_and at.before.gather.result n)) p.ensures.1 p.ensures.0)
+    ∙ ap₂ (λ (l : List ℕ) (n : ℕ). undo_from 64 l 3 (bit_and at.before.gather.result n)) p.ensures.1 p.ensures.0)
     ∙ bytewise s m at.before.gather.result start.ranges.mask.fits g
 
-pub deposit-bytewise-spec : {M : Type 1} → statement M
-deposit-bytewise-spec =
+pub deposit_bytewise_spec : {M : Type 1} → statement M
+deposit_bytewise_spec =
     tie.close (tie.spec below-requires gather-requires compress-requires spread-requires returns)

@@ -2,9 +2,9 @@
 -- By the law of the stages done on each byte, and of the bytes joined. Assumes nothing.
 use Rattle.std.proofs.Common.{ℕ, ◌*◌, ◌/◌, ◌%◌, ◌^◌, ◌<◌, List, sym, ap, ◌∙◌, subst, ap₂, arith, rules}
 use lib.Bits.{bit_and}
-use Rattle.network.specs.Lanes.{joined, moveTo}
+use Rattle.network.specs.Lanes.{joined, move_to}
 use Rattle.network.proofs.GatherLaws.{before_small}
-use Rattle.network.proofs.BytewiseBack.{bytewise-back}
+use Rattle.network.proofs.BytewiseBack.{bytewise_back}
 use Rattle.network.proofs.inner.extract_bytewise.Statement.{statement}
 use Rattle.network.proofs.inner.extract_bytewise.Tie as tie
 
@@ -36,8 +36,8 @@ returns c =
     let m : ℕ = (start q).args.mask in
     let fits = (start q).ranges in
     c.join.ensures
-    ∙ ap₂ (joined 64 8) (q.pack.ensures ∙ ap (λ (l : List ℕ). moveTo 64 l 3 (bit_and s m)) (compressed q).compress.ensures.1) c.before.below.ensures
-    ∙ bytewise-back s m fits.source.fits fits.mask.fits
+    ∙ ap₂ (joined 64 8) (q.pack.ensures ∙ ap (λ (l : List ℕ). move_to 64 l 3 (bit_and s m)) (compressed q).compress.ensures.1) c.before.below.ensures
+    ∙ bytewise_back s m fits.source.fits fits.mask.fits
 
-pub extract-bytewise-spec : {M : Type 1} → statement M
-extract-bytewise-spec = tie.close (tie.spec compress-requires pack-requires below-requires join-requires returns)
+pub extract_bytewise_spec : {M : Type 1} → statement M
+extract_bytewise_spec = tie.close (tie.spec compress-requires pack-requires below-requires join-requires returns)

@@ -1,7 +1,7 @@
 -- `network::lanes::below` meets its contract: the product sums the counts of the bytes below each byte. Assumes nothing.
 use Rattle.std.proofs.Common.{ℕ, ◌*◌, ◌%◌, ◌^◌, ap, ◌∙◌, ap₂, rules}
-use Rattle.network.proofs.ProductLaws.{in-each}
-use Rattle.network.proofs.Bytewise.{below-is}
+use Rattle.network.proofs.ProductLaws.{in_each_lem}
+use Rattle.network.proofs.Bytewise.{below_is}
 use Rattle.network.proofs.lanes.below.Statement.{statement}
 use Rattle.network.proofs.lanes.below.Tie as tie
 
@@ -16,8 +16,8 @@ wrapping-mul-requires c κs = search rules
 
 returns : tie.Need-returns
 returns c =
-    ap (λ (n : ℕ). (n * 256) % 2 ^ 64) (c.wrapping-mul.ensures ∙ ap₂ (λ (m n : ℕ). (m * n) % 2 ^ 64) c.before.before.counts.ensures (c.before.bytes.ensures ∙ in-each 1))
-    ∙ below-is c.before.before.before.args.mask
+    ap (λ (n : ℕ). (n * 256) % 2 ^ 64) (c.wrapping-mul.ensures ∙ ap₂ (λ (m n : ℕ). (m * n) % 2 ^ 64) c.before.before.counts.ensures (c.before.bytes.ensures ∙ in_each_lem 1))
+    ∙ below_is c.before.before.before.args.mask
 
-pub below-spec : {M : Type 1} → statement M
-below-spec = tie.close (tie.spec counts-requires bytes-requires wrapping-mul-requires returns)
+pub below_spec : {M : Type 1} → statement M
+below_spec = tie.close (tie.spec counts-requires bytes-requires wrapping-mul-requires returns)

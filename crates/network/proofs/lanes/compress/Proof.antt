@@ -1,7 +1,7 @@
 -- `network::lanes::compress` meets its contract. The invariant: the stages so far, byte by byte. Assumes nothing.
 use Rattle.std.proofs.Common.{◌≡◌, ℕ, ◌-◌, ◌*◌, ◌%◌, ◌^◌, ◌<◌, ◌≤◌, ◌⊎◌, List, [], ◌∷◌, length, get_or, set, sym, refl, ap, ◌∙◌, subst, ap₂, ⊎_elim, le_of_suc-le-suc, eq-or-lt_of_le, add-one, arith, length-set, get_or-set_other, get_or-set_same}
-use Rattle.network.specs.Lanes.{each, each2, zerosAt, packed_at, landedAt, zeros8, packed8, landed8}
-use Rattle.network.proofs.NetworkLaws.{Length, zeros-next, packed-next, landed-next, zeros-start, packed_start, shift_is, shift-length}
+use Rattle.network.specs.Lanes.{each, each2, zeros_at, packed_at, landed_at, zeros8, packed8, landed8}
+use Rattle.network.proofs.NetworkLaws.{Length, zeros_next, packed_next, landed_next, zeros_start, packed_start, shift_is, shift_length}
 use Rattle.network.proofs.lanes.compress.Statement.{statement}
 use Rattle.network.proofs.lanes.compress.Tie as tie
 
@@ -14,14 +14,14 @@ of_three (a ∷ b ∷ d ∷ e ∷ l) h x y z p q r = absurd (omega arith)
 
 abbrev invariant-loop : tie.invariant-loop
 invariant-loop mask packed₀ zeros₀ landed₀ i₀ packed zeros landed i =
-    (i ≤ 3) × (packed ≡ each (packed_at i) 8 mask) × (zeros ≡ each (zerosAt i) 8 mask) × (length landed ≡ 3)
-    × ((k : ℕ) → k < i → get_or landed k 0 ≡ each (landedAt k) 8 mask)
+    (i ≤ 3) × (packed ≡ each (packed_at i) 8 mask) × (zeros ≡ each (zeros_at i) 8 mask) × (length landed ≡ 3)
+    × ((k : ℕ) → k < i → get_or landed k 0 ≡ each (landed_at k) 8 mask)
 
 abbrev decreases-loop : tie.decreases-loop
 decreases-loop mask packed₀ zeros₀ landed₀ i₀ packed zeros landed i = 3 - i
 
 loop-holds : tie.Need-loop-init invariant-loop decreases-loop
-loop-holds c = (omega arith, packed_start c.args.mask c.ranges.mask.fits, zeros-start c.args.mask c.ranges.mask.fits, refl, λ k h. absurd (omega arith))
+loop-holds c = (omega arith, packed_start c.args.mask c.ranges.mask.fits, zeros_start c.args.mask c.ranges.mask.fits, refl, λ k h. absurd (omega arith))
 
 cast-one-stage : tie.Need-overflow-cast-one-stage invariant-loop decreases-loop
 cast-one-stage c = omega arith
@@ -32,7 +32,7 @@ shl-one-stage c = omega arith
 one-stage-requires : tie.Need-one-stage-requires invariant-loop decreases-loop
 one-stage-requires c κs =
     let i : ℕ = c.before.loop.i in
-    subst (λ (n : ℕ). Length n) (sym (shift_is i (omega arith))) (shift-length i (omega arith))
+    subst (λ (n : ℕ). Length n) (sym (shift_is i (omega arith))) (shift_length i (omega arith))
 
 mul-landed : tie.Need-overflow-mul-landed invariant-loop decreases-loop
 mul-landed c = omega arith
@@ -53,17 +53,17 @@ loop-again c =
     let m : ℕ = c.before.before.before.args.mask in
     let s : ℕ = (1 * 2 ^ i) % 2 ^ 32 in
     let e : s ≡ 2 ^ i = shift_is i (omega arith) in
-    let l : c.one-stage.result.landed ≡ each (landedAt i) 8 m =
-    c.one-stage.ensures.2 ∙ ap (λ (n : ℕ). each2 (landed8 n) 8 at.zeros at.packed) e ∙ ap₂ (λ (u v : ℕ). each2 (landed8 (2 ^ i)) 8 u v) at.invariant.2 at.invariant.1 ∙ landed-next i m in (
+    let l : c.one-stage.result.landed ≡ each (landed_at i) 8 m =
+    c.one-stage.ensures.2 ∙ ap (λ (n : ℕ). each2 (landed8 n) 8 at.zeros at.packed) e ∙ ap₂ (λ (u v : ℕ). each2 (landed8 (2 ^ i)) 8 u v) at.invariant.2 at.invariant.1 ∙ landed_next i m in (
       omega arith,
       c.one-stage.ensures.1 ∙ ap (λ (n : ℕ). each2 (packed8 n) 8 at.zeros at.packed) e ∙ ap₂ (λ (u v : ℕ). each2 (packed8 (2 ^ i)) 8 u v) at.invariant.2 at.invariant.1
-          ∙ packed-next i m ∙ ap (λ (n : ℕ). each (packed_at n) 8 m) (sym (add-one i)),
-      c.one-stage.ensures.0 ∙ ap (λ (n : ℕ). each (zeros8 n) 8 at.zeros) e ∙ ap (each (zeros8 (2 ^ i)) 8) at.invariant.2 ∙ zeros-next i m ∙ ap (λ (n : ℕ). each (zerosAt n) 8 m) (sym (add-one i)),
+          ∙ packed_next i m ∙ ap (λ (n : ℕ). each (packed_at n) 8 m) (sym (add-one i)),
+      c.one-stage.ensures.0 ∙ ap (λ (n : ℕ). each (zeros8 n) 8 at.zeros) e ∙ ap (each (zeros8 (2 ^ i)) 8) at.invariant.2 ∙ zeros_next i m ∙ ap (λ (n : ℕ). each (zeros_at n) 8 m) (sym (add-one i)),
       length-set at.landed i c.one-stage.result.landed ∙ at.invariant.3,
       λ k h. ⊎_elim
           (λ (q : k ≡ i).
           ap (λ (n : ℕ). get_or (set at.landed i c.one-stage.result.landed) n 0) q ∙ get_or-set_same at.landed i c.one-stage.result.landed 0 (omega arith) ∙ l
-          ∙ ap (λ (n : ℕ). each (landedAt n) 8 m) (sym q))
+          ∙ ap (λ (n : ℕ). each (landed_at n) 8 m) (sym q))
           (λ (q : k < i). get_or-set_other at.landed i k c.one-stage.result.landed 0 (λ (b : k ≡ i). omega arith) ∙ at.invariant.4 k q) (eq-or-lt_of_le (le_of_suc-le-suc (omega arith))),
     )
 
@@ -73,11 +73,11 @@ returns c =
     let m : ℕ = c.before.before.args.mask in
     let three : at.i ≡ 3 = omega arith in (
       at.invariant.1 ∙ ap (λ (n : ℕ). each (packed_at n) 8 m) three,
-      of_three at.landed at.invariant.3 (each (landedAt 0) 8 m) (each (landedAt 1) 8 m) (each (landedAt 2) 8 m) (at.invariant.4 0 (omega arith)) (at.invariant.4 1 (omega arith)) (at.invariant.4 2 (omega arith)),
+      of_three at.landed at.invariant.3 (each (landed_at 0) 8 m) (each (landed_at 1) 8 m) (each (landed_at 2) 8 m) (at.invariant.4 0 (omega arith)) (at.invariant.4 1 (omega arith)) (at.invariant.4 2 (omega arith)),
     )
 
-pub compress-spec : {M : Type 1} → statement M
-compress-spec =
+pub compress_spec : {M : Type 1} → statement M
+compress_spec =
     tie.close
     (tie.spec
     invariant-loop

@@ -2,7 +2,7 @@
 -- By the laws of neighbouring lanes, at its masks. Assumes nothing.
 use Rattle.std.proofs.Common.{◌/◌, le_trans, div-le_self, arith, rules}
 use lib.Bits.{and_le_l}
-use Rattle.network.proofs.CountLaws.{nib-lt, counts-word}
+use Rattle.network.proofs.CountLaws.{nib_lt, counts_word}
 use Rattle.network.proofs.lanes.counts.Statement.{statement}
 use Rattle.network.proofs.lanes.counts.Tie as tie
 
@@ -20,11 +20,11 @@ bytes-requires-3 c κs = search rules
 
 add-nibbles : tie.Need-overflow-add-nibbles
 add-nibbles c =
-    omega (arith, nib-lt c.before.before.before.args.mask c.before.before.bytes.result c.before.bytes2.result c.bytes3.result c.before.bytes2.ensures c.bytes3.ensures)
+    omega (arith, nib_lt c.before.before.before.args.mask c.before.before.bytes.result c.before.bytes2.result c.bytes3.result c.before.bytes2.ensures c.bytes3.ensures)
 
 add-result : tie.Need-overflow-add-result
 add-result c =
-    omega (arith, nib-lt c.before.before.before.args.mask c.before.before.bytes.result c.before.bytes2.result c.bytes3.result c.before.bytes2.ensures c.bytes3.ensures)
+    omega (arith, nib_lt c.before.before.before.args.mask c.before.before.bytes.result c.before.bytes2.result c.bytes3.result c.before.bytes2.ensures c.bytes3.ensures)
 
 bytes-requires-4 : tie.Need-bytes-requires-4
 bytes-requires-4 c κs = search rules
@@ -32,11 +32,11 @@ bytes-requires-4 c κs = search rules
 returns : tie.Need-returns
 returns c =
     let start = c.before.before.before.before in
-    counts-word start.args.mask c.before.before.before.bytes.result c.before.before.bytes2.result c.before.bytes3.result c.bytes4.result start.ranges.mask.fits
+    counts_word start.args.mask c.before.before.before.bytes.result c.before.before.bytes2.result c.before.bytes3.result c.bytes4.result start.ranges.mask.fits
     c.before.before.before.bytes.ensures c.before.before.bytes2.ensures c.before.bytes3.ensures c.bytes4.ensures
 
-pub counts-spec : {M : Type 1} → statement M
-counts-spec =
+pub counts_spec : {M : Type 1} → statement M
+counts_spec =
     tie.close
     (tie.spec
     bytes-requires

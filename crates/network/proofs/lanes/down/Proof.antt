@@ -3,7 +3,7 @@
 use Rattle.std.proofs.Common.{ℕ, ◌-◌, ◌/◌, ◌^◌, ap, ◌∙◌, rules}
 use lib.Bits.{bit_and}
 use Rattle.network.proofs.NetworkLaws.{down_is}
-use Rattle.network.proofs.ProductLaws.{in-each}
+use Rattle.network.proofs.ProductLaws.{in_each_lem}
 use Rattle.network.proofs.lanes.down.Statement.{statement}
 use Rattle.network.proofs.lanes.down.Tie as tie
 
@@ -23,7 +23,7 @@ returns : tie.Need-returns
 returns c =
     let x : ℕ = c.before.args.x in
     let k : ℕ = c.before.args.k in
-    ap (bit_and (x / 2 ^ k)) (c.bytes.ensures ∙ in-each _) ∙ down_is x k c.before.ranges.x.fits c.before.requires
+    ap (bit_and (x / 2 ^ k)) (c.bytes.ensures ∙ in_each_lem _) ∙ down_is x k c.before.ranges.x.fits c.before.requires
 
-pub down-spec : {M : Type 1} → statement M
-down-spec = tie.close (tie.spec shr-result cast-bytes shr-bytes bytes-requires returns)
+pub down_spec : {M : Type 1} → statement M
+down_spec = tie.close (tie.spec shr-result cast-bytes shr-bytes bytes-requires returns)

@@ -3,7 +3,7 @@ use denote.Ref.{shr_at}
 use Rattle.std.proofs.Common.{◌≡◌, ℕ, ◌-◌, ◌*◌, ◌/◌, ◌%◌, ◌^◌, ◌<◌, ◌≤◌, sym, refl, ap, ◌∙◌, ap₂, add-one, arith, shl_exact}
 use lib.Bits.{bit_and, bit_or, and_mask, or_shifted_r}
 use Rattle.network.specs.Lanes.{gathered}
-use Rattle.network.proofs.GatherLaws.{gathered-lt, gathered-top}
+use Rattle.network.proofs.GatherLaws.{gathered_lt, gathered_top}
 use Rattle.network.proofs.lanes.gather.Statement.{statement}
 use Rattle.network.proofs.lanes.gather.Tie as tie
 
@@ -58,7 +58,7 @@ loop-again c =
     let e : bit_and (s / 2 ^ bit_and (f / 2 ^ (8 * j)) 255) 255 ≡ v = and_mask (s / 2 ^ bit_and (f / 2 ^ (8 * j)) 255) 8 ∙ ap (λ (n : ℕ). (s / 2 ^ n) % 256) (and_mask (f / 2 ^ (8 * j)) 8) in (
       omega arith,
       ap₂ (λ (m n : ℕ). bit_or m ((n * 2 ^ (8 * j)) % 2 ^ 64)) at.invariant.1 e ∙ ap (bit_or (gathered j s f)) (shl_exact {a = v} 8 (8 * j) 64 lt (omega arith))
-          ∙ or_shifted_r v (8 * j) (gathered j s f) (gathered-lt j s f) ∙ sym (gathered-top j s f) ∙ ap (λ (n : ℕ). gathered n s f) (sym (add-one j)),
+          ∙ or_shifted_r v (8 * j) (gathered j s f) (gathered_lt j s f) ∙ sym (gathered_top j s f) ∙ ap (λ (n : ℕ). gathered n s f) (sym (add-one j)),
     )
 
 returns : tie.Need-returns invariant-loop decreases-loop
@@ -67,8 +67,8 @@ returns c =
     let e : at.byte ≡ 8 = omega arith in
     at.invariant.1 ∙ ap (λ (n : ℕ). gathered n c.before.before.args.source c.before.before.args.from) e
 
-pub gather-spec : {M : Type 1} → statement M
-gather-spec =
+pub gather_spec : {M : Type 1} → statement M
+gather_spec =
     tie.close
     (tie.spec
     invariant-loop

@@ -65,8 +65,8 @@ returns c =
     let e : at.byte ≡ 8 = omega arith in
     at.invariant.1 ∙ ap (λ (n : ℕ). joined 64 n c.before.before.args.packed c.before.before.args.to) e
 
-pub join-spec : {M : Type 1} → statement M
-join-spec =
+pub join_spec : {M : Type 1} → statement M
+join_spec =
     tie.close
     (tie.spec
     invariant-loop

@@ -3,7 +3,7 @@
 use Rattle.std.proofs.Common.{◌≡◌, ℕ, ◌-◌, ◌^◌, ◌<◌, ap, ◌∙◌, ap₂, inl, inr, arith, rules}
 use lib.Bits.{bit_and, bit_xor}
 use Rattle.network.specs.Lanes.{each, each2, parity8, down8, landed8}
-use Rattle.network.proofs.NetworkLaws.{Length, landed-is, packed-is, zeros-is}
+use Rattle.network.proofs.NetworkLaws.{Length, landed_is, packed_is, zeros_is}
 use Rattle.network.proofs.lanes.one_stage.Statement.{statement}
 use Rattle.network.proofs.lanes.one_stage.Tie as tie
 
@@ -31,12 +31,12 @@ returns c =
     let hq : q < 2 ^ 64 = start.ranges.packed.fits in
     let p : c.before.before.parity.result ≡ each (parity8 k) 8 z = c.before.before.parity.ensures in
     let l : c.before.down.result ≡ each2 (landed8 k) 8 z q =
-    c.before.down.ensures ∙ ap (λ (n : ℕ). each (down8 k) 8 (bit_and q n)) p ∙ landed-is k z q hz hq in (
+    c.before.down.ensures ∙ ap (λ (n : ℕ). each (down8 k) 8 (bit_and q n)) p ∙ landed_is k z q hz hq in (
       ap (bit_xor (bit_and z (2 ^ 64 - 1 - c.before.before.parity.result))) c.down2.ensures
-          ∙ ap (λ (n : ℕ). bit_xor (bit_and z (2 ^ 64 - 1 - n)) (each (down8 k) 8 (bit_and z (2 ^ 64 - 1 - n)))) p ∙ zeros-is k z q hz hq,
-      ap₂ (λ (m n : ℕ). bit_xor q (bit_xor (bit_and q m) n)) p l ∙ packed-is k z q hz hq,
+          ∙ ap (λ (n : ℕ). bit_xor (bit_and z (2 ^ 64 - 1 - n)) (each (down8 k) 8 (bit_and z (2 ^ 64 - 1 - n)))) p ∙ zeros_is k z q hz hq,
+      ap₂ (λ (m n : ℕ). bit_xor q (bit_xor (bit_and q m) n)) p l ∙ packed_is k z q hz hq,
       l,
     )
 
-pub one-stage-spec : {M : Type 1} → statement M
-one-stage-spec = tie.close (tie.spec parity-requires down-requires down-requires-2 returns)
+pub one_stage_spec : {M : Type 1} → statement M
+one_stage_spec = tie.close (tie.spec parity-requires down-requires down-requires-2 returns)

@@ -1,18 +1,18 @@
 -- `network::lanes::pack` meets its contract. The invariant: the stages done so far. Assumes nothing.
 use Rattle.std.proofs.Common.{◌≡◌, ℕ, ◌-◌, ◌^◌, ◌≤◌, List, get_or, sym, refl, ap, ◌∙◌, add-one, arith, lit<}
-use Rattle.network.specs.Lanes.{move, moveTo}
+use Rattle.network.specs.Lanes.{move, move_to}
 use Rattle.network.proofs.NetworkLaws.{shift_is, shift_small}
 use Rattle.network.proofs.lanes.pack.Statement.{statement}
 use Rattle.network.proofs.lanes.pack.Tie as tie
 
 abbrev invariant-loop : tie.invariant-loop
-invariant-loop bits landed result₀ i₀ result i = (i ≤ 3) × (result ≡ moveTo 64 landed i bits)
+invariant-loop bits landed result₀ i₀ result i = (i ≤ 3) × (result ≡ move_to 64 landed i bits)
 
 abbrev decreases-loop : tie.decreases-loop
 decreases-loop bits landed result₀ i₀ result i = 3 - i
 
 loop-holds : tie.Need-loop-init invariant-loop decreases-loop
-unfolding moveTo
+unfolding move_to
 loop-holds c = (omega arith, refl)
 
 mul-l : tie.Need-overflow-mul-l invariant-loop decreases-loop
@@ -46,7 +46,7 @@ loop-less : tie.Need-loop-smaller invariant-loop decreases-loop
 loop-less c = omega arith
 
 loop-again : tie.Need-loop-preserved invariant-loop decreases-loop
-unfolding moveTo
+unfolding move_to
 loop-again c =
     let at = c.before.loop in
     let i : ℕ = at.i in
@@ -54,17 +54,17 @@ loop-again c =
     let b : ℕ = c.before.before.args.bits in (
       omega arith,
       ap (λ (k : ℕ). move 64 k (get_or l i 0) at.result) (shift_is i (omega arith)) ∙ ap (move 64 (2 ^ i) (get_or l i 0)) at.invariant.1
-          ∙ ap (λ (n : ℕ). moveTo 64 l n b) (sym (add-one i)),
+          ∙ ap (λ (n : ℕ). move_to 64 l n b) (sym (add-one i)),
     )
 
 returns : tie.Need-returns invariant-loop decreases-loop
 returns c =
     let at = c.before.loop in
     let e : at.i ≡ 3 = omega arith in
-    at.invariant.1 ∙ ap (λ (n : ℕ). moveTo 64 c.before.before.args.t2 n c.before.before.args.bits) e
+    at.invariant.1 ∙ ap (λ (n : ℕ). move_to 64 c.before.before.args.t2 n c.before.before.args.bits) e
 
-pub pack-spec : {M : Type 1} → statement M
-pack-spec =
+pub pack_spec : {M : Type 1} → statement M
+pack_spec =
     tie.close
     (tie.spec
     invariant-loop

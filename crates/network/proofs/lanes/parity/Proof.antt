@@ -2,7 +2,7 @@
 use Rattle.std.proofs.Common.{◌≡◌, ℕ, ◌-◌, ◌*◌, ◌%◌, ◌^◌, ◌<◌, ◌≤◌, ◌⊎◌, sym, refl, ap, ◌∙◌, ap₂, inl, inr, ⊎_elim, mod-eq_of_lt, arith}
 use lib.Bits.{bit_xor, xor_lt}
 use Rattle.network.specs.Lanes.{each, parity8, up8}
-use Rattle.network.proofs.NetworkLaws.{Length, parity-turn, parity-last}
+use Rattle.network.proofs.NetworkLaws.{Length, parity_turn, parity_last}
 use Rattle.network.proofs.lanes.parity.Statement.{statement}
 use Rattle.network.proofs.lanes.parity.Tie as tie
 
@@ -11,9 +11,9 @@ small k (inl e) h = omega arith
 small k (inr (inl e)) h = omega arith
 small k (inr (inr e)) h = omega arith
 
-below-eight : (k : ℕ) → Length k ⊎ (k ≡ 8) → k < 8 → Length k
-below-eight k (inl l) h = l
-below-eight k (inr e) h = absurd (omega arith)
+below_eight : (k : ℕ) → Length k ⊎ (k ≡ 8) → k < 8 → Length k
+below_eight k (inl l) h = l
+below_eight k (inr e) h = absurd (omega arith)
 
 -- the next length: the measure falls, it is one of the lengths or 8, and nothing is shifted out
 doubled : (k : ℕ) → Length k → (8 - (k * 2) % 2 ^ 32 < 8 - k) × (Length ((k * 2) % 2 ^ 32) ⊎ ((k * 2) % 2 ^ 32 ≡ 8)) × ((k * 2) % 2 ^ 32 ≡ k * 2)
@@ -36,25 +36,25 @@ up-requires c κs = omega arith
 loop-less : tie.Need-loop-smaller invariant-loop decreases-loop
 loop-less c =
     let at = c.before.before.loop in
-    (doubled at.len (below-eight at.len at.invariant.1 (omega arith))).0
+    (doubled at.len (below_eight at.len at.invariant.1 (omega arith))).0
 
 loop-again : tie.Need-loop-preserved invariant-loop decreases-loop
 loop-again c =
     let at = c.before.before.loop in
-    let l : Length at.len = below-eight at.len at.invariant.1 (omega arith) in
+    let l : Length at.len = below_eight at.len at.invariant.1 (omega arith) in
     let d = doubled at.len l in
     let e : bit_xor at.p c.up.result ≡ bit_xor at.p (each (up8 at.len) 8 at.p) = ap (bit_xor at.p) c.up.ensures in (
       xor_lt 64 at.p c.up.result at.invariant.0 (omega arith),
       d.1,
-      ap₂ (λ (k n : ℕ). each (parity8 k) 8 n) d.2 e ∙ parity-turn at.p at.len at.invariant.0 l ∙ at.invariant.2,
+      ap₂ (λ (k n : ℕ). each (parity8 k) 8 n) d.2 e ∙ parity_turn at.p at.len at.invariant.0 l ∙ at.invariant.2,
     )
 
 returns : tie.Need-returns invariant-loop decreases-loop
 returns c =
     let at = c.before.loop in
     let e : at.len ≡ 8 = ⊎_elim (λ (l : Length at.len). absurd (small at.len l (omega arith))) (λ (e : at.len ≡ 8). e) at.invariant.1 in
-    sym (parity-last at.p at.invariant.0) ∙ ap (λ (k : ℕ). each (parity8 k) 8 at.p) (sym e) ∙ at.invariant.2
+    sym (parity_last at.p at.invariant.0) ∙ ap (λ (k : ℕ). each (parity8 k) 8 at.p) (sym e) ∙ at.invariant.2
 
-pub parity-spec : {M : Type 1} → statement M
-parity-spec =
+pub parity_spec : {M : Type 1} → statement M
+parity_spec =
     tie.close (tie.spec invariant-loop decreases-loop loop-holds up-requires loop-less loop-again returns)

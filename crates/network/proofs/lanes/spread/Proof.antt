@@ -2,13 +2,13 @@
 -- The invariant: the stages undone so far, with those still to undo, are all of them. Assumes nothing.
 use Rattle.std.proofs.Common.{◌≡◌, ℕ, suc, ◌-◌, ◌*◌, ◌%◌, ◌^◌, ◌≤◌, List, get_or, sym, refl, ap, ◌∙◌, arith, lit<}
 use lib.Bits.{bit_and, bit_or}
-use Rattle.network.specs.Lanes.{undoFrom}
+use Rattle.network.specs.Lanes.{undo_from}
 use Rattle.network.proofs.NetworkLaws.{shift_is, shift_small}
 use Rattle.network.proofs.lanes.spread.Statement.{statement}
 use Rattle.network.proofs.lanes.spread.Tie as tie
 
 abbrev invariant-loop : tie.invariant-loop
-invariant-loop low landed result₀ i₀ result i = (i ≤ 3) × (undoFrom 64 landed i result ≡ undoFrom 64 landed 3 low)
+invariant-loop low landed result₀ i₀ result i = (i ≤ 3) × (undo_from 64 landed i result ≡ undo_from 64 landed 3 low)
 
 abbrev decreases-loop : tie.decreases-loop
 decreases-loop low landed result₀ i₀ result i = i
@@ -41,26 +41,26 @@ loop-less : tie.Need-loop-smaller invariant-loop decreases-loop
 loop-less c = omega arith
 
 loop-again : tie.Need-loop-preserved invariant-loop decreases-loop
-unfolding undoFrom
+unfolding undo_from
 loop-again c =
     let at = c.before.loop in
     let j : ℕ = at.i - 1 in
     let l : List ℕ = c.before.before.args.t2 in
     let e : at.i ≡ suc j = omega arith in (
       omega arith,
-      ap (λ (s : ℕ). undoFrom 64 l j (bit_or (bit_and at.result (2 ^ 64 - 1 - get_or l j 0)) ((bit_and at.result (get_or l j 0) * 2 ^ s) % 2 ^ 64))) (shift_is j (omega arith))
-          ∙ ap (λ (n : ℕ). undoFrom 64 l n at.result) (sym e) ∙ at.invariant.1,
+      ap (λ (s : ℕ). undo_from 64 l j (bit_or (bit_and at.result (2 ^ 64 - 1 - get_or l j 0)) ((bit_and at.result (get_or l j 0) * 2 ^ s) % 2 ^ 64))) (shift_is j (omega arith))
+          ∙ ap (λ (n : ℕ). undo_from 64 l n at.result) (sym e) ∙ at.invariant.1,
     )
 
 returns : tie.Need-returns invariant-loop decreases-loop
-unfolding undoFrom
+unfolding undo_from
 returns c =
     let at = c.before.loop in
     let e : at.i ≡ 0 = omega arith in
-    ap (λ (n : ℕ). undoFrom 64 c.before.before.args.t2 n at.result) (sym e) ∙ at.invariant.1
+    ap (λ (n : ℕ). undo_from 64 c.before.before.args.t2 n at.result) (sym e) ∙ at.invariant.1
 
-pub spread-spec : {M : Type 1} → statement M
-spread-spec =
+pub spread_spec : {M : Type 1} → statement M
+spread_spec =
     tie.close
     (tie.spec
     invariant-loop

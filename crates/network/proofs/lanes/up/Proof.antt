@@ -3,7 +3,7 @@
 use Rattle.std.proofs.Common.{ℕ, ◌-◌, ◌*◌, ◌%◌, ◌^◌, ap, ◌∙◌, rules}
 use lib.Bits.{bit_and}
 use Rattle.network.proofs.NetworkLaws.{up_is}
-use Rattle.network.proofs.ProductLaws.{in-each}
+use Rattle.network.proofs.ProductLaws.{in_each_lem}
 use Rattle.network.proofs.lanes.up.Statement.{statement}
 use Rattle.network.proofs.lanes.up.Tie as tie
 
@@ -23,7 +23,7 @@ returns : tie.Need-returns
 returns c =
     let x : ℕ = c.before.args.x in
     let k : ℕ = c.before.args.k in
-    ap (bit_and ((x * 2 ^ k) % 2 ^ 64)) (c.bytes.ensures ∙ in-each _) ∙ up_is x k c.before.ranges.x.fits c.before.requires
+    ap (bit_and ((x * 2 ^ k) % 2 ^ 64)) (c.bytes.ensures ∙ in_each_lem _) ∙ up_is x k c.before.ranges.x.fits c.before.requires
 
-pub up-spec : {M : Type 1} → statement M
-up-spec = tie.close (tie.spec shl-result cast-bytes shl-bytes bytes-requires returns)
+pub up_spec : {M : Type 1} → statement M
+up_spec = tie.close (tie.spec shl-result cast-bytes shl-bytes bytes-requires returns)

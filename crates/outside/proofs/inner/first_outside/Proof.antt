@@ -9,14 +9,14 @@ use Rattle.rows.specs.Rows.{outside}
 use Rattle.rows.specs.Words.{view}
 use Rattle.rows.specs.Lists.{select}
 use Rattle.rows.specs.Asks.{InView}
-use Rattle.rows.proofs.RecoverLaws.{outside-length}
+use Rattle.rows.proofs.RecoverLaws.{outside_length}
 use Rattle.rules.specs.declared.Form.{Form}
 use Rattle.rules.specs.Operand.{Operand, lent, rows_of, length_of, Accepted}
-use Rattle.rules.proofs.OperandLaws.{accepted-length}
+use Rattle.rules.proofs.OperandLaws.{accepted_length}
 use Rattle.outside.specs.First.{has, First}
 use Rattle.outside.specs.Walks.{Walks}
-use Rattle.outside.proofs.FirstLaws.{first-select}
-use Rattle.outside.proofs.WalkLaws.{accepted-walks}
+use Rattle.outside.proofs.FirstLaws.{first_select}
+use Rattle.outside.proofs.WalkLaws.{accepted_walks}
 use Rattle.outside.proofs.inner.first_outside.Statement.{statement}
 use Rattle.outside.proofs.inner.first_outside.Tie as tie
 
@@ -58,16 +58,16 @@ module _ (c : tie.Start) (f g : Form) (e : c.args.s ≡ f) (d : c.args.k ≡ g) 
 
   asked : Asked c f g
   asked = (
-    accepted-walks f c.args.swords.now c.args.srows.now required.0,
-    accepted-walks g c.args.kwords.now c.args.krows.now required.1,
+    accepted_walks f c.args.swords.now c.args.srows.now required.0,
+    accepted_walks g c.args.kwords.now c.args.krows.now required.1,
     required.2,
   )
 
   answered : (r : ℕ) → First (has (outside (self c f g) (rows_of (second c f g)))) 0 (length_of g) r → r ≡ answer c c.args.s c.args.k
   answered r w =
       let rows = outside (self c f g) (rows_of (second c f g)) in
-      let long = outside-length (self c f g) (rows_of (second c f g)) ∙ accepted-length (second c f g) required.1 in
-      first-select rows r (subst (λ (n : ℕ). First (has rows) 0 n r) (sym long) w) ∙ ap₂ (answer c) (sym e) (sym d)
+      let long = outside_length (self c f g) (rows_of (second c f g)) ∙ accepted_length (second c f g) required.1 in
+      first_select rows r (subst (λ (n : ℕ). First (has rows) 0 n r) (sym long) w) ∙ ap₂ (answer c) (sym e) (sym d)
 
 -- ---- the answers
 enum-known-s : tie.Need-enum-known-s
@@ -109,8 +109,8 @@ returns-3 c =
     answered (in_words t) _ _ s.1 k.1 _
     (subst (λ (n : ℕ). First (has (rows n)) 0 len c.first-in-words.result) w.2 c.first-in-words.ensures)
 
-pub first-outside-spec : {M : Type 1} → statement M
-first-outside-spec =
+pub first_outside_spec : {M : Type 1} → statement M
+first_outside_spec =
     tie.close
     (tie.spec
     enum-known-s

@@ -6,7 +6,7 @@ use mathlib.Core.Path.{sym, ap}
 use mathlib.Core.Bool.{Bool}
 use lib.ListN.{length}
 use Rattle.outside.specs.Spans.{spans}
-use Rattle.outside.proofs.SpanLaws.{doubled-length}
+use Rattle.outside.proofs.SpanLaws.{doubled_length}
 use Rattle.outside.proofs.spans.count_spans.Statement.{statement}
 use Rattle.outside.proofs.spans.count_spans.Tie as tie
 
@@ -16,7 +16,7 @@ returns c = ap (λ (b : Bool). length (spans b c.before.args.rows.now) / 2) (sym
 returns-2 : tie.Need-returns-2
 returns-2 c =
     let rows = c.before.args.rows.now in
-    omega (arith, doubled-length rows, ap (λ (b : Bool). length (spans b rows)) c.if1.false)
+    omega (arith, doubled_length rows, ap (λ (b : Bool). length (spans b rows)) c.if1.false)
 
-pub count-spans-spec : {M : Type 1} → statement M
-count-spans-spec = tie.close (tie.spec returns returns-2)
+pub count_spans_spec : {M : Type 1} → statement M
+count_spans_spec = tie.close (tie.spec returns returns-2)

@@ -4,7 +4,7 @@ use Prim.Native.Nat.{ℕ}
 use mathlib.Core.List.{List}
 use borrow.Author.Rules.{rules}
 use Rattle.outside.specs.Spans.{spans, Come, Stands}
-use Rattle.outside.proofs.SpanLaws.{come-later, reach-past, reach-none}
+use Rattle.outside.proofs.SpanLaws.{come_later, reach_past, reach_none}
 use Rattle.outside.proofs.spans.held_to.Statement.{statement}
 use Rattle.outside.proofs.spans.held_to.Tie as tie
 
@@ -28,11 +28,11 @@ stand-requires c κs = search rules
 returns : tie.Need-returns
 returns c =
     let s = c.before in
-    let t = reach-past (all s) _ _ _ _ (stands s) c.if1.true (a s).requires.1 in
-    (come-later (all s) _ _ _ _ t.on (came s), t)
+    let t = reach_past (all s) _ _ _ _ (stands s) c.if1.true (a s).requires.1 in
+    (come_later (all s) _ _ _ _ t.on (came s), t)
 
 returns-2 : tie.Need-returns-2
-returns-2 c = let s = c.before in (came s, reach-none (all s) _ _ _ _ (stands s) c.if1.false (a s).requires.1)
+returns-2 c = let s = c.before in (came s, reach_none (all s) _ _ _ _ (stands s) c.if1.false (a s).requires.1)
 
-pub held-to-spec : {M : Type 1} → statement M
-held-to-spec = tie.close (tie.spec stand-requires returns returns-2)
+pub held_to_spec : {M : Type 1} → statement M
+held_to_spec = tie.close (tie.spec stand-requires returns returns-2)

@@ -4,7 +4,7 @@ use Prim.Native.Nat.{ℕ}
 use mathlib.Core.List.{List}
 use borrow.Author.Rules.{rules}
 use Rattle.outside.specs.Spans.{spans, Come, Stands}
-use Rattle.outside.proofs.SpanLaws.{come-later, stands-in, stands_after}
+use Rattle.outside.proofs.SpanLaws.{come_later, stands_in, stands_after}
 use Rattle.outside.proofs.spans.next_held.Statement.{statement}
 use Rattle.outside.proofs.spans.next_held.Tie as tie
 
@@ -26,13 +26,13 @@ stand-requires : tie.Need-stand-requires
 stand-requires c κs = search rules
 
 returns : tie.Need-returns
-returns c = let s = c.before in (came s, stands-in (all s) _ _ _ _ (stands s) c.if1.true (a s).requires.1)
+returns c = let s = c.before in (came s, stands_in (all s) _ _ _ _ (stands s) c.if1.true (a s).requires.1)
 
 returns-2 : tie.Need-returns-2
 returns-2 c =
     let s = c.before in
     let t = stands_after (all s) _ _ _ _ (stands s) c.if1.false in
-    (come-later (all s) _ _ _ _ t.on (came s), t)
+    (come_later (all s) _ _ _ _ t.on (came s), t)
 
-pub next-held-spec : {M : Type 1} → statement M
-next-held-spec = tie.close (tie.spec stand-requires returns returns-2)
+pub next_held_spec : {M : Type 1} → statement M
+next_held_spec = tie.close (tie.spec stand-requires returns returns-2)

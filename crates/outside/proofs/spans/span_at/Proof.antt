@@ -7,7 +7,7 @@ use mathlib.Core.Bool.{Bool}
 use mathlib.Core.List.{List}
 use lib.ListN.{length, get_or}
 use Rattle.outside.specs.Spans.{spans}
-use Rattle.outside.proofs.SpanLaws.{doubled-length, doubled-at}
+use Rattle.outside.proofs.SpanLaws.{doubled_length, doubled_at}
 use Rattle.outside.proofs.spans.span_at.Statement.{statement}
 use Rattle.outside.proofs.spans.span_at.Tie as tie
 
@@ -24,11 +24,11 @@ module _ (c : tie.Else1) where
   entries = c.before.args.rows.now
 
   entry : c.before.args.i < length entries
-  entry = omega (arith, ap (λ (b : Bool). length (spans b entries)) c.if1.false, doubled-length entries, c.before.requires)
+  entry = omega (arith, ap (λ (b : Bool). length (spans b entries)) c.if1.false, doubled_length entries, c.before.requires)
 
 -- a number of the spans that the test tells
-as-told : (ns : List ℕ) (b told : Bool) (k : ℕ) → b ≡ told → get_or (spans told ns) k 0 ≡ get_or (spans b ns) k 0
-as-told ns b told k e = ap (λ (x : Bool). get_or (spans x ns) k 0) (sym e)
+as_told : (ns : List ℕ) (b told : Bool) (k : ℕ) → b ≡ told → get_or (spans told ns) k 0 ≡ get_or (spans b ns) k 0
+as_told ns b told k e = ap (λ (x : Bool). get_or (spans x ns) k 0) (sym e)
 
 -- ---- the answers
 mul-first : tie.Need-overflow-mul-first
@@ -62,7 +62,7 @@ returns : tie.Need-returns
 returns c =
     let t = c.before.before in
     let i = t.before.args.i in
-    (as-told (runs t) _ _ (i * 2) t.if1.true, as-told (runs t) _ _ (i * 2 + 1) t.if1.true)
+    (as_told (runs t) _ _ (i * 2) t.if1.true, as_told (runs t) _ _ (i * 2 + 1) t.if1.true)
 
 mul-row : tie.Need-overflow-mul-row
 mul-row c = omega (arith, entry c)
@@ -80,11 +80,11 @@ returns-2 : tie.Need-returns-2
 returns-2 c =
     let e = c.before in
     let i = e.before.args.i in
-    let at = doubled-at (entries e) i (entry e) in
-    (at.0 ∙ as-told (entries e) _ _ (i * 2) e.if1.false, at.1 ∙ as-told (entries e) _ _ (i * 2 + 1) e.if1.false)
+    let at = doubled_at (entries e) i (entry e) in
+    (at.0 ∙ as_told (entries e) _ _ (i * 2) e.if1.false, at.1 ∙ as_told (entries e) _ _ (i * 2 + 1) e.if1.false)
 
-pub span-at-spec : {M : Type 1} → statement M
-span-at-spec =
+pub span_at_spec : {M : Type 1} → statement M
+span_at_spec =
     tie.close
     (tie.spec
     mul-first

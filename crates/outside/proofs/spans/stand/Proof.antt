@@ -6,7 +6,7 @@ use mathlib.Core.List.{List}
 use lib.ListN.{length, get_or}
 use borrow.Author.Rules.{rules}
 use Rattle.outside.specs.Spans.{spans, Come, Stands}
-use Rattle.outside.proofs.SpanLaws.{come-next, come-stands, come-none}
+use Rattle.outside.proofs.SpanLaws.{come_next, come_stands, come_none}
 use Rattle.outside.proofs.spans.stand.Statement.{statement}
 use Rattle.outside.proofs.spans.stand.Tie as tie
 
@@ -47,13 +47,13 @@ module _ (c : tie.After-struct-known invariant-loop decreases-loop) where
   came = (head (turn c)).loop.inv
 
   -- it is passed, or the walk stands at it
-  passed-or-held : (c.before.span-at.result.past ≤ s.args.row → Come (all s) s.args.len (i + 1) s.args.row)
+  passed_or_held : (c.before.span-at.result.past ≤ s.args.row → Come (all s) s.args.len (i + 1) s.args.row)
       × (s.args.row < c.before.span-at.result.past
       → Stands (all s) s.args.len s.args.row c.before.span-at.result.first c.before.span-at.result.past)
-  passed-or-held =
+  passed_or_held =
       let e = c.before.span-at.ensures in (
-        come-next (all s) s.args.len i s.args.row _ _ (some (turn c)) e.0 e.1 came,
-        come-stands (all s) s.args.len i s.args.row _ _ (some (turn c)) e.0 e.1 came,
+        come_next (all s) s.args.len i s.args.row _ _ (some (turn c)) e.0 e.1 came,
+        come_stands (all s) s.args.len i s.args.row _ _ (some (turn c)) e.0 e.1 came,
       )
 
 count-spans-requires : tie.Need-count-spans-requires invariant-loop decreases-loop
@@ -66,7 +66,7 @@ span-at-requires : tie.Need-span-at-requires invariant-loop decreases-loop
 span-at-requires c κs = some c
 
 returns : tie.Need-returns invariant-loop decreases-loop
-returns c = (came c.before, (passed-or-held c.before).1 c.if1.true)
+returns c = (came c.before, (passed_or_held c.before).1 c.if1.true)
 
 add-i : tie.Need-overflow-add-i invariant-loop decreases-loop
 add-i c = omega arith
@@ -75,16 +75,16 @@ loop-less : tie.Need-loop-smaller invariant-loop decreases-loop
 loop-less c = omega arith
 
 loop-again : tie.Need-loop-preserved invariant-loop decreases-loop
-loop-again c = (passed-or-held c.before).0 c.if1.false
+loop-again c = (passed_or_held c.before).0 c.if1.false
 
 returns-2 : tie.Need-returns-2 invariant-loop decreases-loop
 returns-2 c =
     let s = start c.before in
     let none : length (all s) / 2 ≤ c.before.loop.i = omega (arith, c.before.before.count-spans.ensures) in
-    (c.before.loop.invariant, come-none (all s) s.args.len c.before.loop.i s.args.row none c.before.loop.invariant)
+    (c.before.loop.invariant, come_none (all s) s.args.len c.before.loop.i s.args.row none c.before.loop.invariant)
 
-pub stand-spec : {M : Type 1} → statement M
-stand-spec =
+pub stand_spec : {M : Type 1} → statement M
+stand_spec =
     tie.close
     (tie.spec
     invariant-loop

@@ -11,8 +11,8 @@ use Rattle.rules.specs.declared.Form.{Form}
 use Rattle.rules.specs.Operand.{lent, rows_of, length_of}
 use Rattle.outside.specs.First.{has, Clear, First, Reach}
 use Rattle.outside.specs.Walks.{Walks}
-use Rattle.outside.proofs.FirstLaws.{clear_none, first-none, leap-on, leap-found, leap-none}
-use Rattle.outside.proofs.WalkLaws.{walks-later}
+use Rattle.outside.proofs.FirstLaws.{clear_none, first_none, leap_on, leap_found, leap_none}
+use Rattle.outside.proofs.WalkLaws.{walks_later}
 use Rattle.outside.proofs.walks.leap.Statement.{statement}
 use Rattle.outside.proofs.walks.leap.Tie as tie
 
@@ -97,13 +97,13 @@ returns c =
     let s = c.before in
     let t = head s in
     subst (λ (r : ℕ). First (has (outside (S t) (K t))) 0 (len t) r) (sym (measured t))
-    (leap-none (S t) (K t) t.loop.row (here s) (len t) (behind s) (next s) (c.if1.true ∙ measured t))
+    (leap_none (S t) (K t) t.loop.row (here s) (len t) (behind s) (next s) (c.if1.true ∙ measured t))
 
 reach-requires : tie.Need-reach-requires invariant-loop decreases-loop
 reach-requires c κs =
     let s = c.before in
     let t = head s in (
-      walks-later (a t).args.s (a t).args.swords.now (a t).args.srows.now t.loop.snext t.loop.row (here s) (next s).on t.loop.inv.1,
+      walks_later (a t).args.s (a t).args.swords.now (a t).args.srows.now t.loop.snext t.loop.row (here s) (next s).on t.loop.inv.1,
       omega (arith, (next s).within, c.if1.false, measured t, (a t).pre.2),
     )
 
@@ -111,7 +111,7 @@ returns-2 : tie.Need-returns-2 invariant-loop decreases-loop
 returns-2 c =
     let s = stood c.before in
     let t = head s in
-    leap-found (S t) (K t) t.loop.row (here s) (len t) (behind s) (next s)
+    leap_found (S t) (K t) t.loop.row (here s) (len t) (behind s) (next s)
     (omega (arith, (next s).within, c.before.before.if1.false, measured t))
     ((full c.before).stuck c.if2.true)
 
@@ -127,8 +127,8 @@ loop-again c =
     let t = head s in (
       omega (arith, ends r, measured t),
       r.reach.ensures.0,
-      walks-later (a t).args.k (a t).args.kwords.now (a t).args.krows.now _ (here s) (there r) (full r).on s.next-set.ensures.0,
-      leap-on (S t) (K t) t.loop.row (here s) (len t) (behind s) (next s) (length_of (a t).args.s) (there r) (full r),
+      walks_later (a t).args.k (a t).args.kwords.now (a t).args.krows.now _ (here s) (there r) (full r).on s.next-set.ensures.0,
+      leap_on (S t) (K t) t.loop.row (here s) (len t) (behind s) (next s) (length_of (a t).args.s) (there r) (full r),
     )
 
 returns-3 : tie.Need-returns-3 invariant-loop decreases-loop
@@ -136,10 +136,10 @@ returns-3 c =
     let t = c.before in
     let i = t.loop.invariant in
     subst (λ (r : ℕ). First (has (outside (S t) (K t))) 0 (len t) r) (sym (measured t))
-    (first-none (has (outside (S t) (K t))) 0 (len t) (omega arith) (λ k h l. i.3 k h (omega (arith, measured t, c.loop-test.false))))
+    (first_none (has (outside (S t) (K t))) 0 (len t) (omega arith) (λ k h l. i.3 k h (omega (arith, measured t, c.loop-test.false))))
 
-pub leap-spec : {M : Type 1} → statement M
-leap-spec =
+pub leap_spec : {M : Type 1} → statement M
+leap_spec =
     tie.close
     (tie.spec
     invariant-loop

@@ -7,7 +7,7 @@ use borrow.Author.Rules.{rules}
 use Rattle.rules.specs.declared.Form.{Form}
 use Rattle.rules.specs.Operand.{length_of}
 use Rattle.outside.specs.Walks.{Walks}
-use Rattle.outside.proofs.WalkLaws.{NextSet, set_all, set-none, set-listed, set_runs}
+use Rattle.outside.proofs.WalkLaws.{NextSet, set_all, set_none, set_listed, set_runs}
 use Rattle.outside.proofs.walks.next_set.Statement.{statement}
 use Rattle.outside.proofs.walks.next_set.Tie as tie
 
@@ -18,11 +18,11 @@ start c = c.before.before
 abbrev in_words : tie.After-known-told2 → tie.Start
 in_words c = start c.before.before.before
 
-abbrev as-list : tie.After-known-told3 → tie.Start
-as-list c = start c.before.before.before
+abbrev as_list : tie.After-known-told3 → tie.Start
+as_list c = start c.before.before.before
 
-abbrev as-runs : tie.After-known-told4 → tie.Start
-as-runs c = start c.before.before.before
+abbrev as_runs : tie.After-known-told4 → tie.Start
+as_runs c = start c.before.before.before
 
 -- ---- what is required of the form that the match tells, and what is answered of it
 module _ (c : tie.Start) where
@@ -59,13 +59,13 @@ enum-known-form-3 : tie.Need-enum-known-form-3
 enum-known-form-3 c = search rules
 
 next-held-requires : tie.Need-next-held-requires
-next-held-requires c κs = required (as-list c) _ c.before.form3.given.1
+next-held-requires c κs = required (as_list c) _ c.before.form3.given.1
 
 enum-known-form-4 : tie.Need-enum-known-form-4
 enum-known-form-4 c = search rules
 
 next-held-requires-2 : tie.Need-next-held-requires-2
-next-held-requires-2 c κs = required (as-runs c) _ c.before.form4.given.1
+next-held-requires-2 c κs = required (as_runs c) _ c.before.form4.given.1
 
 returns : tie.Need-returns
 returns c =
@@ -77,7 +77,7 @@ returns-2 : tie.Need-returns-2
 returns-2 c =
     let s = start c.before.before.before in
     let e = c.before.form.given.1 in
-    told s _ e _ _ (set-none (ws s) (es s) (row s) s.args.next _ (required s _ e).1)
+    told s _ e _ _ (set_none (ws s) (es s) (row s) s.args.next _ (required s _ e).1)
 
 returns-3 : tie.Need-returns-3
 returns-3 c =
@@ -87,18 +87,18 @@ returns-3 c =
 
 returns-4 : tie.Need-returns-4
 returns-4 c =
-    let s = as-list c.before in
+    let s = as_list c.before in
     let next = c.next-held in
-    told s _ c.before.before.form3.given.1 _ _ (set-listed (ws s) (es s) (row s) _ _ _ next.ensures.0 next.ensures.1)
+    told s _ c.before.before.form3.given.1 _ _ (set_listed (ws s) (es s) (row s) _ _ _ next.ensures.0 next.ensures.1)
 
 returns-5 : tie.Need-returns-5
 returns-5 c =
-    let s = as-runs c.before in
+    let s = as_runs c.before in
     let next = c.next-held2 in
     told s _ c.before.before.form4.given.1 _ _ (set_runs (ws s) (es s) (row s) _ _ _ next.ensures.0 next.ensures.1)
 
-pub next-set-spec : {M : Type 1} → statement M
-next-set-spec =
+pub next_set_spec : {M : Type 1} → statement M
+next_set_spec =
     tie.close
     (tie.spec
     enum_told

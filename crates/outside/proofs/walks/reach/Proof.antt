@@ -10,8 +10,8 @@ use Rattle.rules.specs.declared.Form.{Form}
 use Rattle.rules.specs.Operand.{length_of}
 use Rattle.outside.specs.First.{has}
 use Rattle.outside.specs.Walks.{Walks}
-use Rattle.outside.proofs.FirstLaws.{reach-first}
-use Rattle.outside.proofs.WalkLaws.{Reaches, reach-all, reach-no, reach-listed, reach-runs}
+use Rattle.outside.proofs.FirstLaws.{reach_first}
+use Rattle.outside.proofs.WalkLaws.{Reaches, reach_all, reach_no, reach_listed, reach_runs}
 use Rattle.outside.proofs.walks.reach.Statement.{statement}
 use Rattle.outside.proofs.walks.reach.Tie as tie
 
@@ -22,11 +22,11 @@ start c = c.before.before
 abbrev in_words : tie.After-known-told2 → tie.Start
 in_words c = start c.before.before.before
 
-abbrev as-list : tie.After-known-told3 → tie.Start
-as-list c = start c.before.before.before
+abbrev as_list : tie.After-known-told3 → tie.Start
+as_list c = start c.before.before.before
 
-abbrev as-runs : tie.After-known-told4 → tie.Start
-as-runs c = start c.before.before.before
+abbrev as_runs : tie.After-known-told4 → tie.Start
+as_runs c = start c.before.before.before
 
 -- ---- what is required of the form that the match tells, and what is answered of it
 module _ (c : tie.Start) where
@@ -65,47 +65,47 @@ enum-known-form-3 : tie.Need-enum-known-form-3
 enum-known-form-3 c = search rules
 
 held-to-requires : tie.Need-held-to-requires
-held-to-requires c κs = required (as-list c) _ c.before.form3.given.1
+held-to-requires c κs = required (as_list c) _ c.before.form3.given.1
 
 enum-known-form-4 : tie.Need-enum-known-form-4
 enum-known-form-4 c = search rules
 
 held-to-requires-2 : tie.Need-held-to-requires-2
-held-to-requires-2 c κs = required (as-runs c) _ c.before.form4.given.1
+held-to-requires-2 c κs = required (as_runs c) _ c.before.form4.given.1
 
 returns : tie.Need-returns
 returns c =
     let s = start c.before.before.before in
     let e = c.before.form.given.1 in
-    told s _ e _ _ (reach-all (ws s) (es s) (row s) s.args.next _ (required s _ e).1)
+    told s _ e _ _ (reach_all (ws s) (es s) (row s) s.args.next _ (required s _ e).1)
 
 returns-2 : tie.Need-returns-2
 returns-2 c =
     let s = start c.before.before in
     let e = c.enum_told.given.1 in
-    told s _ e _ _ (reach-no (ws s) (es s) (row s) s.args.next _ (required s _ e).1)
+    told s _ e _ _ (reach_no (ws s) (es s) (row s) s.args.next _ (required s _ e).1)
 
 returns-3 : tie.Need-returns-3
 returns-3 c =
     let s = in_words c.before in
     let w = c.before.before.form2.given in
     let r = required s _ w.1 in
-    told s _ w.1 s.args.next _ (r.0, reach-first (has (view w.0.0 w.0.1.0 (ws s))) (row s) _ _ r.1 c.seek.ensures)
+    told s _ w.1 s.args.next _ (r.0, reach_first (has (view w.0.0 w.0.1.0 (ws s))) (row s) _ _ r.1 c.seek.ensures)
 
 returns-4 : tie.Need-returns-4
 returns-4 c =
-    let s = as-list c.before in
+    let s = as_list c.before in
     let e = c.before.before.form3.given.1 in
-    told s _ e _ _ (reach-listed (ws s) (es s) (row s) _ _ _ (required s _ e).1 c.held_to.ensures.0 c.held_to.ensures.1)
+    told s _ e _ _ (reach_listed (ws s) (es s) (row s) _ _ _ (required s _ e).1 c.held_to.ensures.0 c.held_to.ensures.1)
 
 returns-5 : tie.Need-returns-5
 returns-5 c =
-    let s = as-runs c.before in
+    let s = as_runs c.before in
     let e = c.before.before.form4.given.1 in
-    told s _ e _ _ (reach-runs (ws s) (es s) (row s) _ _ _ (required s _ e).1 c.held-to2.ensures.0 c.held-to2.ensures.1)
+    told s _ e _ _ (reach_runs (ws s) (es s) (row s) _ _ _ (required s _ e).1 c.held-to2.ensures.0 c.held-to2.ensures.1)
 
-pub reach-spec : {M : Type 1} → statement M
-reach-spec =
+pub reach_spec : {M : Type 1} → statement M
+reach_spec =
     tie.close
     (tie.spec
     enum-known-form

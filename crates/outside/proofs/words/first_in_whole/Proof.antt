@@ -10,8 +10,8 @@ use lib.Count.{count_trailing_zeros, trailing_le}
 use Rattle.rows.specs.Rows.{outside}
 use Rattle.rows.specs.Words.{view}
 use Rattle.outside.specs.First.{has, Clear, First}
-use Rattle.outside.proofs.FirstLaws.{clear_none, first-none}
-use Rattle.outside.proofs.WordLaws.{Shown, shown-as, none-behind, first-behind-shown, outside-shown}
+use Rattle.outside.proofs.FirstLaws.{clear_none, first_none}
+use Rattle.outside.proofs.WordLaws.{Shown, shown_as, none_behind, first_behind_shown, outside_shown}
 use Rattle.outside.proofs.words.first_in_whole.Statement.{statement}
 use Rattle.outside.proofs.words.first_in_whole.Tie as tie
 
@@ -60,15 +60,15 @@ module _ (c : tie.After-whole-word2 invariant-loop decreases-loop) where
 
   shown : Shown f at 64 word
   shown =
-      shown-as f at 64 _ word
+      shown_as f at 64 _ word
       (ap₂ (λ (x y : ℕ). bit_and x (2 ^ 64 - 1 - y)) c.before.whole_word.ensures c.whole-word2.ensures)
-      (outside-shown a.args.sstart a.args.kstart a.args.len at 64 a.args.swords.now a.args.kwords.now few short)
+      (outside_shown a.args.sstart a.args.kstart a.args.len at 64 a.args.swords.now a.args.kwords.now few short)
 
   found : 0 < word → First f 0 (a.args.n * 64) (at + count_trailing_zeros 64 word)
-  found = first-behind-shown f at 64 word few shown 0 (a.args.n * 64) (omega arith) reach (head (turn c)).loop.inv.1
+  found = first_behind_shown f at 64 word few shown 0 (a.args.n * 64) (omega arith) reach (head (turn c)).loop.inv.1
 
   none : word ≡ 0 → Clear f 0 (at + 64)
-  none = none-behind f at 64 word few shown 0 (a.args.n * 64) (omega arith) reach (head (turn c)).loop.inv.1
+  none = none_behind f at 64 word few shown 0 (a.args.n * 64) (omega arith) reach (head (turn c)).loop.inv.1
 
 -- ---- the answers
 loop-holds : tie.Need-loop-init invariant-loop decreases-loop
@@ -108,10 +108,10 @@ returns-2 : tie.Need-returns-2 invariant-loop decreases-loop
 returns-2 c =
     let a = (start c.before).args in
     let i = c.before.loop.invariant in
-    first-none _ 0 (a.n * 64) (omega arith) (λ k h l. i.1 k h (omega (arith, i.0)))
+    first_none _ 0 (a.n * 64) (omega arith) (λ k h l. i.1 k h (omega (arith, i.0)))
 
-pub first-in-whole-spec : {M : Type 1} → statement M
-first-in-whole-spec =
+pub first_in_whole_spec : {M : Type 1} → statement M
+first_in_whole_spec =
     tie.close
     (tie.spec
     invariant-loop

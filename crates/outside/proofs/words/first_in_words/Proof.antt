@@ -10,8 +10,8 @@ use borrow.Author.Rules.{rules}
 use Rattle.rows.specs.Rows.{outside}
 use Rattle.rows.specs.Words.{view}
 use Rattle.outside.specs.First.{has, Clear, First}
-use Rattle.outside.proofs.FirstLaws.{first-none, first-wider}
-use Rattle.outside.proofs.WordLaws.{Shown, shown-as, none-behind, first-behind-shown, outside-shown}
+use Rattle.outside.proofs.FirstLaws.{first_none, first_wider}
+use Rattle.outside.proofs.WordLaws.{Shown, shown_as, none_behind, first_behind_shown, outside_shown}
 use Rattle.outside.proofs.words.first_in_words.Statement.{statement}
 use Rattle.outside.proofs.words.first_in_words.Tie as tie
 
@@ -62,8 +62,8 @@ module _ (c : tie.After-chunk2) where
 
   shown : Shown (f w) (row w) n word
   shown =
-      shown-as (f w) (row w) n _ word (ap₂ (λ (x y : ℕ). bit_and x (2 ^ 64 - 1 - y)) c.before.chunk.ensures c.chunk2.ensures)
-      (outside-shown (start w).args.sstart (start w).args.kstart (len w) (row w) n (start w).args.swords.now (start w).args.kwords.now few ends)
+      shown_as (f w) (row w) n _ word (ap₂ (λ (x y : ℕ). bit_and x (2 ^ 64 - 1 - y)) c.before.chunk.ensures c.chunk2.ensures)
+      (outside_shown (start w).args.sstart (start w).args.kstart (len w) (row w) n (start w).args.swords.now (start w).args.kwords.now few ends)
 
   clear : Clear (f w) 0 (row w)
   clear = behind w (omega arith)
@@ -76,12 +76,12 @@ first-in-whole-requires : tie.Need-first-in-whole-requires
 first-in-whole-requires c κs = search rules
 
 returns : tie.Need-returns
-returns c = first-wider (f c.before) 0 (row c.before) (len c.before) _ c.if1.true (omega arith) (first c.before)
+returns c = first_wider (f c.before) 0 (row c.before) (len c.before) _ c.if1.true (omega arith) (first c.before)
 
 returns-2 : tie.Need-returns-2
 returns-2 c =
     let w = c.before.before in
-    first-none (f w) 0 (len w) (omega arith) (λ i h l. behind w c.before.if1.false i h (omega arith))
+    first_none (f w) 0 (len w) (omega arith) (λ i h l. behind w c.before.if1.false i h (omega arith))
 
 sub-n : tie.Need-overflow-sub-n
 sub-n c = search rules
@@ -96,8 +96,8 @@ returns-3 : tie.Need-returns-3
 returns-3 c =
     let t = c.before in
     let w = whole t in
-    first-none (f w) 0 (len w) (omega arith)
-    (λ i h l. none-behind (f w) (row w) (n t) (word t) (few t) (shown t) 0 (len w) (omega arith) (ends t) (clear t) c.if3.true i h (omega arith))
+    first_none (f w) 0 (len w) (omega arith)
+    (λ i h l. none_behind (f w) (row w) (n t) (word t) (few t) (shown t) 0 (len w) (omega arith) (ends t) (clear t) c.if3.true i h (omega arith))
 
 cast-result : tie.Need-overflow-cast-result
 cast-result c = omega (arith, trailing_le 64 (word c.before))
@@ -109,10 +109,10 @@ returns-4 : tie.Need-returns-4
 returns-4 c =
     let t = c.before in
     let w = whole t in
-    first-behind-shown (f w) (row w) (n t) (word t) (few t) (shown t) 0 (len w) (omega arith) (ends t) (clear t) (omega arith)
+    first_behind_shown (f w) (row w) (n t) (word t) (few t) (shown t) 0 (len w) (omega arith) (ends t) (clear t) (omega arith)
 
-pub first-in-words-spec : {M : Type 1} → statement M
-first-in-words-spec =
+pub first_in_words_spec : {M : Type 1} → statement M
+first_in_words_spec =
     tie.close
     (tie.spec
     mul-row

@@ -10,8 +10,8 @@ use lib.Count.{count_trailing_zeros, trailing_le}
 use borrow.Author.Rules.{rules}
 use Rattle.rows.specs.Words.{view}
 use Rattle.outside.specs.First.{has, sought, Clear, First}
-use Rattle.outside.proofs.FirstLaws.{clear_none, first-none}
-use Rattle.outside.proofs.WordLaws.{Shown, shown-as, none-behind, first-behind-shown, sought-shown}
+use Rattle.outside.proofs.FirstLaws.{clear_none, first_none}
+use Rattle.outside.proofs.WordLaws.{Shown, shown_as, none_behind, first_behind_shown, sought_shown}
 use Rattle.outside.proofs.words.seek.Statement.{statement}
 use Rattle.outside.proofs.words.seek.Tie as tie
 
@@ -58,18 +58,18 @@ module _ (c : tie.After-ones invariant-loop decreases-loop) where
 
   shown : Shown f (at (turn c)) (n (turn c)) word
   shown =
-      shown-as f (at (turn c)) (n (turn c)) _ word
+      shown_as f (at (turn c)) (n (turn c)) _ word
       (ap₂ bit_and (ap₂ bit_xor c.before.read.ensures (head (turn c).before).before.flip.ensures) c.ones.ensures)
-      (sought-shown a.args.set a.args.start a.args.len (at (turn c)) (n (turn c)) a.args.words.now (few (turn c)).1 (few (turn c)).2)
+      (sought_shown a.args.set a.args.start a.args.len (at (turn c)) (n (turn c)) a.args.words.now (few (turn c)).1 (few (turn c)).2)
 
   behind : (a.args.row ≤ at (turn c)) × Clear f a.args.row (at (turn c))
   behind = ((head (turn c).before).loop.inv.0, (head (turn c).before).loop.inv.2)
 
   found : 0 < word → First f a.args.row a.args.len (at (turn c) + count_trailing_zeros 64 word)
-  found = first-behind-shown f (at (turn c)) (n (turn c)) word (few (turn c)).1 shown a.args.row a.args.len behind.0 (few (turn c)).2 behind.1
+  found = first_behind_shown f (at (turn c)) (n (turn c)) word (few (turn c)).1 shown a.args.row a.args.len behind.0 (few (turn c)).2 behind.1
 
   none : word ≡ 0 → Clear f a.args.row (at (turn c) + n (turn c))
-  none = none-behind f (at (turn c)) (n (turn c)) word (few (turn c)).1 shown a.args.row a.args.len behind.0 (few (turn c)).2 behind.1
+  none = none_behind f (at (turn c)) (n (turn c)) word (few (turn c)).1 shown a.args.row a.args.len behind.0 (few (turn c)).2 behind.1
 
 -- ---- the answers
 flip-requires : tie.Need-flip-requires invariant-loop decreases-loop
@@ -111,10 +111,10 @@ returns-2 : tie.Need-returns-2 invariant-loop decreases-loop
 returns-2 c =
     let a = (start c.before).args in
     let i = c.before.loop.invariant in
-    first-none (test a.words.now a.start a.len a.set) a.row a.len (omega (arith, i.0, i.1)) (λ k h l. i.2 k h (omega arith))
+    first_none (test a.words.now a.start a.len a.set) a.row a.len (omega (arith, i.0, i.1)) (λ k h l. i.2 k h (omega arith))
 
-pub seek-spec : {M : Type 1} → statement M
-seek-spec =
+pub seek_spec : {M : Type 1} → statement M
+seek_spec =
     tie.close
     (tie.spec
     invariant-loop

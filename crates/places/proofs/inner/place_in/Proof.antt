@@ -27,6 +27,6 @@ returns c =
     let a = c.before.args in
     ap (λ (n : ℕ). n / 2 ^ (8 * a.rank) % 256) c.places_of.ensures ∙ placed a.byte a.rank c.before.requires.0 c.before.requires.1
 
-pub place-in-spec : {M : Type 1} → statement M
-place-in-spec =
+pub place_in_spec : {M : Type 1} → statement M
+place_in_spec =
     tie.close (tie.spec places-of-requires mul-result cast-result shr-result cast-result-2 returns)

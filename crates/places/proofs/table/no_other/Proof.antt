@@ -8,5 +8,5 @@ use Rattle.places.proofs.table.no_other.Tie as tie
 returns : tie.Need-returns
 returns c = absurd (omega (arith, c.requires.0, none_below 256 c.args.byte c.requires.1))
 
-pub no-other-spec : {M : Type 1} → statement M
-no-other-spec = tie.close (tie.spec returns)
+pub no_other_spec : {M : Type 1} → statement M
+no_other_spec = tie.close (tie.spec returns)

@@ -40,8 +40,8 @@ same_length c = search rules
 returns-3 : tie.Need-returns-3
 returns-3 c = rw (c.of-answer.ensures, c.before.before.before.intersect-by-rank.ensures.0, c.before.before.before.intersect-by-rank.ensures.1, c.before.before.before.before.before.before.before.before.before.a.given.1, c.before.before.before.before.before.before.b.given.1)
 
-pub compose-spec : {M : Type 1} → statement M
-compose-spec =
+pub compose_spec : {M : Type 1} → statement M
+compose_spec =
     tie.close
     (tie.spec
     enum-known-a

@@ -14,5 +14,5 @@ of-word-requires c κs = search rules
 returns : tie.Need-returns
 returns c = c.of_word.ensures ∙ rw c.before.before.deposit-by.ensures
 
-pub deposit-spec : {M : Type 1} → statement M
-deposit-spec = tie.close (tie.spec deposit-by-requires of-word-requires returns)
+pub deposit_spec : {M : Type 1} → statement M
+deposit_spec = tie.close (tie.spec deposit-by-requires of-word-requires returns)

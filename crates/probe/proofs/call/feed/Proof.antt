@@ -40,8 +40,8 @@ same_length c = search rules
 returns-3 : tie.Need-returns-3
 returns-3 c = rw (c.of-fed.ensures, c.before.before.before.feed.ensures.0, c.before.before.before.feed.ensures.1, c.before.before.before.before.before.before.before.before.before.a.given.1, c.before.before.before.before.before.before.b.given.1)
 
-pub feed-spec : {M : Type 1} → statement M
-feed-spec =
+pub feed_spec : {M : Type 1} → statement M
+feed_spec =
     tie.close
     (tie.spec
     enum-known-a

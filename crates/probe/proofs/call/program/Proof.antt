@@ -16,5 +16,5 @@ same_length c = search rules
 returns : tie.Need-returns
 returns c = rw (c.of-written.ensures, c.before.before.before.answer.ensures.0, c.before.before.before.answer.ensures.1)
 
-pub program-spec : {M : Type 1} → statement M
-program-spec = tie.close (tie.spec answer-requires of-written-requires same_length returns)
+pub program_spec : {M : Type 1} → statement M
+program_spec = tie.close (tie.spec answer-requires of-written-requires same_length returns)

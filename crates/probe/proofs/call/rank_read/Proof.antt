@@ -14,5 +14,5 @@ of-word-requires c κs = search rules
 returns : tie.Need-returns
 returns c = c.of_word.ensures ∙ rw c.before.before.rank-read.ensures
 
-pub rank-read-spec : {M : Type 1} → statement M
-rank-read-spec = tie.close (tie.spec rank-read-requires of-word-requires returns)
+pub rank_read_spec : {M : Type 1} → statement M
+rank_read_spec = tie.close (tie.spec rank-read-requires of-word-requires returns)

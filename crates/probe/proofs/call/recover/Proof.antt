@@ -2,8 +2,8 @@
 -- By each operand's case. Assumes nothing.
 use mathlib.Core.Path.{◌∙◌}
 use borrow.Author.Rules.{rules}
-use Rattle.cells.specs.Probe.{ended, recoveredTold}
-use Rattle.cells.proofs.TellLaws.{second-bad, both-good}
+use Rattle.cells.specs.Probe.{ended, recovered_told}
+use Rattle.cells.proofs.TellLaws.{second_bad, both_good}
 use Rattle.probe.proofs.call.recover.Statement.{statement}
 use Rattle.probe.proofs.call.recover.Tie as tie
 
@@ -45,7 +45,7 @@ of-bad-form-requires-2 : tie.Need-of-bad-form-requires-2
 of-bad-form-requires-2 c κs = search rules
 
 returns-2 : tie.Need-returns-2
-returns-2 c = second-bad _ _ _ _ _ _ _ _ c.of-bad-form2.ensures (alone c.before).a.given.1 c.before.enum-told2.given.1
+returns-2 c = second_bad _ _ _ _ _ _ _ _ c.of-bad-form2.ensures (alone c.before).a.given.1 c.before.enum-told2.given.1
 
 recover-requires : tie.Need-recover-requires
 recover-requires c κs = search rules
@@ -59,11 +59,11 @@ same_length c = search rules
 returns-3 : tie.Need-returns-3
 returns-3 c =
     let k = called c in
-    let answer = c.of-recovered.ensures ∙ (λ i. recoveredTold (k.recover.ensures.0 i)) in
-    (λ i. ended (answer i) (k.recover.ensures.1 i)) ∙ both-good _ _ _ _ _ _ _ _ (first (second k)).a.given.1 (second k).b.given.1
+    let answer = c.of-recovered.ensures ∙ (λ i. recovered_told (k.recover.ensures.0 i)) in
+    (λ i. ended (answer i) (k.recover.ensures.1 i)) ∙ both_good _ _ _ _ _ _ _ _ (first (second k)).a.given.1 (second k).b.given.1
 
-pub recover-spec : {M : Type 1} → statement M
-recover-spec =
+pub recover_spec : {M : Type 1} → statement M
+recover_spec =
     tie.close
     (tie.spec
     enum-known-a

@@ -2,8 +2,8 @@
 -- By each operand's case. Assumes nothing.
 use mathlib.Core.Path.{◌∙◌}
 use borrow.Author.Rules.{rules}
-use Rattle.cells.specs.Probe.{ended, recoveryFedTold}
-use Rattle.cells.proofs.TellLaws.{second-bad, both-good}
+use Rattle.cells.specs.Probe.{ended, recovery_fed_told}
+use Rattle.cells.proofs.TellLaws.{second_bad, both_good}
 use Rattle.probe.proofs.call.recover_feed.Statement.{statement}
 use Rattle.probe.proofs.call.recover_feed.Tie as tie
 
@@ -45,7 +45,7 @@ of-bad-form-requires-2 : tie.Need-of-bad-form-requires-2
 of-bad-form-requires-2 c κs = search rules
 
 returns-2 : tie.Need-returns-2
-returns-2 c = second-bad _ _ _ _ _ _ _ _ c.of-bad-form2.ensures (alone c.before).a.given.1 c.before.enum-told2.given.1
+returns-2 c = second_bad _ _ _ _ _ _ _ _ c.of-bad-form2.ensures (alone c.before).a.given.1 c.before.enum-told2.given.1
 
 feed-requires : tie.Need-feed-requires
 feed-requires c κs = search rules
@@ -59,11 +59,11 @@ same_length c = search rules
 returns-3 : tie.Need-returns-3
 returns-3 c =
     let k = called c in
-    let answer = c.of-recovery-fed.ensures ∙ (λ i. recoveryFedTold (k.feed.ensures.0 i)) in
-    (λ i. ended (answer i) (k.feed.ensures.1 i)) ∙ both-good _ _ _ _ _ _ _ _ (first (second k)).a.given.1 (second k).b.given.1
+    let answer = c.of-recovery-fed.ensures ∙ (λ i. recovery_fed_told (k.feed.ensures.0 i)) in
+    (λ i. ended (answer i) (k.feed.ensures.1 i)) ∙ both_good _ _ _ _ _ _ _ _ (first (second k)).a.given.1 (second k).b.given.1
 
-pub recover-feed-spec : {M : Type 1} → statement M
-recover-feed-spec =
+pub recover_feed_spec : {M : Type 1} → statement M
+recover_feed_spec =
     tie.close
     (tie.spec
     enum-known-a

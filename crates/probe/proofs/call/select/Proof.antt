@@ -14,5 +14,5 @@ of-word-requires c κs = search rules
 returns : tie.Need-returns
 returns c = c.of_word.ensures ∙ rw c.before.before.select.ensures
 
-pub select-spec : {M : Type 1} → statement M
-select-spec = tie.close (tie.spec select-requires of-word-requires returns)
+pub select_spec : {M : Type 1} → statement M
+select_spec = tie.close (tie.spec select-requires of-word-requires returns)

@@ -4,7 +4,7 @@ use Prim.Native.Nat.{ℕ}
 use native.Mathlib.Omega.{arith}
 use borrow.Author.Rules.{rules}
 use borrow.Author.Tests.{eq-eqb, ne_eqb}
-use Rattle.cells.specs.Probe.{setDone}
+use Rattle.cells.specs.Probe.{set_done}
 use Rattle.probe.proofs.call.set_operation.Statement.{statement}
 use Rattle.probe.proofs.call.set_operation.Tie as tie
 
@@ -24,7 +24,7 @@ same_length : tie.Need-same-length
 same_length c = search rules
 
 returns : tie.Need-returns
-unfolding setDone
+unfolding set_done
 returns c =
     let k : ℕ = c.before.before.before.before.before.before.before.before.before.before.args.which in
     rw (c.before.before.and.ensures.0, c.before.before.and.ensures.1, eq-eqb k 0 (omega arith))
@@ -33,7 +33,7 @@ same-length-2 : tie.Need-same-length-2
 same-length-2 c = search rules
 
 returns-2 : tie.Need-returns-2
-unfolding setDone
+unfolding set_done
 returns-2 c =
     let k : ℕ = c.before.before.before.before.before.before.before.before.before.before.args.which in
     rw (c.before.before.or.ensures.0, c.before.before.or.ensures.1, ne_eqb k 0 (λ e. omega arith), eq-eqb k 1 (omega arith))
@@ -42,7 +42,7 @@ same-length-3 : tie.Need-same-length-3
 same-length-3 c = search rules
 
 returns-3 : tie.Need-returns-3
-unfolding setDone
+unfolding set_done
 returns-3 c =
     let k : ℕ = c.before.before.before.before.before.before.before.before.before.before.args.which in
     rw (c.before.before.and-not.ensures.0, c.before.before.and-not.ensures.1, ne_eqb k 0 (λ e. omega arith), ne_eqb k 1 (λ e. omega arith), eq-eqb k 2 (omega arith))
@@ -51,13 +51,13 @@ same-length-4 : tie.Need-same-length-4
 same-length-4 c = search rules
 
 returns-4 : tie.Need-returns-4
-unfolding setDone
+unfolding set_done
 returns-4 c =
     let k : ℕ = c.before.before.before.before.before.before.before.before.before.before.args.which in
     rw (c.before.before.not.ensures.0, c.before.before.not.ensures.1, ne_eqb k 0 (λ e. omega arith), ne_eqb k 1 (λ e. omega arith), ne_eqb k 2 (λ e. omega arith))
 
-pub set-operation-spec : {M : Type 1} → statement M
-set-operation-spec =
+pub set_operation_spec : {M : Type 1} → statement M
+set_operation_spec =
     tie.close
     (tie.spec
     and-requires

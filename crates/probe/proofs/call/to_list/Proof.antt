@@ -28,8 +28,8 @@ same_length c = search rules
 returns-2 : tie.Need-returns-2
 returns-2 c = rw (c.of-answer.ensures, c.before.before.before.to-list.ensures.0, c.before.before.before.to-list.ensures.1, c.before.before.before.before.before.before.a.given.1)
 
-pub to-list-spec : {M : Type 1} → statement M
-to-list-spec =
+pub to_list_spec : {M : Type 1} → statement M
+to_list_spec =
     tie.close
     (tie.spec
     enum_told

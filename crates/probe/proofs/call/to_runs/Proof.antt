@@ -28,8 +28,8 @@ same_length c = search rules
 returns-2 : tie.Need-returns-2
 returns-2 c = rw (c.of-runs.ensures, c.before.before.before.to-runs.ensures.0, c.before.before.before.to-runs.ensures.1, c.before.before.before.before.before.before.a.given.1)
 
-pub to-runs-spec : {M : Type 1} → statement M
-to-runs-spec =
+pub to_runs_spec : {M : Type 1} → statement M
+to_runs_spec =
     tie.close
     (tie.spec
     enum_told

@@ -28,8 +28,8 @@ same_length c = search rules
 returns-2 : tie.Need-returns-2
 returns-2 c = rw (c.of-answer.ensures, c.before.before.before.to-words.ensures.0, c.before.before.before.to-words.ensures.1, c.before.before.before.before.before.before.a.given.1)
 
-pub to-words-spec : {M : Type 1} → statement M
-to-words-spec =
+pub to_words_spec : {M : Type 1} → statement M
+to_words_spec =
     tie.close
     (tie.spec
     enum_told

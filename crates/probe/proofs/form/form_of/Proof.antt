@@ -43,5 +43,5 @@ returns-6 c =
     let k : ℕ = c.before.args.kind in
     rw (ne_eqb k 0 (λ e. omega arith), ne_eqb k 1 (λ e. omega arith), ne_eqb k 2 (λ e. omega arith), ne_eqb k 3 (λ e. omega arith), ne_eqb k 4 (λ e. omega arith))
 
-pub form-of-spec : {M : Type 1} → statement M
-form-of-spec = tie.close (tie.spec returns returns-2 returns-3 returns-4 returns-5 returns-6)
+pub form_of_spec : {M : Type 1} → statement M
+form_of_spec = tie.close (tie.spec returns returns-2 returns-3 returns-4 returns-5 returns-6)

@@ -3,7 +3,7 @@
 use mathlib.Core.Path.{ap, ◌∙◌}
 use borrow.Author.Rules.{rules}
 use Rattle.rows.specs.declared.Refusal.{Refusal}
-use Rattle.cells.specs.Probe.{wordTold}
+use Rattle.cells.specs.Probe.{word_told}
 use Rattle.probe.proofs.tell.of_bad_form.Statement.{statement}
 use Rattle.probe.proofs.tell.of_bad_form.Tie as tie
 
@@ -14,7 +14,7 @@ of-word-requires : tie.Need-of-word-requires
 of-word-requires c κs = search rules
 
 returns : tie.Need-returns
-returns c = c.of_word.ensures ∙ ap (λ (x : Refusal). wordTold x 0) c.before.refusal.ensures
+returns c = c.of_word.ensures ∙ ap (λ (x : Refusal). word_told x 0) c.before.refusal.ensures
 
-pub of-bad-form-spec : {M : Type 1} → statement M
-of-bad-form-spec = tie.close (tie.spec refusal-requires of-word-requires returns)
+pub of_bad_form_spec : {M : Type 1} → statement M
+of_bad_form_spec = tie.close (tie.spec refusal-requires of-word-requires returns)

@@ -16,5 +16,5 @@ returns : tie.Need-returns
 unfolding of_bits
 returns c = refl
 
-pub of-word-spec : {M : Type 1} → statement M
-of-word-spec = tie.close (tie.spec cast-t3 cast-t4 returns)
+pub of_word_spec : {M : Type 1} → statement M
+of_word_spec = tie.close (tie.spec cast-t3 cast-t4 returns)

@@ -13,5 +13,5 @@ returns-2 : tie.Need-returns-2
 unfolding enough
 returns-2 c = rw (le-leb 16 c.before.args.nans c.if1.false)
 
-pub ready-spec : {M : Type 1} → statement M
-ready-spec = tie.close (tie.spec returns returns-2)
+pub ready_spec : {M : Type 1} → statement M
+ready_spec = tie.close (tie.spec returns returns-2)

@@ -3,8 +3,8 @@
 use mathlib.Core.Path.{ap₂, ◌∙◌}
 use native.Mathlib.Omega.{arith}
 use borrow.Author.Rules.{rules}
-use Rattle.rows.proofs.SpliceLaws.{splice-eq}
-use Rattle.cells.specs.Probe.{answerCells}
+use Rattle.rows.proofs.SpliceLaws.{splice_eq}
+use Rattle.cells.specs.Probe.{answer_cells}
 use Rattle.cells.proofs.TellLaws.{set_first}
 use Rattle.probe.proofs.tell.tell.Statement.{statement}
 use Rattle.probe.proofs.tell.tell.Tie as tie
@@ -27,10 +27,10 @@ same-length-2 c = search rules
 returns : tie.Need-returns
 returns c =
     let s = c.before.before.before.before.before.before.before in
-    let cells = c.before.before.copy-words.ensures ∙ splice-eq 0 s.args.ans.now _ (omega (arith, s.requires.0)) in
-    ap₂ answerCells cells (set_first s.args.den.now s.args.told.density s.requires.1)
+    let cells = c.before.before.copy-words.ensures ∙ splice_eq 0 s.args.ans.now _ (omega (arith, s.requires.0)) in
+    ap₂ answer_cells cells (set_first s.args.den.now s.args.told.density s.requires.1)
 
-pub tell-spec : {M : Type 1} → statement M
-tell-spec =
+pub tell_spec : {M : Type 1} → statement M
+tell_spec =
     tie.close
     (tie.spec slice-aggregate-copy-words copy-words-requires slice-write-den same_length same-length-2 returns)

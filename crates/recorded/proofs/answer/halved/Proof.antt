@@ -31,8 +31,8 @@ loop-again c = search rules
 returns-2 : tie.Need-returns-2 invariant-loop decreases-loop
 returns-2 c = search rules
 
-pub halved-spec : {M : Type 1} → statement M
-halved-spec =
+pub halved_spec : {M : Type 1} → statement M
+halved_spec =
     tie.close
     (tie.spec
     invariant-loop

@@ -43,8 +43,8 @@ loop-again c = search rules
 returns-2 : tie.Need-returns-2 invariant-loop decreases-loop
 returns-2 c = search rules
 
-pub run-feeds-spec : {M : Type 1} → statement M
-run-feeds-spec =
+pub run_feeds_spec : {M : Type 1} → statement M
+run_feeds_spec =
     tie.close
     (tie.spec
     invariant-loop

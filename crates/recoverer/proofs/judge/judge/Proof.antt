@@ -5,15 +5,15 @@ use mathlib.Core.Path.{◌≡◌, sym, ap, ap₂, ◌∙◌}
 use borrow.Author.Rules.{rules}
 use Rattle.rows.specs.declared.Verdict.{Verdict}
 use Rattle.rows.specs.declared.Verdict.TheVariants.{Fine, Refused}
-use Rattle.rows.specs.Table.{first, ifFine}
+use Rattle.rows.specs.Table.{first, if_fine}
 use Rattle.rules.specs.Operand.{lent}
-use Rattle.rules.specs.RecoverStream.{Masks, masksOf, stateChecks}
-use Rattle.rows.proofs.TableLaws.{then-fine}
-use Rattle.operand.specs.Counts.{checkedOf}
+use Rattle.rules.specs.RecoverStream.{Masks, masks_of, state_checks}
+use Rattle.rows.proofs.TableLaws.{then_fine}
+use Rattle.operand.specs.Counts.{checked_of}
 use Rattle.recover.specs.declared.inner.judge.Matched.{Matched}
-use Rattle.recover.specs.Judged.{matchChecks, matchedOf, foundBy}
-use Rattle.recover.proofs.JudgeLaws.{judged, match-fine, barred-told, found-told}
-use Rattle.recoverer.proofs.OpeningLaws.{opening, state-short, opening-numbers, opening-refused, opening-passed}
+use Rattle.recover.specs.Judged.{match_checks, matched_of, found_by}
+use Rattle.recover.proofs.JudgeLaws.{judged, match_fine, barred_told, found_told}
+use Rattle.recoverer.proofs.OpeningLaws.{opening, state_short, opening_numbers, opening_refused, opening_passed}
 use Rattle.recoverer.proofs.judge.judge.Statement.{statement}
 use Rattle.recoverer.proofs.judge.judge.Tie as tie
 
@@ -43,19 +43,19 @@ module _ (c : tie.After-then) where
   abbrev masks : Masks
   masks =
       let a = s.args in
-      masksOf (lent a.s a.swords.now a.srows.now) (lent a.k a.kwords.now a.krows.now)
+      masks_of (lent a.s a.swords.now a.srows.now) (lent a.k a.kwords.now a.krows.now)
 
-  told : (matched c).judge-masks.result ≡ matchedOf masks.self masks.kept
+  told : (matched c).judge-masks.result ≡ matched_of masks.self masks.kept
   told = (matched c).judge-masks.ensures
 
-  set_told : (matched c).judge-masks.result.set ≡ (checkedOf 1 masks.self).count
+  set_told : (matched c).judge-masks.result.set ≡ (checked_of 1 masks.self).count
   set_told = ap (λ (m : Matched). m.set) told
 
-  kept-told : (matched c).judge-masks.result.kept ≡ (checkedOf 2 masks.kept).count
-  kept-told = ap (λ (m : Matched). m.kept) told
+  kept_told : (matched c).judge-masks.result.kept ≡ (checked_of 2 masks.kept).count
+  kept_told = ap (λ (m : Matched). m.kept) told
 
   opened : c.then.result ≡ opening s.args.state masks
-  opened = c.then.ensures ∙ (λ i. ifFine (c.before.judge-state.ensures i) (told i).verdict (c.before.judge-state.ensures i))
+  opened = c.then.ensures ∙ (λ i. if_fine (c.before.judge-state.ensures i) (told i).verdict (c.before.judge-state.ensures i))
 
 refuses : (c : tie.After-before2) → opening (s (barred c)).args.state (masks (barred c)) ≡ Refused c.before2.given.0.0
 refuses c = sym (opened (barred c)) ∙ c.before2.given.1
@@ -64,10 +64,10 @@ module _ (c : tie.After-enum-told) where
   fine : opening (s (passed c)).args.state (masks (passed c)) ≡ Fine
   fine = sym (opened (passed c)) ∙ c.enum_told.given.1
 
-  both-fine : (first (stateChecks (s (passed c)).args.state) ≡ Fine) × (first (matchChecks (masks (passed c)).self (masks (passed c)).kept) ≡ Fine)
-  both-fine =
+  both_fine : (first (state_checks (s (passed c)).args.state) ≡ Fine) × (first (match_checks (masks (passed c)).self (masks (passed c)).kept) ≡ Fine)
+  both_fine =
       let m = masks (passed c) in
-      then-fine (first (stateChecks (s (passed c)).args.state)) (first (matchChecks m.self m.kept)) fine
+      then_fine (first (state_checks (s (passed c)).args.state)) (first (match_checks m.self m.kept)) fine
 
 -- ---- the answers
 
@@ -90,8 +90,8 @@ judge-piece-requires : tie.Need-judge-piece-requires
 judge-piece-requires c κs =
     let p = passed c in
     let m = masks p in
-    let well = match-fine m.self m.kept (both-fine c).1 in
-    let small = state-short (s p).args.state (both-fine c).0 in
+    let well = match_fine m.self m.kept (both_fine c).1 in
+    let small = state_short (s p).args.state (both_fine c).0 in
     (well.0, well.1, well.2, set_told p ∙ well.3, small.0, small.1)
 
 returns : tie.Need-returns
@@ -100,8 +100,8 @@ returns c =
     let b = barred v in
     let m = masks b in
     let a = (s b).args in
-    ap₂ (λ (set kept : ℕ). judged (Refused v.before2.given.0.0) (record { 0 = 0 }) set kept) (set_told b) (kept-told b)
-    ∙ barred-told m.self m.kept _ v.before2.given.0.0 (opening-refused a.state m a.room _ (refuses v)) (opening-numbers a.state m _ (refuses v))
+    ap₂ (λ (set kept : ℕ). judged (Refused v.before2.given.0.0) (record { 0 = 0 }) set kept) (set_told b) (kept_told b)
+    ∙ barred_told m.self m.kept _ v.before2.given.0.0 (opening_refused a.state m a.room _ (refuses v)) (opening_numbers a.state m _ (refuses v))
 
 returns-2 : tie.Need-returns-2
 returns-2 c =
@@ -111,12 +111,12 @@ returns-2 c =
     let m = masks p in
     let a = (s p).args in
     let found = f.judge-piece.result in
-    ap₂ (λ (set kept : ℕ). judged found.verdict found.outside set kept) (set_told p) (kept-told p)
-    ∙ found-told m.self m.kept _ found
-    (f.judge-piece.ensures ∙ ap (λ (w : Verdict). foundBy w m.self m.kept) (opening-passed a.state m a.room (fine t)))
+    ap₂ (λ (set kept : ℕ). judged found.verdict found.outside set kept) (set_told p) (kept_told p)
+    ∙ found_told m.self m.kept _ found
+    (f.judge-piece.ensures ∙ ap (λ (w : Verdict). found_by w m.self m.kept) (opening_passed a.state m a.room (fine t)))
 
-pub judge-spec : {M : Type 1} → statement M
-judge-spec =
+pub judge_spec : {M : Type 1} → statement M
+judge_spec =
     tie.close
     (tie.spec
     judge-masks-requires

@@ -6,10 +6,10 @@ use native.Mathlib.Omega.{arith}
 use borrow.Author.Rules.{rules}
 use Rattle.rows.specs.declared.Verdict.{Verdict}
 use Rattle.rules.specs.Operand.{lent, length_of}
-use Rattle.rules.proofs.OperandLaws.{accepted-limit, accepted-few}
-use Rattle.rules.specs.RecoverStream.{Masks, masksOf}
-use Rattle.recover.specs.Judged.{foundBy, foundOf}
-use Rattle.recoverer.proofs.OpeningLaws.{limit-told, piece-passed}
+use Rattle.rules.proofs.OperandLaws.{accepted_limit, accepted_few}
+use Rattle.rules.specs.RecoverStream.{Masks, masks_of}
+use Rattle.recover.specs.Judged.{found_by, found_of}
+use Rattle.recoverer.proofs.OpeningLaws.{limit_told, piece_passed}
 use Rattle.recoverer.proofs.judge.judge_piece.Statement.{statement}
 use Rattle.recoverer.proofs.judge.judge_piece.Tie as tie
 
@@ -33,13 +33,13 @@ module _ (c : tie.After-struct-known) where
   abbrev masks : Masks
   masks =
       let a = s.args in
-      masksOf (lent a.s a.swords.now a.srows.now) (lent a.k a.kwords.now a.krows.now)
+      masks_of (lent a.s a.swords.now a.srows.now) (lent a.k a.kwords.now a.krows.now)
 
   long : (measured c).length-of.result ≡ length_of s.args.s
   long = (measured c).length-of.ensures
 
   short : length_of s.args.s ≤ 1048576
-  short = accepted-limit masks.self s.pre.0
+  short = accepted_limit masks.self s.pre.0
 
 -- ---- the answers
 
@@ -55,12 +55,12 @@ refuse-requires c κs = search rules
 returns : tie.Need-returns
 returns c =
     let t = c.before.before in
-    limit-told (s t).args.state (masks t) (s t).args.room _ c.refuse.ensures (omega (arith, long t))
+    limit_told (s t).args.state (masks t) (s t).args.room _ c.refuse.ensures (omega (arith, long t))
 
 add-bits : tie.Need-overflow-add-bits
 add-bits c =
     let t = c.before.before in
-    omega (arith, (s t).requires.3, (s t).requires.5, accepted-few (masks t).self (s t).requires.0)
+    omega (arith, (s t).requires.3, (s t).requires.5, accepted_few (masks t).self (s t).requires.0)
 
 judge-inside-requires : tie.Need-judge-inside-requires
 judge-inside-requires c κs =
@@ -73,11 +73,11 @@ returns-2 c =
     let t = e.before in
     let a = (s t).args in
     let m = masks t in
-    c.judge-inside.ensures ∙ ap (λ (n : ℕ). foundOf m.self m.kept (a.state.ranks.0 + n) a.room) (s t).requires.3
-    ∙ ap (λ (v : Verdict). foundBy v m.self m.kept) (piece-passed a.state m a.room (omega (arith, long t)))
+    c.judge-inside.ensures ∙ ap (λ (n : ℕ). found_of m.self m.kept (a.state.ranks.0 + n) a.room) (s t).requires.3
+    ∙ ap (λ (v : Verdict). found_by v m.self m.kept) (piece_passed a.state m a.room (omega (arith, long t)))
 
-pub judge-piece-spec : {M : Type 1} → statement M
-judge-piece-spec =
+pub judge_piece_spec : {M : Type 1} → statement M
+judge_piece_spec =
     tie.close
     (tie.spec
     length-of-requires

@@ -9,9 +9,9 @@ use Rattle.rows.specs.Rows.{count}
 use Rattle.rules.specs.declared.RecoveryState.{RecoveryState}
 use Rattle.rules.specs.Operand.{lent, rows_of}
 use Rattle.rules.specs.Answer.{accepted}
-use Rattle.rules.specs.RecoverStream.{Masks, masksOf, ranks, state_of, moved}
-use Rattle.rules.proofs.OperandLaws.{accepted-few}
-use Rattle.rules.proofs.RecoverFeeds.{Accepts, moved-bounded, self-length, self-count, ranks-length, ranks-count, feed-fine}
+use Rattle.rules.specs.RecoverStream.{Masks, masks_of, ranks, state_of, moved}
+use Rattle.rules.proofs.OperandLaws.{accepted_few}
+use Rattle.rules.proofs.RecoverFeeds.{Accepts, moved_bounded, self_length, self_count, ranks_length, ranks_count, feed_fine}
 use Rattle.recoverer.proofs.step.step.Statement.{statement}
 use Rattle.recoverer.proofs.step.step.Tie as tie
 
@@ -26,8 +26,8 @@ start c = entry c.before.before.before
 abbrev measured : tie.After-lay-recovery-arg → tie.After-length-of
 measured c = c.before.before
 
-abbrev laid-there : tie.After-slice-known2 → tie.After-lay-recovery
-laid-there c = c.before.before
+abbrev laid_there : tie.After-slice-known2 → tie.After-lay-recovery
+laid_there c = c.before.before
 
 -- ---- the pieces that are fed, and what acceptance gives
 
@@ -38,10 +38,10 @@ module _ (s : tie.Start) where
   abbrev masks : Masks
   masks =
       let a = s.args in
-      masksOf (lent a.s.form a.swords.now a.srows.now) (lent a.k.form a.kwords.now a.krows.now)
+      masks_of (lent a.s.form a.swords.now a.srows.now) (lent a.k.form a.kwords.now a.krows.now)
 
   takes : Accepts state masks (length s.args.out.now)
-  takes = (feed-fine state masks (length s.args.out.now)).0 s.pre.0
+  takes = (feed_fine state masks (length s.args.out.now)).0 s.pre.0
 
 -- ---- the numbers that are counted, in the words of the state after the masks
 
@@ -49,23 +49,23 @@ module _ (c : tie.After-length-of) where
   abbrev s : tie.Start
   s = start c
 
-  rows-counted : c.length-of.result ≡ length (rows_of (masks s).self)
-  rows-counted = c.length-of.ensures ∙ sym (self-length (masks s) (takes s).within)
+  rows_counted : c.length-of.result ≡ length (rows_of (masks s).self)
+  rows_counted = c.length-of.ensures ∙ sym (self_length (masks s) (takes s).within)
 
-  set-counted : s.args.s.count ≡ count (rows_of (masks s).self)
-  set-counted = s.pre.1 ∙ sym (self-count (masks s) (takes s).within)
+  set_counted : s.args.s.count ≡ count (rows_of (masks s).self)
+  set_counted = s.pre.1 ∙ sym (self_count (masks s) (takes s).within)
 
-  kept-counted : s.args.k.count ≡ count (ranks (masks s))
-  kept-counted = s.pre.2 ∙ sym (ranks-count (masks s) (takes s).within)
+  kept_counted : s.args.k.count ≡ count (ranks (masks s))
+  kept_counted = s.pre.2 ∙ sym (ranks_count (masks s) (takes s).within)
 
-  ranks-long : s.args.s.count ≡ length (ranks (masks s))
-  ranks-long = s.pre.1 ∙ sym (ranks-length (masks s) (takes s).within)
+  ranks_long : s.args.s.count ≡ length (ranks (masks s))
+  ranks_long = s.pre.1 ∙ sym (ranks_length (masks s) (takes s).within)
 
 moved_to : (c : tie.After-moved) → c.moved.result ≡ moved (state (s c.before)) (masks (s c.before))
 moved_to c =
     let n = c.before in
     let st = state (s n) in
-    c.moved.ensures ∙ (λ i. state_of (st.done.0 + rows-counted n i) (st.ranks.0 + set-counted n i) (st.kept + kept-counted n i))
+    c.moved.ensures ∙ (λ i. state_of (st.done.0 + rows_counted n i) (st.ranks.0 + set_counted n i) (st.kept + kept_counted n i))
 
 -- ---- the answers
 
@@ -74,31 +74,31 @@ length-of-requires c κs = search rules
 
 moved-requires : tie.Need-moved-requires
 moved-requires c κs =
-    let w = moved-bounded (state (s c)) (masks (s c)) (length (s c).args.out.now) (takes (s c)) in
-    (omega (arith, rows-counted c, w.2), omega (arith, set-counted c, w.1, w.2), omega (arith, kept-counted c, w.0, w.1, w.2))
+    let w = moved_bounded (state (s c)) (masks (s c)) (length (s c).args.out.now) (takes (s c)) in
+    (omega (arith, rows_counted c, w.2), omega (arith, set_counted c, w.1, w.2), omega (arith, kept_counted c, w.0, w.1, w.2))
 
 lay-recovery-requires : tie.Need-lay-recovery-requires
 lay-recovery-requires c κs =
     let b = s (measured c) in
     let t = takes b in
-    let few = accepted-few (masks b).self t.within.self in
+    let few = accepted_few (masks b).self t.within.self in
     (t.within, b.pre.1, (omega (arith, t.space), omega (arith, few, t.bounded)))
 
 accepted-requires : tie.Need-accepted-requires
 accepted-requires c κs =
-    let b = s (measured (laid-there c).before) in
+    let b = s (measured (laid_there c).before) in
     let w = (takes b).within in
-    (omega (arith, b.pre.2, accepted-few (masks b).kept w.kept), omega (arith, b.pre.1, accepted-few (masks b).self w.self))
+    (omega (arith, b.pre.2, accepted_few (masks b).kept w.kept), omega (arith, b.pre.1, accepted_few (masks b).self w.self))
 
 same_length : tie.Need-same-length
 same_length c = search rules
 
 returns : tie.Need-returns
 returns c =
-    let l = laid-there c.before in
+    let l = laid_there c.before in
     let k = l.before.before in
     let n = k.before in
-    let answer = c.accepted.ensures ∙ ap₂ (λ (x y : ℕ). accepted x 0 y) (kept-counted n) (ranks-long n) in
+    let answer = c.accepted.ensures ∙ ap₂ (λ (x y : ℕ). accepted x 0 y) (kept_counted n) (ranks_long n) in
     ((λ i. record { answer = answer i; outside = record { 0 = 0 }; state = moved_to k i }), l.lay-recovery.ensures)
 
 pub step_spec : {M : Type 1} → statement M

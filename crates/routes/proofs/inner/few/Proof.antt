@@ -14,5 +14,5 @@ mul-result c =
 returns : tie.Need-returns
 returns c = search rules
 
-pub few-spec : {M : Type 1} → statement M
-few-spec = tie.close (tie.spec mul-result returns)
+pub few_spec : {M : Type 1} → statement M
+few_spec = tie.close (tie.spec mul-result returns)

@@ -26,5 +26,5 @@ returns-2 c =
     let a = f.before.before.args in
     sym (passed _ _ (sym (f.few.ensures ∙ ap (ltb (a.factors.sparse * a.s.count)) f.before.length-of.ensures) ∙ c.if1.false))
 
-pub way-spec : {M : Type 1} → statement M
-way-spec = tie.close (tie.spec length-of-requires few-requires returns returns-2)
+pub way_spec : {M : Type 1} → statement M
+way_spec = tie.close (tie.spec length-of-requires few-requires returns returns-2)

@@ -47,8 +47,8 @@ returns-3 c =
     (passed _ _ (sym (f.few.ensures ∙ ap (ltb (a.factors.driven * a.r.count)) f.before.length-of.ensures) ∙ w.before.if1.false)
     ∙ passed _ _ (sym c.before.counts-as-list.ensures ∙ c.if2.false))
 
-pub words-route-spec : {M : Type 1} → statement M
-words-route-spec =
+pub words_route_spec : {M : Type 1} → statement M
+words_route_spec =
     tie.close
     (tie.spec
     length-of-requires

@@ -6,12 +6,12 @@ use mathlib.Core.Bool.{Bool}
 use mathlib.Core.List.{List, []}
 use native.Mathlib.Omega.{arith}
 use lib.ListN.{length}
-use Rattle.rows.proofs.RowLaws.{count-le-length}
+use Rattle.rows.proofs.RowLaws.{count_le_length}
 use Rattle.rules.specs.Operand.{Operand, lent, length_of, limit}
-use Rattle.rules.specs.Answer.{accepted, noRoute}
+use Rattle.rules.specs.Answer.{accepted, no_route}
 use Rattle.rules.specs.SetOps.{combination, row_of}
-use Rattle.operand.proofs.FlatLaws.{flat-limit}
-use Rattle.rowwise.proofs.WriteLaws.{result-length}
+use Rattle.operand.proofs.FlatLaws.{flat_limit}
+use Rattle.rowwise.proofs.WriteLaws.{result_length}
 use Rattle.rowwise.proofs.inner.answer.Statement.{statement}
 use Rattle.rowwise.proofs.inner.answer.Tie as tie
 use borrow.Author.Rules.{rules}
@@ -30,20 +30,20 @@ wrote c = c.before.before.before
 -- ---- the operands, and the rows of the result
 
 module _ (s : tie.Start) where
-  abbrev first-operand : Operand
-  first-operand = lent s.args.a s.args.awords.now []
+  abbrev first_operand : Operand
+  first_operand = lent s.args.a s.args.awords.now []
 
-  abbrev second-operand : Operand
-  second-operand = lent s.args.b s.args.bwords.now []
+  abbrev second_operand : Operand
+  second_operand = lent s.args.b s.args.bwords.now []
 
   abbrev rows : List Bool
-  rows = combination (row_of s.args.op) first-operand second-operand
+  rows = combination (row_of s.args.op) first_operand second_operand
 
   long : length rows ≡ length_of s.args.a
-  long = result-length _ first-operand second-operand s.pre.0
+  long = result_length _ first_operand second_operand s.pre.0
 
   limited : length_of s.args.a ≤ limit
-  limited = flat-limit first-operand s.pre.0.0
+  limited = flat_limit first_operand s.pre.0.0
 
 -- ---- the answers
 
@@ -56,7 +56,7 @@ length-of-requires c κs = search rules
 accepted-requires : tie.Need-accepted-requires
 accepted-requires c κs =
     let s = start (wrote c) in
-    (omega (arith, (wrote c).write.ensures.0, count-le-length (rows s), long s, limited s), omega (arith, c.length-of.ensures, limited s))
+    (omega (arith, (wrote c).write.ensures.0, count_le_length (rows s), long s, limited s), omega (arith, c.length-of.ensures, limited s))
 
 same_length : tie.Need-same-length
 same_length c = search rules
@@ -65,12 +65,12 @@ returns : tie.Need-returns
 returns c =
     let w = wrote c.before in (
       c.accepted.ensures
-          ∙ ap₂ (λ (n len : ℕ). accepted n noRoute len) w.write.ensures.0 (c.before.length-of.ensures ∙ sym (long (start w))),
+          ∙ ap₂ (λ (n len : ℕ). accepted n no_route len) w.write.ensures.0 (c.before.length-of.ensures ∙ sym (long (start w))),
       w.write.ensures.1,
     )
 
-pub answer-spec : {M : Type 1} → statement M
-answer-spec =
+pub answer_spec : {M : Type 1} → statement M
+answer_spec =
     tie.close
     (tie.spec
     write-requires

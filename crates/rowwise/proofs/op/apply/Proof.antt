@@ -5,7 +5,7 @@ use mathlib.Core.Path.{◌≡◌, sym, ap, ◌∙◌}
 use Rattle.rows.specs.Word.{bits_of, word_of, both}
 use Rattle.rules.specs.declared.Operation.{Operation}
 use Rattle.rules.specs.SetOps.{row_of}
-use Rattle.rowwise.proofs.OpLaws.{and_word, or_word, and-not-word, not-word}
+use Rattle.rowwise.proofs.OpLaws.{and_word, or_word, and_not_word, not_word}
 use borrow.Author.Rules.{rules}
 use Rattle.rowwise.proofs.op.apply.Statement.{statement}
 use Rattle.rowwise.proofs.op.apply.Tie as tie
@@ -38,14 +38,14 @@ returns-2 c =
 returns-3 : tie.Need-returns-3
 returns-3 c =
     let s = c.before.before in
-    and-not-word 64 s.args.x s.args.y s.ranges.x.fits s.ranges.y.fits ∙ sym (told s.args.x s.args.y c.enum-told3.given.1)
+    and_not_word 64 s.args.x s.args.y s.ranges.x.fits s.ranges.y.fits ∙ sym (told s.args.x s.args.y c.enum-told3.given.1)
 
 returns-4 : tie.Need-returns-4
 returns-4 c =
     let s = c.before.before in
-    not-word 64 s.args.x s.args.y s.ranges.x.fits s.ranges.y.fits ∙ sym (told s.args.x s.args.y c.enum-told4.given.1)
+    not_word 64 s.args.x s.args.y s.ranges.x.fits s.ranges.y.fits ∙ sym (told s.args.x s.args.y c.enum-told4.given.1)
 
-pub apply-spec : {M : Type 1} → statement M
-apply-spec =
+pub apply_spec : {M : Type 1} → statement M
+apply_spec =
     tie.close
     (tie.spec enum_told enum-told-2 enum-told-3 enum-told-4 returns returns-2 returns-3 returns-4)

@@ -6,21 +6,21 @@ use mathlib.Core.List.{[]}
 use native.Mathlib.Omega.{arith}
 use lib.Bits.{bit_and}
 use Rattle.rows.specs.Word.{bits_of, word_of, both}
-use Rattle.rows.proofs.BothLaws.{both-part}
+use Rattle.rows.proofs.BothLaws.{both_part}
 use Rattle.rules.specs.Operand.{Operand, lent, rows_of}
 use Rattle.rules.specs.SetOps.{row_of}
-use Rattle.operand.proofs.FlatLaws.{flat-length}
-use Rattle.rows.proofs.ChunkLaws.{chunk-bits}
+use Rattle.operand.proofs.FlatLaws.{flat_length}
+use Rattle.rows.proofs.ChunkLaws.{chunk_bits}
 use Rattle.rowwise.proofs.OpLaws.{cut_word}
 use Rattle.rowwise.proofs.op.chunk.Statement.{statement}
 use Rattle.rowwise.proofs.op.chunk.Tie as tie
 use borrow.Author.Rules.{rules}
 
-abbrev first-operand : tie.Start → Operand
-first-operand s = lent s.args.a s.args.awords.now []
+abbrev first_operand : tie.Start → Operand
+first_operand s = lent s.args.a s.args.awords.now []
 
-abbrev second-operand : tie.Start → Operand
-second-operand s = lent s.args.b s.args.bwords.now []
+abbrev second_operand : tie.Start → Operand
+second_operand s = lent s.args.b s.args.bwords.now []
 
 chunk-of-requires : tie.Need-chunk-of-requires
 chunk-of-requires c κs = search rules
@@ -40,16 +40,16 @@ returns c =
     let g = row_of s.args.op in
     let n : ℕ = s.args.n in
     let row : ℕ = s.args.row in
-    let xs = rows_of (first-operand s) in
-    let ys = rows_of (second-operand s) in
+    let xs = rows_of (first_operand s) in
+    let ys = rows_of (second_operand s) in
     let x : ℕ = c.before.before.before.Chunk-of.result in
     let y : ℕ = c.before.before.chunk-of2.result in
-    let ex = ap (bits_of n) c.before.before.before.Chunk-of.ensures ∙ chunk-bits row n xs (omega (arith, flat-length (first-operand s) s.requires.0.0, s.requires.2)) in
-    let ey = ap (bits_of n) c.before.before.chunk-of2.ensures ∙ chunk-bits row n ys (omega (arith, flat-length (second-operand s) s.requires.0.1, s.requires.0.2, s.requires.2)) in
+    let ex = ap (bits_of n) c.before.before.before.Chunk-of.ensures ∙ chunk_bits row n xs (omega (arith, flat_length (first_operand s) s.requires.0.0, s.requires.2)) in
+    let ey = ap (bits_of n) c.before.before.chunk-of2.ensures ∙ chunk_bits row n ys (omega (arith, flat_length (second_operand s) s.requires.0.1, s.requires.0.2, s.requires.2)) in
     ap₂ bit_and c.before.apply.ensures c.ones.ensures
     ∙ cut_word g 64 n x y s.requires.1.1
-    ∙ ap word_of (ap₂ (both g) ex ey ∙ sym (both-part g row n xs ys))
+    ∙ ap word_of (ap₂ (both g) ex ey ∙ sym (both_part g row n xs ys))
 
-pub chunk-spec : {M : Type 1} → statement M
-chunk-spec =
+pub chunk_spec : {M : Type 1} → statement M
+chunk_spec =
     tie.close (tie.spec chunk-of-requires chunk-of-requires-2 apply-requires ones-requires returns)

@@ -5,12 +5,12 @@ use mathlib.Core.Path.{◌≡◌, ap, ◌∙◌}
 use mathlib.Core.Bool.{Bool}
 use mathlib.Core.List.{List, []}
 use native.Mathlib.Omega.{arith}
-use Rattle.rows.specs.Laid.{laid, lastCleared, written}
+use Rattle.rows.specs.Laid.{laid, last_cleared, written}
 use Rattle.rows.proofs.LaidLaws.{below_all}
-use Rattle.rows.proofs.WrittenLaws.{laid-written}
+use Rattle.rows.proofs.WrittenLaws.{laid_written}
 use Rattle.rules.specs.Operand.{Operand, lent, length_of}
 use Rattle.rules.specs.SetOps.{combination, row_of}
-use Rattle.rowwise.proofs.WriteLaws.{result-length}
+use Rattle.rowwise.proofs.WriteLaws.{result_length}
 use borrow.Author.Rules.{rules}
 use Rattle.rowwise.proofs.write.write.Statement.{statement}
 use Rattle.rowwise.proofs.write.write.Tie as tie
@@ -35,17 +35,17 @@ wrote c = c.before.before
 -- ---- the operands, the output and the rows of the result
 
 module _ (s : tie.Start) where
-  abbrev first-operand : Operand
-  first-operand = lent s.args.a s.args.awords.now []
+  abbrev first_operand : Operand
+  first_operand = lent s.args.a s.args.awords.now []
 
-  abbrev second-operand : Operand
-  second-operand = lent s.args.b s.args.bwords.now []
+  abbrev second_operand : Operand
+  second_operand = lent s.args.b s.args.bwords.now []
 
   abbrev out : List ℕ
   out = s.args.out.now
 
   abbrev rows : List Bool
-  rows = combination (row_of s.args.op) first-operand second-operand
+  rows = combination (row_of s.args.op) first_operand second_operand
 
   abbrev len : ℕ
   len = length_of s.args.a
@@ -55,12 +55,12 @@ module _ (c : tie.After-clear-last) where
   abbrev s : tie.Start
   s = start (measured c)
 
-  laid-there : laid 0 (rows s) c.clear-last.new.0 ≡ written (len s) (rows s) (out s)
-  laid-there =
+  laid_there : laid 0 (rows s) c.clear-last.new.0 ≡ written (len s) (rows s) (out s)
+  laid_there =
       let small = below_all (2 ^ 64) (out s) (λ i. ((measured c).before.slice-known.given i).fits) in
-      let long = result-length _ (first-operand s) (second-operand s) s.pre.0 in
-      ap (laid 0 (rows s)) (c.clear-last.ensures ∙ ap (λ (n : ℕ). lastCleared n (out s)) (measured c).length-of.ensures)
-      ∙ laid-written (len s) (rows s) (out s) small long s.pre.1
+      let long = result_length _ (first_operand s) (second_operand s) s.pre.0 in
+      ap (laid 0 (rows s)) (c.clear-last.ensures ∙ ap (λ (n : ℕ). last_cleared n (out s)) (measured c).length-of.ensures)
+      ∙ laid_written (len s) (rows s) (out s) small long s.pre.1
 
 -- ---- the answers
 
@@ -79,7 +79,7 @@ same_length c = search rules
 returns : tie.Need-returns
 returns c =
     let w = wrote c in
-    (w.write-rows.ensures.0, w.write-rows.ensures.1 ∙ laid-there (cleared w.before))
+    (w.write-rows.ensures.0, w.write-rows.ensures.1 ∙ laid_there (cleared w.before))
 
 pub write_spec : {M : Type 1} → statement M
 write_spec =

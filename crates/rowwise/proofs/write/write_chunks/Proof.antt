@@ -11,11 +11,11 @@ use lib.Seq.{take_all}
 use Rattle.rows.specs.Rows.{count}
 use Rattle.rows.specs.Word.{bits_of}
 use Rattle.rows.specs.Laid.{laid}
-use Rattle.rows.proofs.LaidLaws.{below_all, laid_nil, laid-length}
+use Rattle.rows.proofs.LaidLaws.{below_all, laid_nil, laid_length}
 use Rattle.rules.specs.Operand.{Operand, lent, length_of, limit}
 use Rattle.rules.specs.SetOps.{combination, row_of}
-use Rattle.operand.proofs.FlatLaws.{flat-limit}
-use Rattle.rowwise.proofs.WriteLaws.{result-length, turn-few, turn-count, turn-laid}
+use Rattle.operand.proofs.FlatLaws.{flat_limit}
+use Rattle.rowwise.proofs.WriteLaws.{result_length, turn_few, turn_count, turn_laid}
 use Rattle.rowwise.proofs.write.write_chunks.Statement.{statement}
 use Rattle.rowwise.proofs.write.write_chunks.Tie as tie
 use borrow.Author.Rules.{rules}
@@ -46,32 +46,32 @@ turn c = head c.before
 abbrev made : tie.After-put invariant-loop decreases-loop → tie.After-chunk invariant-loop decreases-loop
 made c = c.before.before
 
-abbrev laid-there : tie.After-slice-known2 invariant-loop decreases-loop → tie.After-put invariant-loop decreases-loop
-laid-there c = c.before.before
+abbrev laid_there : tie.After-slice-known2 invariant-loop decreases-loop → tie.After-put invariant-loop decreases-loop
+laid_there c = c.before.before
 
 abbrev ended : tie.After-slice-known2 invariant-loop decreases-loop → tie.After-chunk invariant-loop decreases-loop
-ended c = made (laid-there c)
+ended c = made (laid_there c)
 
 -- ---- the operands, the output and the rows of the result
 
 module _ (s : tie.Start invariant-loop decreases-loop) where
-  abbrev first-operand : Operand
-  first-operand = lent s.args.a s.args.awords.now []
+  abbrev first_operand : Operand
+  first_operand = lent s.args.a s.args.awords.now []
 
-  abbrev second-operand : Operand
-  second-operand = lent s.args.b s.args.bwords.now []
+  abbrev second_operand : Operand
+  second_operand = lent s.args.b s.args.bwords.now []
 
   abbrev out : List ℕ
   out = s.args.out.now
 
   abbrev rows : List Bool
-  rows = combination (row_of s.args.op) first-operand second-operand
+  rows = combination (row_of s.args.op) first_operand second_operand
 
   long : length rows ≡ length_of s.args.a
-  long = result-length _ first-operand second-operand s.pre.0
+  long = result_length _ first_operand second_operand s.pre.0
 
   limited : length_of s.args.a ≤ limit
-  limited = flat-limit first-operand s.pre.0.0
+  limited = flat_limit first_operand s.pre.0.0
 
 -- ---- a turn: the row that it starts at, its rows, and what is known of them
 
@@ -83,7 +83,7 @@ module _ (c : tie.After-chunk invariant-loop decreases-loop) where
   n = c.before.chunk-len.result
 
   few : ones c.chunk.result ≤ n
-  few = turn-few row n (rows (start (turn c))) c.chunk.result c.chunk.ensures
+  few = turn_few row n (rows (start (turn c))) c.chunk.result c.chunk.ensures
 
   room : row + n ≤ length (rows (start (turn c)))
   room = omega (arith, long (start (turn c)), (turn c).loop.invariant.1, c.before.chunk-len.ensures)
@@ -95,7 +95,7 @@ laid_on c =
     let s = start (turn m) in
     c.put.ensures
     ∙ ap₂ (λ (x : ℕ) (o : List ℕ). laid (row m) (bits_of (n m) x) o) m.chunk.ensures (turn m).loop.inv.5
-    ∙ turn-laid (row m) (n m) (rows s) (out s) (room m)
+    ∙ turn_laid (row m) (n m) (rows s) (out s) (room m)
 
 -- ---- the answers
 
@@ -142,10 +142,10 @@ loop-again c =
     let s = start (turn t) in (
       omega arith,
       l.inv.1,
-      ap length (laid_on (laid-there c)) ∙ laid-length 64 0 (take (row t + n t) (rows s)) (out s),
+      ap length (laid_on (laid_there c)) ∙ laid_length 64 0 (take (row t + n t) (rows s)) (out s),
       omega (arith, few t),
-      ap₂ (λ (x y : ℕ). x + ones y) l.inv.4 t.chunk.ensures ∙ turn-count (row t) (n t) (rows s),
-      laid_on (laid-there c),
+      ap₂ (λ (x y : ℕ). x + ones y) l.inv.4 t.chunk.ensures ∙ turn_count (row t) (n t) (rows s),
+      laid_on (laid_there c),
     )
 
 same_length : tie.Need-same-length invariant-loop decreases-loop
@@ -158,8 +158,8 @@ returns c =
     let all : take l.row (rows s) ≡ rows s = take_all l.row (rows s) (omega (arith, long s, l.invariant.1)) in
     (l.invariant.4 ∙ ap count all, l.invariant.5 ∙ ap (λ (z : List Bool). laid 0 z (out s)) all)
 
-pub write-chunks-spec : {M : Type 1} → statement M
-write-chunks-spec =
+pub write_chunks_spec : {M : Type 1} → statement M
+write_chunks_spec =
     tie.close
     (tie.spec
     invariant-loop

@@ -13,12 +13,12 @@ use Rattle.rows.specs.Word.{bits_of, both}
 use Rattle.rows.specs.Words.{view}
 use Rattle.rows.specs.Laid.{laid}
 use Rattle.rows.specs.Asks.{InView}
-use Rattle.rows.proofs.RowLaws.{count-take-le}
+use Rattle.rows.proofs.RowLaws.{count_take_le}
 use Rattle.rules.specs.declared.Form.{Form}
 use Rattle.rules.specs.SetOps.{combination, row_of}
 use Rattle.rules.specs.Operand.{lent, length_of}
 use Rattle.operand.specs.Flat.{Abreast}
-use Rattle.rowwise.proofs.WriteLaws.{result-length, turn-few, turn-count, turn-laid, whole_part}
+use Rattle.rowwise.proofs.WriteLaws.{result_length, turn_few, turn_count, turn_laid, whole_part}
 use borrow.Author.Rules.{rules}
 use Rattle.rowwise.proofs.write.write_rows.Statement.{statement}
 use Rattle.rowwise.proofs.write.write_rows.Tie as tie
@@ -107,12 +107,12 @@ module _ (c : tie.After-b) where
   long : length rows ≡ len
   long =
       ap length (sym result)
-      ∙ result-length g (lent s.args.a aws []) (lent s.args.b bws []) s.pre.0
+      ∙ result_length g (lent s.args.a aws []) (lent s.args.b bws []) s.pre.0
       ∙ ap length_of (first-told c).a.given.1
 
   -- the rows of the whole words are the first of them
-  whole-rows : both g (view astart (len / 64 * 64) aws) (view bstart (len / 64 * 64) bws) ≡ take (len / 64 * 64) rows
-  whole-rows = whole_part g (len / 64 * 64) len more astart bstart aws bws (omega arith) required.0.2
+  whole_rows : both g (view astart (len / 64 * 64) aws) (view bstart (len / 64 * 64) bws) ≡ take (len / 64 * 64) rows
+  whole_rows = whole_part g (len / 64 * 64) len more astart bstart aws bws (omega arith) required.0.2
 
 -- ---- the chunk of rows after them
 
@@ -130,13 +130,13 @@ module _ (c : tie.After-chunk) where
   some = omega (arith, c.before.if1.false)
 
   few : ones c.chunk.result ≤ n
-  few = turn-few row n (rows here) c.chunk.result c.chunk.ensures
+  few = turn_few row n (rows here) c.chunk.result c.chunk.ensures
 
   -- the rows before it
-  before-it : both (g here) (view (astart here) (len here / 64 * 64) (aws here)) (view (bstart here) (len here / 64 * 64) (bws here)) ≡ take row (rows here)
-  before-it =
+  before_it : both (g here) (view (astart here) (len here / 64 * 64) (aws here)) (view (bstart here) (len here / 64 * 64) (bws here)) ≡ take row (rows here)
+  before_it =
       let place : len here / 64 * 64 ≡ row = omega arith in
-      whole-rows here ∙ ap (λ (k : ℕ). take k (rows here)) place
+      whole_rows here ∙ ap (λ (k : ℕ). take k (rows here)) place
 
   all : take (row + n) (rows here) ≡ combination (g here) (lent (s here).args.a (aws here) []) (lent (s here).args.b (bws here) [])
   all = take_all (row + n) (rows here) (omega (arith, long here)) ∙ sym (result here)
@@ -183,7 +183,7 @@ returns-3 : tie.Need-returns-3
 returns-3 c =
     let w = whole c.before in
     let t = told w.before in
-    let all = whole-rows t ∙ take_all (len t / 64 * 64) (rows t) (omega (arith, long t, c.if1.true)) ∙ sym (result t) in
+    let all = whole_rows t ∙ take_all (len t / 64 * 64) (rows t) (omega (arith, long t, c.if1.true)) ∙ sym (result t) in
     (w.write-whole.ensures.0 ∙ ap count all, w.write-whole.ensures.1 ∙ ap (λ (z : List Bool). laid 0 z (out t)) all)
 
 sub-chunk : tie.Need-overflow-sub-chunk
@@ -205,8 +205,8 @@ add-result : tie.Need-overflow-add-result
 add-result c =
     let m = made (put c) in
     let t = here m in
-    let w = (whole (rest m)).write-whole.ensures.0 ∙ ap count (whole-rows t) in
-    omega (arith, (required t).0.0.0, w, count-take-le (len t / 64 * 64) (rows t), few m)
+    let w = (whole (rest m)).write-whole.ensures.0 ∙ ap count (whole_rows t) in
+    omega (arith, (required t).0.0.0, w, count_take_le (len t / 64 * 64) (rows t), few m)
 
 same-length-4 : tie.Need-same-length-4
 same-length-4 c = search rules
@@ -217,17 +217,17 @@ returns-4 c =
     let t = here m in
     let e = (whole (rest m)).write-whole.ensures in
     let is = m.chunk.ensures in (
-      ap₂ (λ (x y : ℕ). x + ones y) (e.0 ∙ ap count (before-it m)) is
-          ∙ turn-count (row m) (n m) (rows t)
+      ap₂ (λ (x y : ℕ). x + ones y) (e.0 ∙ ap count (before_it m)) is
+          ∙ turn_count (row m) (n m) (rows t)
           ∙ ap count (all m),
       (put c).put.ensures
-          ∙ ap₂ (λ (x : ℕ) (o : List ℕ). laid (row m) (bits_of (n m) x) o) is (e.1 ∙ ap (λ (z : List Bool). laid 0 z (out t)) (before-it m))
-          ∙ turn-laid (row m) (n m) (rows t) (out t) (omega (arith, long t))
+          ∙ ap₂ (λ (x : ℕ) (o : List ℕ). laid (row m) (bits_of (n m) x) o) is (e.1 ∙ ap (λ (z : List Bool). laid 0 z (out t)) (before_it m))
+          ∙ turn_laid (row m) (n m) (rows t) (out t) (omega (arith, long t))
           ∙ ap (λ (z : List Bool). laid 0 z (out t)) (all m),
     )
 
-pub write-rows-spec : {M : Type 1} → statement M
-write-rows-spec =
+pub write_rows_spec : {M : Type 1} → statement M
+write_rows_spec =
     tie.close
     (tie.spec
     enum-known-a

@@ -14,7 +14,7 @@ use Rattle.rows.specs.Words.{Below, view}
 use Rattle.rows.specs.Laid.{laid}
 use Rattle.rows.proofs.LaidLaws.{below_all, below_set, laid_nil, laid_word}
 use Rattle.rules.specs.SetOps.{row_of}
-use Rattle.rowwise.proofs.WriteLaws.{turn-few, turn-count, turn-laid, whole_length, whole_word}
+use Rattle.rowwise.proofs.WriteLaws.{turn_few, turn_count, turn_laid, whole_length, whole_word}
 use borrow.Author.Rules.{rules}
 use Rattle.rowwise.proofs.write.write_whole.Statement.{statement}
 use Rattle.rowwise.proofs.write.write_whole.Tie as tie
@@ -81,7 +81,7 @@ module _ (c : tie.After-apply invariant-loop decreases-loop) where
       ∙ chunk _ _ (omega arith) (read c).before.whole_word.ensures (read c).whole-word2.ensures
 
   few : ones bits ≤ 64
-  few = turn-few (i * 64) 64 (rows (start (turn c))) bits bits_are
+  few = turn_few (i * 64) 64 (rows (start (turn c))) bits bits_are
 
 -- ---- the answers
 
@@ -129,11 +129,11 @@ loop-again c =
       length-set l.out l.i (bits c) ∙ l.inv.2,
       below_set (2 ^ 64) l.out l.i (bits c) small l.inv.3,
       ap₂ (λ (x y : ℕ). x + ones y) l.inv.4 (bits_are c)
-          ∙ turn-count (l.i * 64) 64 (rows s)
+          ∙ turn_count (l.i * 64) 64 (rows s)
           ∙ ap (λ (k : ℕ). count (take k (rows s))) next,
       laid_word 64 l.i (bits c) l.out small l.inv.3
           ∙ ap₂ (λ (x : ℕ) (o : List ℕ). laid (l.i * 64) (bits_of 64 x) o) (bits_are c) l.inv.5
-          ∙ turn-laid (l.i * 64) 64 (rows s) (out s) room
+          ∙ turn_laid (l.i * 64) 64 (rows s) (out s) room
           ∙ ap (λ (k : ℕ). laid 0 (take k (rows s)) (out s)) next,
     )
 
@@ -147,8 +147,8 @@ returns c =
     let all : take (l.i * 64) (rows s) ≡ rows s = take_all (l.i * 64) (rows s) (omega (arith, long s)) in
     (l.invariant.4 ∙ ap count all, l.invariant.5 ∙ ap (λ (z : List Bool). laid 0 z (out s)) all)
 
-pub write-whole-spec : {M : Type 1} → statement M
-write-whole-spec =
+pub write_whole_spec : {M : Type 1} → statement M
+write_whole_spec =
     tie.close
     (tie.spec
     invariant-loop

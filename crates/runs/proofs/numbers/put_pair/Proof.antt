@@ -8,8 +8,8 @@ use lib.ListN.{length, length-set}
 use borrow.Author.Rules.{rules}
 use Rattle.runs.specs.declared.numbers.Writing.{Writing}
 use Rattle.runs.specs.declared.numbers.Writing.TheVariants.{At}
-use Rattle.runs.specs.Numbered.{movedBy, spliced, HasRoom}
-use Rattle.runs.proofs.NumbersLaws.{pair-stored}
+use Rattle.runs.specs.Numbered.{moved_by, spliced, HasRoom}
+use Rattle.runs.proofs.NumbersLaws.{pair_stored}
 use Rattle.runs.proofs.numbers.put_pair.Statement.{statement}
 use Rattle.runs.proofs.numbers.put_pair.Tie as tie
 
@@ -61,18 +61,18 @@ returns : tie.Need-returns
 returns c =
     let a = (start c).args in
     let e = sym (at c) in (
-      ap (movedBy 1) e,
-      pair-stored a.out.now (k c) a.first a.past ∙ ap (λ (w : Writing). spliced w (a.first ∷ a.past ∷ []) a.out.now) e,
+      ap (moved_by 1) e,
+      pair_stored a.out.now (k c) a.first a.past ∙ ap (λ (w : Writing). spliced w (a.first ∷ a.past ∷ []) a.out.now) e,
     )
 
 returns-2 : tie.Need-returns-2
 returns-2 c =
     let a = c.before.before.before.args in
     let e = sym c.before.writing2.given.1 in
-    (ap (movedBy 1) e, ap (λ (w : Writing). spliced w (a.first ∷ a.past ∷ []) a.out.now) e)
+    (ap (moved_by 1) e, ap (λ (w : Writing). spliced w (a.first ∷ a.past ∷ []) a.out.now) e)
 
-pub put-pair-spec : {M : Type 1} → statement M
-put-pair-spec =
+pub put_pair_spec : {M : Type 1} → statement M
+put_pair_spec =
     tie.close
     (tie.spec
     enum-known-writing

@@ -2,12 +2,12 @@
 -- By the laws of one pair and the rest. Assumes nothing.
 use contract.Running.{tables_of}
 use Rattle.runs.proofs.Kit.{ℕ, [], ◌∷◌, length, w32, ty_int, tables, u32, triple_of, entered, cited}
-use Rattle.rules.specs.Records.{numbersOf}
+use Rattle.rules.specs.Records.{numbers_of}
 use Rattle.runs.specs.declared.numbers.Writing.{Writing}
-use Rattle.runs.specs.Numbered.{movedBy, spliced, HasRoom}
-use Rattle.runs.proofs.NumbersLaws.{pair-next, none-spliced, none-moved, next-moved, next-room}
+use Rattle.runs.specs.Numbered.{moved_by, spliced, HasRoom}
+use Rattle.runs.proofs.NumbersLaws.{pair_next, none_spliced, none_moved, next_moved, next_room}
 use Rattle.runs.proofs.Values.{writing}
-use Rattle.runs.proofs.Each.{Stepping, Step, each-meets}
+use Rattle.runs.proofs.Each.{Stepping, Step, each_meets}
 use Rattle.runs.specs.contracts.numbers.Writing as N
 use Rattle.runs.proofs.numbers.put_pair.Symbol as step-def
 use Rattle.runs.proofs.numbers.put_pair.Symbol.{name as #put-pair}
@@ -20,23 +20,23 @@ use Rattle.runs.proofs.numbers.write_numbers.Code as code
 abbrev steps : Stepping Writing ℕ
 steps = record {
   Asks = λ w first past out. HasRoom w 1 out;
-  job = λ w first past out. movedBy 1 w;
+  job = λ w first past out. moved_by 1 w;
   out = λ w first past out. spliced w (first ∷ past ∷ []) out;
   Ready = λ rs w out. HasRoom w (length rs) out;
-  jobs = λ rs w out. movedBy (length rs) w;
-  outs = λ rs w out. spliced w (numbersOf rs) out;
-  ready = λ r rs w out h. next-room (length rs) r.first r.past w out h;
-  jobs-nil = λ w out. none-moved w;
-  jobs-cons = λ r rs w out. next-moved (length rs) w;
-  outs-nil = λ w out. none-spliced w out;
-  outs-cons = λ r rs w out. pair-next w r.first r.past (numbersOf rs) out;
+  jobs = λ rs w out. moved_by (length rs) w;
+  outs = λ rs w out. spliced w (numbers_of rs) out;
+  ready = λ r rs w out h. next_room (length rs) r.first r.past w out h;
+  jobs_nil = λ w out. none_moved w;
+  jobs_cons = λ r rs w out. next_moved (length rs) w;
+  outs_nil = λ w out. none_spliced w out;
+  outs_cons = λ r rs w out. pair_next w r.first r.past (numbers_of rs) out;
 }
 
-pub write-numbers-spec : {M : Type 1} → stated.statement M
+pub write_numbers_spec : {M : Type 1} → stated.statement M
 unfolding code.routine tables_of
-write-numbers-spec 𝓤 𝓛 𝓜 𝓡 =
+write_numbers_spec 𝓤 𝓛 𝓜 𝓡 =
     let 𝓣 = tables 𝓤 𝓛.H 𝓜 𝓡 code.env in
     entered 𝓤 𝓛.H (triple_of 𝓛 f.signature (f.spec 𝓛 𝓜.mem 𝓡.run)) 𝓣.C 𝓣.Λ #write-numbers code.function (code.unfolded 𝓤 𝓛.H 𝓜 𝓡)
-    (each-meets N.the_row u32 tt writing (ty_int w32) steps 𝓛 #put-pair (tables_of 𝓤 𝓛.H 𝓜 𝓣)
+    (each_meets N.the_row u32 tt writing (ty_int w32) steps 𝓛 #put-pair (tables_of 𝓤 𝓛.H 𝓜 𝓣)
     (cited 𝓤 𝓛.H (Step N.the_row u32 tt writing (ty_int w32) steps 𝓛) 𝓜 𝓡 code.env #put-pair step-def.routine code.calls-runs::numbers::put-pair
     (step_thm.met 𝓤 𝓛 𝓜 𝓡)))

@@ -6,14 +6,14 @@ use Rattle.runs.specs.declared.plan.Plan.{Plan}
 use Rattle.runs.proofs.plan.no_plan.Statement.{statement}
 use Rattle.runs.proofs.plan.no_plan.Tie as tie
 
-abbrev withNone : Written → Plan
-withNone w = record { runs = 0; written = w }
+abbrev with_none : Written → Plan
+with_none w = record { runs = 0; written = w }
 
 no-runs-requires : tie.Need-no-runs-requires
 no-runs-requires c κs = search rules
 
 returns : tie.Need-returns
-returns c = ap withNone c.no-runs.ensures
+returns c = ap with_none c.no_runs_lem.ensures
 
-pub no-plan-spec : {M : Type 1} → statement M
-no-plan-spec = tie.close (tie.spec no-runs-requires returns)
+pub no_plan_spec : {M : Type 1} → statement M
+no_plan_spec = tie.close (tie.spec no-runs-requires returns)

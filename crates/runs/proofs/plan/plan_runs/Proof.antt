@@ -6,16 +6,16 @@ use native.Mathlib.Omega.{arith}
 use borrow.Author.Rules.{rules}
 use Rattle.rows.specs.declared.Verdict.{Verdict}
 use Rattle.rows.specs.declared.Verdict.TheVariants.{Fine, Refused}
-use Rattle.rows.specs.Table.{first, ifFine}
-use Rattle.rows.proofs.TableLaws.{fine-exactly}
+use Rattle.rows.specs.Table.{first, if_fine}
+use Rattle.rows.proofs.TableLaws.{fine_exactly}
 use Rattle.rules.specs.declared.Answer.{Answer}
-use Rattle.rules.specs.Operand.{Operand, lent, rows_of, length_of, count_of, operandChecks, Accepted}
-use Rattle.rules.specs.Answer.{accepted, answered, noRoute}
-use Rattle.rules.proofs.OperandLaws.{accepted-as, accepted-limit, accepted-few}
-use Rattle.rules.proofs.AnswerLaws.{own-answer}
+use Rattle.rules.specs.Operand.{Operand, lent, rows_of, length_of, count_of, operand_checks, Accepted}
+use Rattle.rules.specs.Answer.{accepted, answered, no_route}
+use Rattle.rules.proofs.OperandLaws.{accepted_as, accepted_limit, accepted_few}
+use Rattle.rules.proofs.AnswerLaws.{own_answer}
 use Rattle.operand.specs.declared.inner.counts.Checked.{Checked}
 use Rattle.runs.specs.declared.plan.Plan.{Plan}
-use Rattle.runs.specs.Planned.{planBy}
+use Rattle.runs.specs.Planned.{plan_by}
 use Rattle.runs.proofs.plan.plan_runs.Statement.{statement}
 use Rattle.runs.proofs.plan.plan_runs.Tie as tie
 
@@ -40,7 +40,7 @@ module _ (c : tie.Start) where
   operand = lent c.args.form c.args.words.now c.args.rows.now
 
   abbrev verdict : Verdict
-  verdict = first (operandChecks 1 operand)
+  verdict = first (operand_checks 1 operand)
 
 refuses : (c : tie.After-verdict) → verdict (start (barred c)) ≡ Refused c.verdict.given.0.0
 refuses c = sym (ap (λ (d : Checked). d.verdict) (barred c).check.ensures) ∙ c.verdict.given.1
@@ -53,10 +53,10 @@ module _ (c : tie.After-enum-told) where
   fine = sym (ap (λ (d : Checked). d.verdict) (passed c).check.ensures) ∙ c.enum_told.given.1
 
   well : Accepted o
-  well = (accepted-as 1 o).0 ((fine-exactly (operandChecks 1 o)).0 fine)
+  well = (accepted_as 1 o).0 ((fine_exactly (operand_checks 1 o)).0 fine)
 
   counted : (passed c).check.result.count ≡ count_of o
-  counted = ap (λ (d : Checked). d.count) (passed c).check.ensures ∙ ap (λ (v : Verdict). ifFine v (count_of o) 0) fine
+  counted = ap (λ (d : Checked). d.count) (passed c).check.ensures ∙ ap (λ (v : Verdict). if_fine v (count_of o) 0) fine
 
 -- ---- the answers
 
@@ -73,13 +73,13 @@ enum_told : tie.Need-enum-told
 enum_told c = search rules
 
 own-answer-requires : tie.Need-own-answer-requires
-own-answer-requires c κs = (omega (arith, counted c, accepted-few (o c) (well c)), accepted-limit (o c) (well c))
+own-answer-requires c κs = (omega (arith, counted c, accepted_few (o c) (well c)), accepted_limit (o c) (well c))
 
 count-runs-requires : tie.Need-count-runs-requires
 count-runs-requires c κs = well c.before
 
 returns : tie.Need-returns
-returns c = c.no-plan.ensures ∙ ap (λ (v : Verdict). planBy v (operand (start (barred (told c))))) (sym (refuses (told c)))
+returns c = c.no-plan.ensures ∙ ap (λ (v : Verdict). plan_by v (operand (start (barred (told c))))) (sym (refuses (told c)))
 
 abbrev with : Answer → ℕ → Plan
 with a numbers = record { runs = numbers / 2; written = record { answer = a; runs = numbers / 2 } }
@@ -88,12 +88,12 @@ returns-2 : tie.Need-returns-2
 returns-2 c =
     let t = c.before.before in
     let form = (start (passed t)).args.form in
-    let own : c.before.own-answer.result ≡ answered Fine (rows_of (o t)) noRoute =
-    c.before.own-answer.ensures ∙ ap (λ (n : ℕ). accepted n noRoute (length_of form)) (counted t) ∙ own-answer (o t) noRoute (well t) in
-    ap₂ with own c.count_runs.ensures ∙ ap (λ (v : Verdict). planBy v (o t)) (sym (fine t))
+    let own : c.before.own_answer.result ≡ answered Fine (rows_of (o t)) no_route =
+    c.before.own_answer.ensures ∙ ap (λ (n : ℕ). accepted n no_route (length_of form)) (counted t) ∙ own_answer (o t) no_route (well t) in
+    ap₂ with own c.count_runs.ensures ∙ ap (λ (v : Verdict). plan_by v (o t)) (sym (fine t))
 
-pub plan-runs-spec : {M : Type 1} → statement M
-plan-runs-spec =
+pub plan_runs_spec : {M : Type 1} → statement M
+plan_runs_spec =
     tie.close
     (tie.spec
     check-requires

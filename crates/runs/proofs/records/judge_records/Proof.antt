@@ -4,7 +4,7 @@ use mathlib.Core.Path.{◌≡◌, ◌∙◌}
 use native.Mathlib.Omega.{arith}
 use Prim.Native.Nat.{◌%◌}
 use borrow.Author.Rules.{rules}
-use Rattle.runs.proofs.RecordsLaws.{judged-odd, judged-short, judged-fine}
+use Rattle.runs.proofs.RecordsLaws.{judged_odd, judged_short, judged_fine}
 use Rattle.runs.proofs.records.judge_records.Statement.{statement}
 use Rattle.runs.proofs.records.judge_records.Tie as tie
 
@@ -17,7 +17,7 @@ refusal-requires c κs = search rules
 returns : tie.Need-returns
 returns c =
     let a = c.before.before.args in
-    c.refusal.ensures ∙ judged-odd a.numbers a.room (λ e. omega (arith, c.before.if1.true))
+    c.refusal.ensures ∙ judged_odd a.numbers a.room (λ e. omega (arith, c.before.if1.true))
 
 refusal-requires-2 : tie.Need-refusal-requires-2
 refusal-requires-2 c κs = search rules
@@ -26,7 +26,7 @@ returns-2 : tie.Need-returns-2
 returns-2 c =
     let t = c.before in
     let a = t.before.before.args in
-    c.refusal2.ensures ∙ judged-short a.numbers a.room (even t.before) (omega (arith, t.if2.true))
+    c.refusal2.ensures ∙ judged_short a.numbers a.room (even t.before) (omega (arith, t.if2.true))
 
 no-refusal-requires : tie.Need-no-refusal-requires
 no-refusal-requires c κs = search rules
@@ -35,7 +35,7 @@ returns-3 : tie.Need-returns-3
 returns-3 c =
     let t = c.before in
     let a = t.before.before.args in
-    c.no-refusal.ensures ∙ judged-fine a.numbers a.room (even t.before) (omega (arith, t.if2.false))
+    c.no-refusal.ensures ∙ judged_fine a.numbers a.room (even t.before) (omega (arith, t.if2.false))
 
-pub judge-records-spec : {M : Type 1} → statement M
-judge-records-spec = tie.close (tie.spec refusal-requires returns refusal-requires-2 returns-2 no-refusal-requires returns-3)
+pub judge_records_spec : {M : Type 1} → statement M
+judge_records_spec = tie.close (tie.spec refusal-requires returns refusal-requires-2 returns-2 no-refusal-requires returns-3)

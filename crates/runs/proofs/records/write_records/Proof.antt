@@ -14,8 +14,8 @@ use Rattle.runs.proofs.Kit.{◌≡◌, refl, sym, ◌∙◌, subst, Bool, ℕ, z
 use Rattle.rules.specs.declared.Run.{Run}
 use Rattle.runs.specs.Numbered.{no_run}
 use Rattle.runs.specs.Packed.{run_at, packed}
-use Rattle.runs.proofs.RecordsLaws.{packed-length}
-use Rattle.runs.proofs.Walk.{holds, fails, lent_at, Opened, opens_mut, closes-mut}
+use Rattle.runs.proofs.RecordsLaws.{packed_length}
+use Rattle.runs.proofs.Walk.{holds, fails, lent_at, Opened, opens_mut, closes_mut}
 use Rattle.rules.specs.contracts.Run as T
 use Rattle.rules.proofs.Run.TheLaws as T'
 use Rattle.runs.specs.contracts.records.pair_at as pair
@@ -70,7 +70,7 @@ module _ {M : Type 1} {𝓤 : Ura M} (𝓛 : Logic 𝓤) (mem : Memory → SProp
   exits gn =
       qed 𝓛 (‵ (flft κ q) ∷ ‵ (flft κ₁ q₁) ∷ ‵ Flat ∷ ‵ (Own (packed fs n ys)) ∷ []) ∵
       suffices ! _ (ends_at 𝓛 f.ended stayed (f.clauses 𝓛 mem run) (((κ, (κ₁, tt)), (q, (q₁, tt)), tt, a, at), tt) (vint w64 n) n
-      (tt, (tt, (packed fs n ys, tt))) (tt, (tt, (packed-length fs n ys, tt)))) $ says ! (refl, refl) $
+      (tt, (tt, (packed fs n ys, tt))) (tt, (tt, (packed_length fs n ys, tt)))) $ says ! (refl, refl) $
       nothing ! $ move ! (2 ∷ 0 ∷ []) $ join ! $ move ! (1 ∷ 0 ∷ []) $ join ! $
       nothing ! $ move ! (3 ∷ 0 ∷ []) $ fjoin ! $ owned ! usize (Is usize) (uint_Makes 𝓛 w64) n _ (refl, gn) $ fjoin ! $ move ! (2 ∷ 0 ∷ []) $ fjoin ! $
       move ! (1 ∷ 0 ∷ []) $
@@ -173,7 +173,7 @@ module _ {M : Type 1} {𝓤 : Ura M} (𝓛 : Logic 𝓤) (mem : Memory → SProp
         rewrite ! 11 (λ (z : Bool). ‵ (fat full_share ty_bool l₅ 0 (vbool z))) (fails (ltb n n) (λ t. lt_irrefl n (ltb→lt n n t))) refl $
         leaves_loop ! (load ! (from ! (stop !)) (look ! 11 refl)) $ exec ! C Λ En cm.t-3 (at_ret En Post) $
         assigns ! (of_opd ! (load ! (from ! (stop !)) (look ! 8 refl))) (from ! (stop !)) (init ! 6 refl (tt, record { fits = gn })) $
-        closes-mut T.the_row (named 1) κ₁ q₁ γ₁ b₁ o₁ ! tt ys (packed fs n ys) (packed-length fs n ys) gy $
+        closes_mut T.the_row (named 1) κ₁ q₁ γ₁ b₁ o₁ ! tt ys (packed fs n ys) (packed_length fs n ys) gy $
         -- [out; its token; flat; its token; _0; …]
         returns ! (look ! 4 refl) $ forget ! 4 refl $ forget ! 5 refl $ forget ! 6 refl $ forget ! 7 refl $ forget ! 8 refl $ forget ! 9 refl $
         move ! (4 ∷ 13 ∷ []) $ free1 ! $ move ! (4 ∷ 12 ∷ []) $ free1 ! $ move ! (4 ∷ 11 ∷ []) $ free1 ! $ move ! (4 ∷ 10 ∷ []) $ free1 ! $
@@ -190,7 +190,7 @@ module _ {M : Type 1} {𝓤 : Ura M} (𝓛 : Logic 𝓤) (mem : Memory → SProp
     turn_at zero i e = subst (λ (c : ℕ). ent 𝓤 (⋆ 𝓛 (At c (packed fs c ys))) (Wp 𝓤 H C Λ En cm.turn-1 (after_turn 𝓤 H (Below zero) Left)))
         (sym e ∙ add-zero i) (ends (Below zero))
     turn_at (suc m) i e =
-        more i (packed fs i ys) (Below (suc m)) (packed-length fs i ys) (omega arith)
+        more i (packed fs i ys) (Below (suc m)) (packed_length fs i ys) (omega arith)
         (via 𝓤 (Inv m) (into m (suc i) (suc-add i m ∙ sym (add-suc i m) ∙ e))
         (via 𝓤 (guard 𝓤 (m < suc m) (Inv m)) (guard_i 𝓤 (m < suc m) (Inv m) (lt-suc_self m)) (ex_i 𝓤 (λ (u : ℕ). guard 𝓤 (u < suc m) (Inv u)) m)))
 
@@ -240,9 +240,9 @@ module _ {M : Type 1} {𝓤 : Ura M} (𝓛 : Logic 𝓤) (mem : Memory → SProp
   ) (f.clauses 𝓛 mem run)
       (WpFn 𝓤 H 𝓣.C 𝓣.Λ code.function) (WpFn-mono 𝓤 H 𝓛.laws 𝓣 code.function) walks
 
-pub write-records-spec : {M : Type 1} → stated.statement M
+pub write_records_spec : {M : Type 1} → stated.statement M
 unfolding code.routine tables_of
-write-records-spec 𝓤 𝓛 𝓜 𝓡 =
+write_records_spec 𝓤 𝓛 𝓜 𝓡 =
     entered 𝓤 𝓛.H (triple_of 𝓛 f.signature (f.spec 𝓛 𝓜.mem 𝓡.run)) (tables 𝓤 𝓛.H 𝓜 𝓡 code.env).C (tables 𝓤 𝓛.H 𝓜 𝓡 code.env).Λ #write-records
     code.function (code.unfolded 𝓤 𝓛.H 𝓜 𝓡)
     (meets 𝓛 𝓜.mem 𝓡.run (tables_of 𝓤 𝓛.H 𝓜 (tables 𝓤 𝓛.H 𝓜 𝓡 code.env))

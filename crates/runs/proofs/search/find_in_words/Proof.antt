@@ -8,9 +8,9 @@ use native.Mathlib.Omega.{arith}
 use lib.ListN.{length}
 use borrow.Author.Rules.{rules}
 use Rattle.rows.specs.Words.{view}
-use Rattle.rows.proofs.WordsLaws.{view-length}
-use Rattle.runs.specs.Searched.{seekRow, found}
-use Rattle.runs.proofs.SearchLaws.{seek-most}
+use Rattle.rows.proofs.WordsLaws.{view_length}
+use Rattle.runs.specs.Searched.{seek_row, found}
+use Rattle.runs.proofs.SearchLaws.{seek_most}
 use Rattle.runs.proofs.search.find_in_words.Statement.{statement}
 use Rattle.runs.proofs.search.find_in_words.Tie as tie
 
@@ -22,34 +22,34 @@ module _ (c : tie.After-seek) where
   rows = view start.args.start start.args.len start.args.words.now
 
   long : length rows ≡ start.args.len
-  long = view-length start.args.start start.args.len start.args.words.now start.pre.0.2
+  long = view_length start.args.start start.args.len start.args.words.now start.pre.0.2
 
-  first-most : c.seek.result ≤ start.args.len
-  first-most = omega (arith, c.seek.ensures, seek-most true start.args.at rows (omega (arith, start.pre.1, long)), long)
+  first_most : c.seek.result ≤ start.args.len
+  first_most = omega (arith, c.seek.ensures, seek_most true start.args.at rows (omega (arith, start.pre.1, long)), long)
 
-past-most : (c : tie.After-seek2) → c.seek2.result ≤ (start c.before).args.len
-past-most c =
+past_most : (c : tie.After-seek2) → c.seek2.result ≤ (start c.before).args.len
+past_most c =
     let k = c.before in
-    omega (arith, c.seek2.ensures, seek-most false k.seek.result (rows k) (omega (arith, first-most k, long k)), long k)
+    omega (arith, c.seek2.ensures, seek_most false k.seek.result (rows k) (omega (arith, first_most k, long k)), long k)
 
 seek-requires : tie.Need-seek-requires
 seek-requires c κs = search rules
 
 seek-requires-2 : tie.Need-seek-requires-2
-seek-requires-2 c κs = ((start c).requires.0, first-most c)
+seek-requires-2 c κs = ((start c).requires.0, first_most c)
 
 cast-t7 : tie.Need-overflow-cast-t7
-cast-t7 c = omega (arith, first-most c.before, (start c.before).pre.0.0)
+cast-t7 c = omega (arith, first_most c.before, (start c.before).pre.0.0)
 
 cast-t8 : tie.Need-overflow-cast-t8
-cast-t8 c = omega (arith, past-most c, (start c.before).pre.0.0)
+cast-t8 c = omega (arith, past_most c, (start c.before).pre.0.0)
 
 returns : tie.Need-returns
 returns c =
     let k = c.before in
     let first = k.seek.ensures in
-    let past = c.seek2.ensures ∙ ap (λ (row : ℕ). seekRow false row (rows k)) first in
+    let past = c.seek2.ensures ∙ ap (λ (row : ℕ). seek_row false row (rows k)) first in
     ap₂ (λ (f p : ℕ). found f p p) first past
 
-pub find-in-words-spec : {M : Type 1} → statement M
-find-in-words-spec = tie.close (tie.spec seek-requires seek-requires-2 cast-t7 cast-t8 returns)
+pub find_in_words_spec : {M : Type 1} → statement M
+find_in_words_spec = tie.close (tie.spec seek-requires seek-requires-2 cast-t7 cast-t8 returns)

@@ -11,5 +11,5 @@ find-requires c κs = search rules
 returns : tie.Need-returns
 returns c = ap (moved c.before.before.before.args.cursor.form) c.find.ensures
 
-pub next-run-spec : {M : Type 1} → statement M
-next-run-spec = tie.close (tie.spec find-requires returns)
+pub next_run_spec : {M : Type 1} → statement M
+next_run_spec = tie.close (tie.spec find-requires returns)

@@ -10,17 +10,17 @@ use lib.Seq.{length-take-le}
 use borrow.Author.Rules.{rules}
 use Rattle.rows.specs.Word.{bits_of, word_of}
 use Rattle.rows.specs.Words.{view}
-use Rattle.rows.proofs.WordLaws.{wordOf-lt}
-use Rattle.rows.proofs.WordsLaws.{view-length}
-use Rattle.rows.proofs.ChunkLaws.{chunk-bits}
-use Rattle.turns.proofs.TurnedLaws.{view-word}
-use Rattle.runs.specs.Searched.{hits, seekRow}
-use Rattle.runs.proofs.SearchLaws.{seek-none, seek_hit, hit-within, seek-end}
+use Rattle.rows.proofs.WordLaws.{word_of_lt}
+use Rattle.rows.proofs.WordsLaws.{view_length}
+use Rattle.rows.proofs.ChunkLaws.{chunk_bits}
+use Rattle.turns.proofs.TurnedLaws.{view_word}
+use Rattle.runs.specs.Searched.{hits, seek_row}
+use Rattle.runs.proofs.SearchLaws.{seek_none, seek_hit, hit_within, seek_end}
 use Rattle.runs.proofs.search.seek.Statement.{statement}
 use Rattle.runs.proofs.search.seek.Tie as tie
 
 abbrev invariant-loop : tie.invariant-loop
-invariant-loop words start len from set row₀ row = (row ≤ len) × (seekRow set row (view start len words) ≡ seekRow set from (view start len words))
+invariant-loop words start len from set row₀ row = (row ≤ len) × (seek_row set row (view start len words) ≡ seek_row set from (view start len words))
 
 abbrev decreases-loop : tie.decreases-loop
 decreases-loop words start len from set row₀ row = len - row
@@ -43,7 +43,7 @@ module _ (c : tie.At-loop invariant-loop decreases-loop) where
   rows = view (start c).args.start (start c).args.len (start c).args.words.now
 
   long : length rows ≡ (start c).args.len
-  long = view-length (start c).args.start (start c).args.len (start c).args.words.now (start c).requires.0.2
+  long = view_length (start c).args.start (start c).args.len (start c).args.words.now (start c).requires.0.2
 
 module _ (c : tie.After-chunk-len invariant-loop decreases-loop) where
   abbrev row : ℕ
@@ -71,7 +71,7 @@ word : (c : tie.After-chunk invariant-loop decreases-loop) → c.chunk.result �
 word c =
     let t = c.before in
     let a = (start (head t)).args in
-    view-word a.start (row t) (n t) a.len c.chunk.result a.words.now (omega (arith, room t, long (head t))) (start (head t)).pre.0.2
+    view_word a.start (row t) (n t) a.len c.chunk.result a.words.now (omega (arith, room t, long (head t))) (start (head t)).pre.0.2
     c.chunk.ensures
 
 module _ (c : tie.After-matching invariant-loop decreases-loop) where
@@ -82,7 +82,7 @@ module _ (c : tie.After-matching invariant-loop decreases-loop) where
   hit =
       let t = sized c in
       c.matching.ensures
-      ∙ ap (λ (s : List Bool). word_of (hits set s)) (ap (bits_of (n t)) (word c.before) ∙ chunk-bits (row t) (n t) (rows (head t)) (room t))
+      ∙ ap (λ (s : List Bool). word_of (hits set s)) (ap (bits_of (n t)) (word c.before) ∙ chunk_bits (row t) (n t) (rows (head t)) (room t))
 
 -- ---- the answers
 
@@ -99,14 +99,14 @@ matching-requires : tie.Need-matching-requires invariant-loop decreases-loop
 matching-requires c κs =
     let t = c.before in (
       (some t, few t),
-      subst (λ (k : ℕ). k < 2 ^ n t) (sym (word c)) (subst (λ (k : ℕ). word_of (part t) < 2 ^ k) (part_length t) (wordOf-lt (part t))),
+      subst (λ (k : ℕ). k < 2 ^ n t) (sym (word c)) (subst (λ (k : ℕ). word_of (part t) < 2 ^ k) (part_length t) (word_of_lt (part t))),
     )
 
 cast-result : tie.Need-overflow-cast-result invariant-loop decreases-loop
 cast-result c =
     let m = c.before in
     let t = sized m in
-    omega (arith, few t, hit-within (set m) (row t) (n t) (rows (head t)) m.matching.result (few t) (room t) (hit m) (omega (arith, c.if1.true)))
+    omega (arith, few t, hit_within (set m) (row t) (n t) (rows (head t)) m.matching.result (few t) (room t) (hit m) (omega (arith, c.if1.true)))
 
 add-result : tie.Need-overflow-add-result invariant-loop decreases-loop
 add-result c =
@@ -116,7 +116,7 @@ add-result c =
     record {
       fits = omega (
         arith,
-        hit-within (set m) (row t) (n t) (rows h) m.matching.result (few t) (room t) (hit m) (omega (arith, c.if1.true)),
+        hit_within (set m) (row t) (n t) (rows h) m.matching.result (few t) (room t) (hit m) (omega (arith, c.if1.true)),
         room t,
         long
             h,
@@ -141,17 +141,17 @@ loop-again c =
     let m = c.before in
     let t = sized m in (
       omega (arith, room t, long (head t)),
-      sym (seek-none (set m) (row t) (n t) (rows (head t)) m.matching.result (few t) (room t) (hit m) (omega (arith, c.if1.false))) ∙ (head t).loop.inv.1,
+      sym (seek_none (set m) (row t) (n t) (rows (head t)) m.matching.result (few t) (room t) (hit m) (omega (arith, c.if1.false))) ∙ (head t).loop.inv.1,
     )
 
 returns-2 : tie.Need-returns-2 invariant-loop decreases-loop
 returns-2 c =
     let h = c.before in
     let end : h.loop.row ≡ (start h).args.len = omega (arith, c.loop-test.false, h.loop.invariant.0) in
-    sym end ∙ sym (seek-end (start h).args.set h.loop.row (rows h) (end ∙ sym (long h))) ∙ h.loop.invariant.1
+    sym end ∙ sym (seek_end (start h).args.set h.loop.row (rows h) (end ∙ sym (long h))) ∙ h.loop.invariant.1
 
-pub seek-spec : {M : Type 1} → statement M
-seek-spec =
+pub seek_spec : {M : Type 1} → statement M
+seek_spec =
     tie.close
     (tie.spec
     invariant-loop

@@ -3,7 +3,7 @@
 use contract.Running.{tables_of}
 use Rattle.runs.proofs.Kit.{refl, tables, triple_of, entered, cited}
 use Rattle.runs.specs.declared.search.Cursor.{Cursor}
-use Rattle.runs.specs.Searched.{cursorBy, SearchAsks, SearchReady, runOf, storedFrom}
+use Rattle.runs.specs.Searched.{cursor_by, SearchAsks, SearchReady, run_of, stored_from}
 use Rattle.runs.proofs.Values.{cursor}
 use Rattle.runs.proofs.Storing.{Searching, Next, RunOf, fill_meets}
 use Rattle.runs.specs.contracts.search.Cursor as C
@@ -21,18 +21,18 @@ use Rattle.runs.proofs.search.write_found.Code as code
 abbrev searches : Searching Cursor
 searches = record {
   Asks = SearchAsks;
-  next = cursorBy;
-  run = runOf;
+  next = cursor_by;
+  run = run_of;
   Ready = SearchReady;
-  stored = storedFrom;
+  stored = stored_from;
   ready = λ ws es c n h. h;
-  stored-none = λ ws es i c out. refl;
+  stored_none = λ ws es i c out. refl;
   stored_next = λ ws es i c n out. refl;
 }
 
-pub write-found-spec : {M : Type 1} → stated.statement M
+pub write_found_spec : {M : Type 1} → stated.statement M
 unfolding code.routine tables_of
-write-found-spec 𝓤 𝓛 𝓜 𝓡 =
+write_found_spec 𝓤 𝓛 𝓜 𝓡 =
     let 𝓣 = tables 𝓤 𝓛.H 𝓜 𝓡 code.env in
     entered 𝓤 𝓛.H (triple_of 𝓛 f.signature (f.spec 𝓛 𝓜.mem 𝓡.run)) 𝓣.C 𝓣.Λ #write-found code.function (code.unfolded 𝓤 𝓛.H 𝓜 𝓡)
     (fill_meets C.the_row cursor searches 𝓛 #next #run (tables_of 𝓤 𝓛.H 𝓜 𝓣)

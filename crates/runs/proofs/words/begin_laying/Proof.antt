@@ -9,8 +9,8 @@ use Rattle.rows.specs.Words.{Below}
 use Rattle.rows.proofs.LaidLaws.{below_all}
 use Rattle.runs.specs.declared.words.Sweep.{Sweep}
 use Rattle.runs.specs.declared.words.Sweep.TheVariants.{Barred}
-use Rattle.runs.specs.Swept.{begun, begunOut}
-use Rattle.runs.proofs.SweepLaws.{begun-barred, begun-on}
+use Rattle.runs.specs.Swept.{begun, begun_out}
+use Rattle.runs.proofs.SweepLaws.{begun_barred, begun_on}
 use Rattle.runs.proofs.words.begin_laying.Statement.{statement}
 use Rattle.runs.proofs.words.begin_laying.Tie as tie
 
@@ -63,9 +63,9 @@ returns c =
     let w = c.before.before in
     let o = out (known (told w)) in
     let e = sym (told w).sweep.given.1 in
-    let b = begun-barred (len w) (from w) (sum w) o (omega (arith, c.before.if1.true, w.words-for.ensures)) in (
+    let b = begun_barred (len w) (from w) (sum w) o (omega (arith, c.before.if1.true, w.words-for.ensures)) in (
       ap Barred c.refusal.ensures ∙ b.0 ∙ ap (λ (s : Sweep). begun s o) e,
-      b.1 ∙ ap (λ (s : Sweep). begunOut s o) e,
+      b.1 ∙ ap (λ (s : Sweep). begun_out s o) e,
       small (known (told w)),
     )
 
@@ -83,17 +83,17 @@ returns-2 c =
     let w = (room (cleared c)).before in
     let o = out (known (told w)) in
     let e = sym (told w).sweep.given.1 in
-    let b = begun-on (len w) (from w) (sum w) o (omega (arith, (room (cleared c)).if1.false, w.words-for.ensures)) in
-    (b.0 ∙ ap (λ (s : Sweep). begun s o) e, (cleared c).clear-last.ensures ∙ b.1 ∙ ap (λ (s : Sweep). begunOut s o) e, small (known (told w)))
+    let b = begun_on (len w) (from w) (sum w) o (omega (arith, (room (cleared c)).if1.false, w.words-for.ensures)) in
+    (b.0 ∙ ap (λ (s : Sweep). begun s o) e, (cleared c).clear-last.ensures ∙ b.1 ∙ ap (λ (s : Sweep). begun_out s o) e, small (known (told w)))
 
 returns-3 : tie.Need-returns-3
 returns-3 c =
     let k = c.before.before.before in
     let e = sym c.before.sweep2.given.1 in
-    (ap (λ (s : Sweep). begun s (out k)) e, ap (λ (s : Sweep). begunOut s (out k)) e, small k)
+    (ap (λ (s : Sweep). begun s (out k)) e, ap (λ (s : Sweep). begun_out s (out k)) e, small k)
 
-pub begin-laying-spec : {M : Type 1} → statement M
-begin-laying-spec =
+pub begin_laying_spec : {M : Type 1} → statement M
+begin_laying_spec =
     tie.close
     (tie.spec
     enum-known-sweep

@@ -4,7 +4,7 @@ use native.Mathlib.Omega.{arith}
 use borrow.Author.Rules.{rules}
 use Rattle.runs.specs.declared.words.Sweep.{Sweep}
 use Rattle.runs.specs.declared.words.Sweep.TheVariants.{On}
-use Rattle.runs.specs.Swept.{finished, finishedOut, FinishAsks}
+use Rattle.runs.specs.Swept.{finished, finished_out, FinishAsks}
 use Rattle.runs.proofs.words.finish_laying.Statement.{statement}
 use Rattle.runs.proofs.words.finish_laying.Tie as tie
 
@@ -51,16 +51,16 @@ returns : tie.Need-returns
 returns c =
     let l = cleared c.before in
     let e = sym (told l).sweep.given.1 in
-    (c.accepted.ensures ∙ ap finished e, l.clear.ensures ∙ ap (λ (s : Sweep). finishedOut s (start (told l)).args.out.now) e)
+    (c.accepted.ensures ∙ ap finished e, l.clear.ensures ∙ ap (λ (s : Sweep). finished_out s (start (told l)).args.out.now) e)
 
 returns-2 : tie.Need-returns-2
 returns-2 c =
     let k = c.before.before in
     let e = sym k.sweep2.given.1 in
-    (c.refused.ensures ∙ ap finished e, ap (λ (s : Sweep). finishedOut s k.before.before.before.args.out.now) e)
+    (c.refused.ensures ∙ ap finished e, ap (λ (s : Sweep). finished_out s k.before.before.before.args.out.now) e)
 
-pub finish-laying-spec : {M : Type 1} → statement M
-finish-laying-spec =
+pub finish_laying_spec : {M : Type 1} → statement M
+finish_laying_spec =
     tie.close
     (tie.spec
     enum-known-sweep

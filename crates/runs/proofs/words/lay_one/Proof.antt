@@ -10,7 +10,7 @@ use borrow.Author.Rules.{rules}
 use Rattle.rows.specs.Laid.{laid}
 use Rattle.runs.specs.declared.words.Sweep.{Sweep}
 use Rattle.runs.specs.declared.words.Sweep.TheVariants.{On}
-use Rattle.runs.specs.Swept.{layRun, layRunOut, LayAsks}
+use Rattle.runs.specs.Swept.{lay_run, lay_run_out, LayAsks}
 use Rattle.runs.proofs.words.lay_one.Statement.{statement}
 use Rattle.runs.proofs.words.lay_one.Tie as tie
 
@@ -55,9 +55,9 @@ returns c =
     let a = (start k).args in
     let e = sym k.sweep.given.1 in
     let turn = replicate (a.first - from k) false ++ replicate (a.past - a.first) true in (
-      ap (λ (s : Sweep). layRun s a.first a.past) e,
+      ap (λ (s : Sweep). lay_run s a.first a.past) e,
       l.lay-run.ensures ∙ ap (λ (at : ℕ). laid at turn a.out.now) (zero-add (from k))
-          ∙ ap (λ (s : Sweep). layRunOut s a.first a.past a.out.now) e,
+          ∙ ap (λ (s : Sweep). lay_run_out s a.first a.past a.out.now) e,
     )
 
 returns-2 : tie.Need-returns-2
@@ -65,7 +65,7 @@ returns-2 c =
     let k = c.before in
     let a = k.before.before.before.args in
     let e = sym k.sweep2.given.1 in
-    (ap (λ (s : Sweep). layRun s a.first a.past) e, ap (λ (s : Sweep). layRunOut s a.first a.past a.out.now) e)
+    (ap (λ (s : Sweep). lay_run s a.first a.past) e, ap (λ (s : Sweep). lay_run_out s a.first a.past a.out.now) e)
 
-pub lay-one-spec : {M : Type 1} → statement M
-lay-one-spec = tie.close (tie.spec enum-known-sweep lay-run-requires enum-known-sweep-2 same_length returns returns-2)
+pub lay_one_spec : {M : Type 1} → statement M
+lay_one_spec = tie.close (tie.spec enum-known-sweep lay-run-requires enum-known-sweep-2 same_length returns returns-2)

@@ -8,9 +8,9 @@ use native.Mathlib.Omega.{arith}
 use lib.Dec.{leb, ltb}
 use borrow.Author.Rules.{rules}
 use borrow.Author.Tests.{not-true, not-false}
-use Rattle.operand.proofs.WeighLaws.{one-fits}
+use Rattle.operand.proofs.WeighLaws.{one_fits}
 use Rattle.runs.specs.declared.words.Sweep.TheVariants.{On, Barred}
-use Rattle.runs.specs.Swept.{weighBy}
+use Rattle.runs.specs.Swept.{weigh_by}
 use Rattle.runs.proofs.words.weigh_on.Statement.{statement}
 use Rattle.runs.proofs.words.weigh_on.Tie as tie
 
@@ -33,7 +33,7 @@ module _ (c : tie.Else1) where
   fits = sym c.before.run-fits.ensures ∙ not-false _ c.if1.false
 
   bounds : (begun.args.from ≤ begun.args.first) × (begun.args.first < begun.args.past) × (begun.args.past ≤ begun.args.length)
-  bounds = one-fits begun.args.from begun.args.first begun.args.past begun.args.length fits
+  bounds = one_fits begun.args.from begun.args.first begun.args.past begun.args.length fits
 
 -- ---- the answers
 
@@ -46,7 +46,7 @@ refusal-requires c κs = search rules
 returns : tie.Need-returns
 returns c =
     let a = (start c.before).args in
-    ap Barred c.refusal.ensures ∙ ap (λ (b : Bool). weighBy b a.length a.sum a.first a.past) (sym (unfit c.before))
+    ap Barred c.refusal.ensures ∙ ap (λ (b : Bool). weigh_by b a.length a.sum a.first a.past) (sym (unfit c.before))
 
 sub-summed : tie.Need-overflow-sub-summed
 sub-summed c = omega (arith, (bounds c).1)
@@ -61,7 +61,7 @@ returns-2 : tie.Need-returns-2
 returns-2 c =
     let a = (begun c).args in
     ap (λ (k : ℕ). On a.length k (a.sum + (a.past - a.first))) (add-one a.past)
-    ∙ ap (λ (b : Bool). weighBy b a.length a.sum a.first a.past) (sym (fits c))
+    ∙ ap (λ (b : Bool). weigh_by b a.length a.sum a.first a.past) (sym (fits c))
 
-pub weigh-on-spec : {M : Type 1} → statement M
-weigh-on-spec = tie.close (tie.spec run-fits-requires refusal-requires returns sub-summed add-summed add-next returns-2)
+pub weigh_on_spec : {M : Type 1} → statement M
+weigh_on_spec = tie.close (tie.spec run-fits-requires refusal-requires returns sub-summed add-summed add-next returns-2)

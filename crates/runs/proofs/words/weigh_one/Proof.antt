@@ -2,7 +2,7 @@
 use mathlib.Core.Path.{refl, sym, ap, subst, ◌∙◌}
 use borrow.Author.Rules.{rules}
 use Rattle.runs.specs.declared.words.Sweep.{Sweep}
-use Rattle.runs.specs.Swept.{Small, weighRun}
+use Rattle.runs.specs.Swept.{Small, weigh_run}
 use Rattle.runs.proofs.words.weigh_one.Statement.{statement}
 use Rattle.runs.proofs.words.weigh_one.Tie as tie
 
@@ -29,13 +29,13 @@ returns : tie.Need-returns
 returns c =
     let k = c.before.before in
     let a = (start k).args in
-    (c.weigh-on.ensures ∙ ap (λ (s : Sweep). weighRun s a.first a.past) (sym k.sweep.given.1), refl)
+    (c.weigh-on.ensures ∙ ap (λ (s : Sweep). weigh_run s a.first a.past) (sym k.sweep.given.1), refl)
 
 returns-2 : tie.Need-returns-2
 returns-2 c =
     let k = c.before in
     let a = (barred k).args in
-    (ap (λ (s : Sweep). weighRun s a.first a.past) (sym k.sweep2.given.1), refl)
+    (ap (λ (s : Sweep). weigh_run s a.first a.past) (sym k.sweep2.given.1), refl)
 
-pub weigh-one-spec : {M : Type 1} → statement M
-weigh-one-spec = tie.close (tie.spec enum-known-sweep weigh-on-requires enum-known-sweep-2 returns returns-2)
+pub weigh_one_spec : {M : Type 1} → statement M
+weigh_one_spec = tie.close (tie.spec enum-known-sweep weigh-on-requires enum-known-sweep-2 returns returns-2)

@@ -10,13 +10,13 @@ use native.Mathlib.Omega.{arith}
 use lib.ListN.{length, drop, length-drop}
 use borrow.Author.Rules.{rules}
 use borrow.Author.Tests.{not-true, not-false}
-use Rattle.lines.specs.Text.{rowsIn}
-use Rattle.lines.proofs.FindLaws.{rows-within, rows_next, rows_end}
+use Rattle.lines.specs.Text.{rows_in}
+use Rattle.lines.proofs.FindLaws.{rows_within, rows_next, rows_end}
 use Rattle.text.proofs.find.count_digits.Statement.{statement}
 use Rattle.text.proofs.find.count_digits.Tie as tie
 
 abbrev invariant-loop : tie.invariant-loop
-invariant-loop input at n₀ n = (at + n ≤ length input) × (length (rowsIn (drop at input)) ≡ n + length (rowsIn (drop (at + n) input)))
+invariant-loop input at n₀ n = (at + n ≤ length input) × (length (rows_in (drop at input)) ≡ n + length (rows_in (drop (at + n) input)))
 
 abbrev decreases-loop : tie.decreases-loop
 decreases-loop input at n₀ n = (length input - at) - n
@@ -24,7 +24,7 @@ decreases-loop input at n₀ n = (length input - at) - n
 loop-holds : tie.Need-loop-init invariant-loop decreases-loop
 loop-holds c =
     let a = c.before.args in
-    (omega arith, rw (add-zero a.at) (sym (zero-add (length (rowsIn (drop a.at a.input.now))))))
+    (omega arith, rw (add-zero a.at) (sym (zero-add (length (rows_in (drop a.at a.input.now))))))
 
 sub-loop : tie.Need-overflow-sub-loop invariant-loop decreases-loop
 sub-loop c = search rules
@@ -65,10 +65,10 @@ returns-2 : tie.Need-returns-2 invariant-loop decreases-loop
 returns-2 c =
     let a = c.before.before.before.args in
     let l = c.before.loop in
-    omega (arith, l.invariant.1, rows-within (drop (a.at + l.n) a.input.now), length-drop (a.at + l.n) a.input.now)
+    omega (arith, l.invariant.1, rows_within (drop (a.at + l.n) a.input.now), length-drop (a.at + l.n) a.input.now)
 
-pub count-digits-spec : {M : Type 1} → statement M
-count-digits-spec =
+pub count_digits_spec : {M : Type 1} → statement M
+count_digits_spec =
     tie.close
     (tie.spec
     invariant-loop

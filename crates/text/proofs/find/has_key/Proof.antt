@@ -12,7 +12,7 @@ use lib.Seq.{drop-length}
 use borrow.Author.Rules.{rules}
 use borrow.Author.Tests.{eq-eqb, ne_eqb}
 use Rattle.lines.specs.Parts.{begins}
-use Rattle.lines.proofs.FindLaws.{begins-short, begins-next}
+use Rattle.lines.proofs.FindLaws.{begins_short, begins_next}
 use Rattle.text.proofs.find.has_key.Statement.{statement}
 use Rattle.text.proofs.find.has_key.Tie as tie
 
@@ -28,7 +28,7 @@ sub-if1 c = search rules
 returns : tie.Need-returns invariant-loop decreases-loop
 returns c =
     let a = c.before.args in
-    sym (begins-short a.key.now (drop a.at a.input.now) (omega (arith, length-drop a.at a.input.now)))
+    sym (begins_short a.key.now (drop a.at a.input.now) (omega (arith, length-drop a.at a.input.now)))
 
 loop-holds : tie.Need-loop-init invariant-loop decreases-loop
 loop-holds c =
@@ -48,7 +48,7 @@ returns-2 : tie.Need-returns-2 invariant-loop decreases-loop
 returns-2 c =
     let a = c.before.before.before.before.before.before.args in
     let l = c.before.before.before.before.loop in
-    sym (l.invariant.2 ∙ begins-next a.key.now a.input.now l.i (a.at + l.i) (omega arith) (omega arith)
+    sym (l.invariant.2 ∙ begins_next a.key.now a.input.now l.i (a.at + l.i) (omega arith) (omega arith)
     ∙ ap (λ (x : Bool). x && begins (drop (suc l.i) a.key.now) (drop (suc (a.at + l.i)) a.input.now)) (ne_eqb _ _ c.if2.true))
 
 add-i : tie.Need-overflow-add-i invariant-loop decreases-loop
@@ -64,7 +64,7 @@ loop-again c =
       omega arith,
       l.invariant.1,
       rw (← add_assoc a.at l.i 1, add-one l.i, add-one (a.at + l.i))
-          (l.invariant.2 ∙ begins-next a.key.now a.input.now l.i (a.at + l.i) (omega arith) (omega arith)
+          (l.invariant.2 ∙ begins_next a.key.now a.input.now l.i (a.at + l.i) (omega arith) (omega arith)
           ∙ ap (λ (x : Bool). x && begins (drop (suc l.i) a.key.now) (drop (suc (a.at + l.i)) a.input.now)) (eq-eqb _ _ c.if2.false)),
     )
 
@@ -75,8 +75,8 @@ returns-3 c =
     let e : l.i ≡ length a.key.now = omega arith in
     sym (l.invariant.2 ∙ ap (λ (k : List ℕ). begins k (drop (a.at + l.i) a.input.now)) (ap (λ (k : ℕ). drop k a.key.now) e ∙ drop-length a.key.now))
 
-pub has-key-spec : {M : Type 1} → statement M
-has-key-spec =
+pub has_key_spec : {M : Type 1} → statement M
+has_key_spec =
     tie.close
     (tie.spec
     invariant-loop

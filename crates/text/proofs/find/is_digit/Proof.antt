@@ -11,5 +11,5 @@ returns c = rw (eq-eqb c.before.args.byte 48 c.if1.true) refl
 returns-2 : tie.Need-returns-2
 returns-2 c = rw (ne_eqb c.before.args.byte 48 c.if1.false) refl
 
-pub is-digit-spec : {M : Type 1} → statement M
-is-digit-spec = tie.close (tie.spec returns returns-2)
+pub is_digit_spec : {M : Type 1} → statement M
+is_digit_spec = tie.close (tie.spec returns returns-2)

@@ -8,10 +8,10 @@ use lib.ListN.{length, length-append}
 use borrow.Author.Rules.{rules}
 use Rattle.rows.specs.Rows.{splice}
 use Rattle.rows.specs.Words.{view}
-use Rattle.rows.proofs.WordsLaws.{view-length}
-use Rattle.lines.specs.Text.{digits, bitsKey}
-use Rattle.lines.proofs.SaidLaws.{digits-length}
-use Rattle.text.proofs.PutLaws.{put-after}
+use Rattle.rows.proofs.WordsLaws.{view_length}
+use Rattle.lines.specs.Text.{digits, bits_key}
+use Rattle.lines.proofs.SaidLaws.{digits_length}
+use Rattle.text.proofs.PutLaws.{put_after}
 use Rattle.text.proofs.put.put_bits.Statement.{statement}
 use Rattle.text.proofs.put.put_bits.Tie as tie
 
@@ -40,18 +40,18 @@ returns c =
     let one = c.before.before.before.before.before.before.before.before.before.before.before.put-bytes in
     let two = c.before.before.before.before.before.before.before.put-digits in
     let three = c.before.before.put-bytes2 in
-    let long : length value ≡ a.n = digits-length (view 0 a.n a.words.now) ∙ view-length 0 a.n a.words.now (omega arith) in
-    let inner = length-append bitsKey value in
-    let whole = length-append (bitsKey ++ value) (10 ∷ []) in (
+    let long : length value ≡ a.n = digits_length (view 0 a.n a.words.now) ∙ view_length 0 a.n a.words.now (omega arith) in
+    let inner = length-append bits_key value in
+    let whole = length-append (bits_key ++ value) (10 ∷ []) in (
       omega (arith, one.ensures.0, two.ensures.0, three.ensures.0),
       three.ensures.1
           ∙ ap (λ (o : List ℕ). splice two.result o (10 ∷ []))
-          (two.ensures.1 ∙ ap (λ (o : List ℕ). splice one.result o value) one.ensures.1 ∙ put-after a.at one.result a.out.now bitsKey value one.ensures.0)
-          ∙ put-after a.at two.result a.out.now (bitsKey ++ value) (10 ∷ []) (omega (arith, one.ensures.0, two.ensures.0)),
+          (two.ensures.1 ∙ ap (λ (o : List ℕ). splice one.result o value) one.ensures.1 ∙ put_after a.at one.result a.out.now bits_key value one.ensures.0)
+          ∙ put_after a.at two.result a.out.now (bits_key ++ value) (10 ∷ []) (omega (arith, one.ensures.0, two.ensures.0)),
     )
 
-pub put-bits-spec : {M : Type 1} → statement M
-put-bits-spec =
+pub put_bits_spec : {M : Type 1} → statement M
+put_bits_spec =
     tie.close
     (tie.spec
     slice-aggregate-put-bytes

@@ -6,7 +6,7 @@ use native.Mathlib.Omega.{arith}
 use lib.ListN.{length}
 use borrow.Author.Rules.{rules}
 use borrow.Rule.Slice.PartMut.{put_mid}
-use Rattle.text.proofs.PutLaws.{put-part}
+use Rattle.text.proofs.PutLaws.{put_part}
 use Rattle.text.proofs.put.put_bytes.Statement.{statement}
 use Rattle.text.proofs.put.put_bytes.Tie as tie
 
@@ -33,9 +33,9 @@ returns c =
     let a = c.before.before.before.before.before.before.args in
     let k = c.before.before.copy in
     let n = length a.out.now - a.at in
-    (omega (arith, k.ensures.0), ap (put_mid a.at n a.out.now) k.ensures.1 ∙ put-part a.at a.out.now a.bytes.now (omega arith))
+    (omega (arith, k.ensures.0), ap (put_mid a.at n a.out.now) k.ensures.1 ∙ put_part a.at a.out.now a.bytes.now (omega arith))
 
-pub put-bytes-spec : {M : Type 1} → statement M
-put-bytes-spec =
+pub put_bytes_spec : {M : Type 1} → statement M
+put_bytes_spec =
     tie.close
     (tie.spec sub-copy part-copy-start part-copy-end copy-requires add-result same_length returns)

@@ -6,7 +6,7 @@ use lib.ListN.{length, take}
 use borrow.Author.Rules.{rules}
 use Rattle.rows.specs.Rows.{splice}
 use Rattle.lines.specs.Text.{decimal}
-use Rattle.text.proofs.PutLaws.{decimal-is, few-places}
+use Rattle.text.proofs.PutLaws.{decimal_is, few_places}
 use Rattle.text.proofs.put.put_decimal.Statement.{statement}
 use Rattle.text.proofs.put.put_decimal.Tie as tie
 
@@ -23,7 +23,7 @@ put-bytes-requires : tie.Need-put-bytes-requires
 put-bytes-requires c κs =
     let s = c.before.before.before.before.before in
     let d = c.before.before.decimal in
-    omega (arith, d.ensures.0.1, few-places s.args.n d.result s.ranges.n.fits d.ensures.1.0)
+    omega (arith, d.ensures.0.1, few_places s.args.n d.result s.ranges.n.fits d.ensures.1.0)
 
 same_length : tie.Need-same-length
 same_length c = search rules
@@ -34,14 +34,14 @@ returns c =
     let a = s.args in
     let d = c.before.before.before.before.before.decimal in
     let p = c.before.before.put-bytes in
-    let e : take d.result d.new.1.0 ≡ decimal a.n = d.ensures.1.1 ∙ decimal-is d.result a.n d.ensures.1.0 in (
+    let e : take d.result d.new.1.0 ≡ decimal a.n = d.ensures.1.1 ∙ decimal_is d.result a.n d.ensures.1.0 in (
       omega (arith, p.ensures.0, ap length e),
       p.ensures.1 ∙ ap (splice a.at a.out.now) e,
-      omega (arith, p.ensures.0, d.ensures.0.1, few-places a.n d.result s.ranges.n.fits d.ensures.1.0),
+      omega (arith, p.ensures.0, d.ensures.0.1, few_places a.n d.result s.ranges.n.fits d.ensures.1.0),
     )
 
-pub put-decimal-spec : {M : Type 1} → statement M
-put-decimal-spec =
+pub put_decimal_spec : {M : Type 1} → statement M
+put_decimal_spec =
     tie.close
     (tie.spec
     decimal-requires

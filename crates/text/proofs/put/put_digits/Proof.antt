@@ -7,12 +7,12 @@ use native.Mathlib.Omega.{arith}
 use lib.ListN.{length, drop, set, length-set}
 use borrow.Author.Rules.{rules}
 use Rattle.rows.specs.Rows.{splice}
-use Rattle.rows.specs.Words.{bitsOfAll, view}
-use Rattle.rows.proofs.SpliceLaws.{splice-nil}
-use Rattle.rows.proofs.WordsLaws.{view-length}
+use Rattle.rows.specs.Words.{bits_of_all, view}
+use Rattle.rows.proofs.SpliceLaws.{splice_nil}
+use Rattle.rows.proofs.WordsLaws.{view_length}
 use Rattle.lines.specs.Text.{digits}
-use Rattle.lines.proofs.SaidLaws.{digits-length}
-use Rattle.text.proofs.PutLaws.{one_more, bit-small, digit-next}
+use Rattle.lines.proofs.SaidLaws.{digits_length}
+use Rattle.text.proofs.PutLaws.{one_more, bit_small, digit_next}
 use Rattle.text.proofs.put.put_digits.Statement.{statement}
 use Rattle.text.proofs.put.put_digits.Tie as tie
 
@@ -23,7 +23,7 @@ abbrev decreases-loop : tie.decreases-loop
 decreases-loop words n at out₀ i₀ out i = n - i
 
 loop-holds : tie.Need-loop-init invariant-loop decreases-loop
-loop-holds c = (omega arith, refl, sym (splice-nil c.before.before.args.at c.before.before.args.out.now))
+loop-holds c = (omega arith, refl, sym (splice_nil c.before.before.args.at c.before.before.args.out.now))
 
 chunk-requires : tie.Need-chunk-requires invariant-loop decreases-loop
 chunk-requires c κs = search rules
@@ -31,12 +31,12 @@ chunk-requires c κs = search rules
 cast-out : tie.Need-overflow-cast-out invariant-loop decreases-loop
 cast-out c =
     let s = c.before.before.before.before.before.args in
-    omega (arith, c.chunk.ensures, bit-small (drop (0 + c.before.before.loop.i) (bitsOfAll 64 s.words.now)))
+    omega (arith, c.chunk.ensures, bit_small (drop (0 + c.before.before.loop.i) (bits_of_all 64 s.words.now)))
 
 add-out : tie.Need-overflow-add-out invariant-loop decreases-loop
 add-out c =
     let s = c.before.before.before.before.before.args in
-    omega (arith, c.chunk.ensures, bit-small (drop (0 + c.before.before.loop.i) (bitsOfAll 64 s.words.now)))
+    omega (arith, c.chunk.ensures, bit_small (drop (0 + c.before.before.loop.i) (bits_of_all 64 s.words.now)))
 
 add-out-2 : tie.Need-overflow-add-out-2 invariant-loop decreases-loop
 add-out-2 c = search rules
@@ -59,8 +59,8 @@ loop-again c =
       omega arith,
       length-set l.out (a.at + l.i) (48 + bit) ∙ l.invariant.1,
       ap (λ (o : List ℕ). set o (a.at + l.i) (48 + bit)) l.invariant.2
-          ∙ one_more a.at l.i (48 + bit) a.out.now (digits seen) (digits-length seen ∙ view-length 0 l.i a.words.now (omega arith))
-          ∙ ap (splice a.at a.out.now) (sym (digit-next l.i bit a.words.now (omega arith) c.chunk.ensures)),
+          ∙ one_more a.at l.i (48 + bit) a.out.now (digits seen) (digits_length seen ∙ view_length 0 l.i a.words.now (omega arith))
+          ∙ ap (splice a.at a.out.now) (sym (digit_next l.i bit a.words.now (omega arith) c.chunk.ensures)),
     )
 
 add-result : tie.Need-overflow-add-result invariant-loop decreases-loop
@@ -76,8 +76,8 @@ returns c =
     let e : l.i ≡ a.n = omega arith in
     (omega arith, l.invariant.2 ∙ ap (λ (k : ℕ). splice a.at a.out.now (digits (view 0 k a.words.now))) e)
 
-pub put-digits-spec : {M : Type 1} → statement M
-put-digits-spec =
+pub put_digits_spec : {M : Type 1} → statement M
+put_digits_spec =
     tie.close
     (tie.spec
     invariant-loop

@@ -8,7 +8,7 @@ use lib.ListN.{length-append}
 use borrow.Author.Rules.{rules}
 use Rattle.rows.specs.Rows.{splice}
 use Rattle.lines.specs.Text.{decimal}
-use Rattle.text.proofs.PutLaws.{put-after}
+use Rattle.text.proofs.PutLaws.{put_after}
 use Rattle.text.proofs.put.put_line.Statement.{statement}
 use Rattle.text.proofs.put.put_line.Tie as tie
 
@@ -40,13 +40,13 @@ returns c =
       omega (arith, one.ensures.0, two.ensures.0, three.ensures.0),
       three.ensures.1
           ∙ ap (λ (o : List ℕ). splice two.result o (10 ∷ []))
-          (two.ensures.1 ∙ ap (λ (o : List ℕ). splice one.result o value) one.ensures.1 ∙ put-after a.at one.result a.out.now key value one.ensures.0)
-          ∙ put-after a.at two.result a.out.now (key ++ value) (10 ∷ []) (omega (arith, one.ensures.0, two.ensures.0)),
+          (two.ensures.1 ∙ ap (λ (o : List ℕ). splice one.result o value) one.ensures.1 ∙ put_after a.at one.result a.out.now key value one.ensures.0)
+          ∙ put_after a.at two.result a.out.now (key ++ value) (10 ∷ []) (omega (arith, one.ensures.0, two.ensures.0)),
       omega (arith, one.ensures.0, two.ensures.0, two.ensures.2, three.ensures.0),
     )
 
-pub put-line-spec : {M : Type 1} → statement M
-put-line-spec =
+pub put_line_spec : {M : Type 1} → statement M
+put_line_spec =
     tie.close
     (tie.spec
     put-bytes-requires

@@ -12,5 +12,5 @@ returns c = sym (chosen (ℕ_discrete c.before.args.refusal 0) c.before.args.n 0
 returns-2 : tie.Need-returns-2
 returns-2 c = sym (passed_over (ℕ_discrete c.before.args.refusal 0) c.before.args.n 0 c.if1.false)
 
-pub shown-spec : {M : Type 1} → statement M
-shown-spec = tie.close (tie.spec returns returns-2)
+pub shown_spec : {M : Type 1} → statement M
+shown_spec = tie.close (tie.spec returns returns-2)

@@ -9,8 +9,8 @@ use Rattle.rows.specs.Rows.{splice}
 use Rattle.rules.specs.declared.Answer.{Answer}
 use Rattle.rules.specs.Answer.{refused}
 use Rattle.lines.specs.declared.Written.{Written}
-use Rattle.lines.specs.Text.{lines_of, answerFor, text_of, withText}
-use Rattle.lines.proofs.ToldLaws.{answer-ill, text-ill, found-ill, text-front}
+use Rattle.lines.specs.Text.{lines_of, answer_for, text_of, with_text}
+use Rattle.lines.proofs.ToldLaws.{answer_ill, text_ill, found_ill, text_front}
 use Rattle.text.proofs.tell.tell.Statement.{statement}
 use Rattle.text.proofs.tell.tell.Tie as tie
 
@@ -50,13 +50,13 @@ returns c =
     let input = z.args.input.now in
     let out = z.args.out.now in
     let p = c.before.before.put-answer in
-    let ill = found-ill input (sym found.find.ensures ∙ told.enum_told.given.1) in
+    let ill = found_ill input (sym found.find.ensures ∙ told.enum_told.given.1) in
     let thirteen = refused-place.refused.ensures ∙ ap refused refused-place.before.refusal.ensures in
-    let text = ap (λ (a : Answer). lines_of a []) thirteen ∙ sym (text-ill input ill) in
-    let whole : p.result ≡ withText (answerFor input) (text_of input) = p.ensures.0 ∙ ap₂ withText (thirteen ∙ sym (answer-ill input ill)) text in
+    let text = ap (λ (a : Answer). lines_of a []) thirteen ∙ sym (text_ill input ill) in
+    let whole : p.result ≡ with_text (answer_for input) (text_of input) = p.ensures.0 ∙ ap₂ with_text (thirteen ∙ sym (answer_ill input ill)) text in
     let n : p.result.len ≡ length (text_of input) = ap (λ (w : Written). w.len) whole in (
       whole,
-      ap (take p.result.len) (p.ensures.1 ∙ ap (splice 0 out) text) ∙ text-front (text_of input) out p.result.len n (omega (arith, p.ensures.2, z.requires)),
+      ap (take p.result.len) (p.ensures.1 ∙ ap (splice 0 out) text) ∙ text_front (text_of input) out p.result.len n (omega (arith, p.ensures.2, z.requires)),
       omega (arith, p.ensures.2),
     )
 
@@ -70,10 +70,10 @@ returns-2 c =
     let out = z.args.out.now in
     let t = c.before.before.tell-masks in
     let n : t.result.len ≡ length (text_of input) = ap (λ (w : Written). w.len) t.ensures.0 in
-    (t.ensures.0, ap (take t.result.len) t.ensures.1 ∙ text-front (text_of input) out t.result.len n (omega (arith, t.ensures.2, z.requires)), t.ensures.2)
+    (t.ensures.0, ap (take t.result.len) t.ensures.1 ∙ text_front (text_of input) out t.result.len n (omega (arith, t.ensures.2, z.requires)), t.ensures.2)
 
-pub tell-spec : {M : Type 1} → statement M
-tell-spec =
+pub tell_spec : {M : Type 1} → statement M
+tell_spec =
     tie.close
     (tie.spec
     find-requires

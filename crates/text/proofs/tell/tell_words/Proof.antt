@@ -9,10 +9,10 @@ use Rattle.rows.specs.Rows.{count, splice}
 use Rattle.rows.specs.Words.{view}
 use Rattle.rules.specs.declared.Form.{Form}
 use Rattle.rules.specs.Route.{published}
-use Rattle.rules.specs.Compose.{composed, composedOut}
+use Rattle.rules.specs.Compose.{composed, composed_out}
 use Rattle.rules.specs.Operand.{lent}
-use Rattle.lines.specs.Text.{withText}
-use Rattle.lines.proofs.ToldLaws.{rows-ignored, rows-ignored-out, words-answered, words-told}
+use Rattle.lines.specs.Text.{with_text}
+use Rattle.lines.proofs.ToldLaws.{rows_ignored, rows_ignored_out, words_answered, words_told}
 use Rattle.text.proofs.tell.tell_words.Statement.{statement}
 use Rattle.text.proofs.tell.tell_words.Tie as tie
 
@@ -54,16 +54,16 @@ returns c =
     let out = a.words.now in
     let one = c.before.before.before.before.before.before.before.before.before.before.before.before.operand.ensures in
     let two = c.before.before.before.before.before.before.before.before.before.before.operand2.ensures in
-    let answer = i.ensures.0 ∙ ap₂ (λ (f g : Form). composed published (lent f sws es) (lent g rws es) out) one two ∙ rows-ignored a.s (count (view 0 a.s sws)) a.r (count (view 0 a.r rws)) sws rws es es out in
-    let left = i.ensures.1 ∙ ap₂ (λ (f g : Form). composedOut (lent f sws es) (lent g rws es) out) one two ∙ rows-ignored-out a.s (count (view 0 a.s sws)) a.r (count (view 0 a.r rws)) sws rws es es out in
-    let e = words-told sws a.s rws a.r out i.result i.new.1.1.1.1.1.1.0 answer left in (
-      p.ensures.0 ∙ ap₂ withText (words-answered sws a.s rws a.r out i.result answer) e,
+    let answer = i.ensures.0 ∙ ap₂ (λ (f g : Form). composed published (lent f sws es) (lent g rws es) out) one two ∙ rows_ignored a.s (count (view 0 a.s sws)) a.r (count (view 0 a.r rws)) sws rws es es out in
+    let left = i.ensures.1 ∙ ap₂ (λ (f g : Form). composed_out (lent f sws es) (lent g rws es) out) one two ∙ rows_ignored_out a.s (count (view 0 a.s sws)) a.r (count (view 0 a.r rws)) sws rws es es out in
+    let e = words_told sws a.s rws a.r out i.result i.new.1.1.1.1.1.1.0 answer left in (
+      p.ensures.0 ∙ ap₂ with_text (words_answered sws a.s rws a.r out i.result answer) e,
       p.ensures.1 ∙ ap (splice 0 a.out.now) e,
       omega (arith, p.ensures.2, z.requires.0),
     )
 
-pub tell-words-spec : {M : Type 1} → statement M
-tell-words-spec =
+pub tell_words_spec : {M : Type 1} → statement M
+tell_words_spec =
     tie.close
     (tie.spec
     operand-requires

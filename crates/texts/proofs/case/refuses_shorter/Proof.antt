@@ -50,8 +50,8 @@ untouched-requires c κs = search rules
 returns-4 : tie.Need-returns-4
 returns-4 c = search rules
 
-pub refuses-shorter-spec : {M : Type 1} → statement M
-refuses-shorter-spec =
+pub refuses_shorter_spec : {M : Type 1} → statement M
+refuses_shorter_spec =
     tie.close
     (tie.spec
     returns

@@ -4,7 +4,7 @@ use mathlib.Core.Path.{sym}
 use native.Mathlib.Omega.{arith}
 use lib.Seq.{length-take-le}
 use borrow.Author.Rules.{rules}
-use Rattle.lines.proofs.Theorems.{written-within}
+use Rattle.lines.proofs.Theorems.{written_within}
 use Rattle.texts.proofs.case.tells.Statement.{statement}
 use Rattle.texts.proofs.case.tells.Tie as tie
 
@@ -17,12 +17,12 @@ answer-requires c κs = search rules
 array-share-prefix-out : tie.Need-array-share-prefix-out
 array-share-prefix-out c =
     let a = c.before.answer in
-    omega (arith, written-within _ _ a.result a.ensures.0, a.auto.1.0)
+    omega (arith, written_within _ _ a.result a.ensures.0, a.auto.1.0)
 
 slice-aggregate-same : tie.Need-slice-aggregate-same
 slice-aggregate-same c =
     let a = c.before.before.answer in
-    sym (length-take-le a.result.len a.new.1.0 (omega (arith, written-within _ _ a.result a.ensures.0, a.auto.1.0)))
+    sym (length-take-le a.result.len a.new.1.0 (omega (arith, written_within _ _ a.result a.ensures.0, a.auto.1.0)))
 
 same-requires : tie.Need-same-requires
 same-requires c κs = search rules
@@ -33,12 +33,12 @@ returns c = search rules
 sub-untouched : tie.Need-overflow-sub-untouched
 sub-untouched c =
     let a = c.before.before.before.before.answer in
-    omega (arith, written-within _ _ a.result a.ensures.0, a.auto.1.0)
+    omega (arith, written_within _ _ a.result a.ensures.0, a.auto.1.0)
 
 part-untouched-start : tie.Need-slice-bounds-untouched-start
 part-untouched-start c =
     let a = c.before.before.before.before.before.answer in
-    omega (arith, written-within _ _ a.result a.ensures.0, a.auto.1.0)
+    omega (arith, written_within _ _ a.result a.ensures.0, a.auto.1.0)
 
 part-untouched-end : tie.Need-slice-bounds-untouched-end
 part-untouched-end c = search rules
@@ -49,8 +49,8 @@ untouched-requires c κs = search rules
 returns-2 : tie.Need-returns-2
 returns-2 c = search rules
 
-pub tells-spec : {M : Type 1} → statement M
-tells-spec =
+pub tells_spec : {M : Type 1} → statement M
+tells_spec =
     tie.close
     (tie.spec
     slice-aggregate-answer

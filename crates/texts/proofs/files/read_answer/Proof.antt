@@ -52,8 +52,8 @@ same_length c = search rules
 returns : tie.Need-returns
 returns c = search rules
 
-pub read-answer-spec : {M : Type 1} → statement M
-read-answer-spec =
+pub read_answer_spec : {M : Type 1} → statement M
+read_answer_spec =
     tie.close
     (tie.spec
     slice-aggregate-copy

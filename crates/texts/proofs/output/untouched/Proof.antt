@@ -33,8 +33,8 @@ loop-again c = search rules
 returns-2 : tie.Need-returns-2 invariant-loop decreases-loop
 returns-2 c = search rules
 
-pub untouched-spec : {M : Type 1} → statement M
-untouched-spec =
+pub untouched_spec : {M : Type 1} → statement M
+untouched_spec =
     tie.close
     (tie.spec
     invariant-loop

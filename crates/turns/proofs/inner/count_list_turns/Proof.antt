@@ -7,13 +7,13 @@ use native.Mathlib.Omega.{arith}
 use lib.ListN.{length, drop, get_or}
 use borrow.Author.Rules.{rules}
 use Rattle.rows.specs.Lists.{listed}
-use Rattle.rows.specs.Runs.{runsOf}
-use Rattle.turns.proofs.ListTurnLaws.{gaps, listTurns, runs-listed, turns-few, list-short, list-below, turns-first, gaps-end, count_next}
+use Rattle.rows.specs.Runs.{runs_of}
+use Rattle.turns.proofs.ListTurnLaws.{gaps, list_turns, runs_listed, turns_few, list_short, list_below, turns_first, gaps_end, count_next}
 use Rattle.turns.proofs.inner.count_list_turns.Statement.{statement}
 use Rattle.turns.proofs.inner.count_list_turns.Tie as tie
 
 abbrev invariant-loop : tie.invariant-loop
-invariant-loop rows len past₀ sum₀ i₀ past sum i = (i ≤ length rows) × (sum + length (gaps past (drop i rows)) ≡ length (listTurns rows))
+invariant-loop rows len past₀ sum₀ i₀ past sum i = (i ≤ length rows) × (sum + length (gaps past (drop i rows)) ≡ length (list_turns rows))
 
 abbrev decreases-loop : tie.decreases-loop
 decreases-loop rows len past₀ sum₀ i₀ past sum i = length rows - i
@@ -32,14 +32,14 @@ module _ (c : tie.Start invariant-loop decreases-loop) where
   abbrev list : List ℕ
   list = c.args.rows.now
 
-  all : length (runsOf (listed c.args.len list)) ≡ length (listTurns list)
-  all = ap length (runs-listed c.args.len list c.requires.1)
+  all : length (runs_of (listed c.args.len list)) ≡ length (list_turns list)
+  all = ap length (runs_listed c.args.len list c.requires.1)
 
-  few : length (listTurns list) ≤ 2097152
-  few = omega (arith, turns-few list, list-short c.args.len list c.requires.1)
+  few : length (list_turns list) ≤ 2097152
+  few = omega (arith, turns_few list, list_short c.args.len list c.requires.1)
 
   below : (i : ℕ) → i < length list → get_or list i 0 < 1048576
-  below i h = omega (arith, list-below c.args.len list i c.requires.1 h)
+  below i h = omega (arith, list_below c.args.len list i c.requires.1 h)
 
 -- a turn: what is left once its entry is passed
 module _ (c : tie.After-gap invariant-loop decreases-loop) where
@@ -49,7 +49,7 @@ module _ (c : tie.After-gap invariant-loop decreases-loop) where
   abbrev entry : ℕ
   entry = get_or (list at) (head c).loop.i 0
 
-  next : (head c).loop.sum + c.gap.result + length (gaps (entry + 1) (drop ((head c).loop.i + 1) (list at))) ≡ length (listTurns (list at))
+  next : (head c).loop.sum + c.gap.result + length (gaps (entry + 1) (drop ((head c).loop.i + 1) (list at))) ≡ length (list_turns (list at))
   next =
       let l = (head c).loop in
       omega (arith, c.gap.ensures, l.inv.1, count_next l.sum l.past l.i (list at) (omega arith))
@@ -59,7 +59,7 @@ module _ (c : tie.After-gap invariant-loop decreases-loop) where
 returns : tie.Need-returns invariant-loop decreases-loop
 returns c =
     let s = c.before.before in
-    omega (arith, all s, turns-few (list s))
+    omega (arith, all s, turns_few (list s))
 
 shared-slice-read-past : tie.Need-shared-slice-read-past invariant-loop decreases-loop
 shared-slice-read-past c = omega arith
@@ -68,7 +68,7 @@ add-past : tie.Need-overflow-add-past invariant-loop decreases-loop
 add-past c = omega (arith, below (start c) 0 (omega arith))
 
 loop-holds : tie.Need-loop-init invariant-loop decreases-loop
-loop-holds c = (omega arith, omega (arith, ap length (turns-first (list (start c)) (omega arith))))
+loop-holds c = (omega arith, omega (arith, ap length (turns_first (list (start c)) (omega arith))))
 
 mul-row : tie.Need-overflow-mul-row invariant-loop decreases-loop
 mul-row c = search rules
@@ -95,10 +95,10 @@ loop-again : tie.Need-loop-preserved invariant-loop decreases-loop
 loop-again c = (omega arith, next c)
 
 -- nothing is left but the last run's end
-ended : (c : tie.After-loop invariant-loop decreases-loop) → c.before.loop.sum + 1 ≡ length (listTurns (list (start c.before.before)))
+ended : (c : tie.After-loop invariant-loop decreases-loop) → c.before.loop.sum + 1 ≡ length (list_turns (list (start c.before.before)))
 ended c =
     let l = c.before.loop in
-    omega (arith, l.invariant.1, ap length (gaps-end l.past l.i (list (start c.before.before)) (omega arith)))
+    omega (arith, l.invariant.1, ap length (gaps_end l.past l.i (list (start c.before.before)) (omega arith)))
 
 add-result : tie.Need-overflow-add-result invariant-loop decreases-loop
 add-result c = omega (arith, ended c, few (start c.before.before))
@@ -106,8 +106,8 @@ add-result c = omega (arith, ended c, few (start c.before.before))
 returns-2 : tie.Need-returns-2 invariant-loop decreases-loop
 returns-2 c = ended c ∙ sym (all (start c.before.before))
 
-pub count-list-turns-spec : {M : Type 1} → statement M
-count-list-turns-spec =
+pub count_list_turns_spec : {M : Type 1} → statement M
+count_list_turns_spec =
     tie.close
     (tie.spec
     invariant-loop

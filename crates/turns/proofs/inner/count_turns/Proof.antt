@@ -10,9 +10,9 @@ use lib.Count.{ones}
 use Rattle.rows.specs.Word.{word_of}
 use Rattle.rows.specs.Words.{view}
 use Rattle.rows.specs.Edges.{edges}
-use Rattle.rows.proofs.RowLaws.{count-take-le}
-use Rattle.rows.proofs.WordsLaws.{view-length}
-use Rattle.turns.proofs.TurnedLaws.{Counted, counted_none, carry-small, view-word, found-ones, counted_next, counted-all}
+use Rattle.rows.proofs.RowLaws.{count_take_le}
+use Rattle.rows.proofs.WordsLaws.{view_length}
+use Rattle.turns.proofs.TurnedLaws.{Counted, counted_none, carry_small, view_word, found_ones, counted_next, counted_all}
 use Rattle.turns.proofs.inner.count_turns.Statement.{statement}
 use Rattle.turns.proofs.inner.count_turns.Tie as tie
 
@@ -43,11 +43,11 @@ module _ (c : tie.At-loop invariant-loop decreases-loop) where
   rows = view (start c).args.start (start c).args.len (start c).args.words.now
 
   long : length rows ≡ (start c).args.len
-  long = view-length (start c).args.start (start c).args.len (start c).args.words.now (start c).requires.2
+  long = view_length (start c).args.start (start c).args.len (start c).args.words.now (start c).requires.2
 
   -- no more numbers than rows
   few : c.loop.sum ≤ c.loop.row
-  few = omega (arith, c.loop.invariant.1.passed, count-take-le c.loop.row (edges false rows))
+  few = omega (arith, c.loop.invariant.1.passed, count_take_le c.loop.row (edges false rows))
 
 -- a turn's rows, and the word of them
 module _ (c : tie.After-chunk-len invariant-loop decreases-loop) where
@@ -67,7 +67,7 @@ word : (c : tie.After-chunk invariant-loop decreases-loop) → c.chunk.result �
 word c =
     let t = sized c in
     let a = (start (head t)).args in
-    view-word a.start (row t) (n t) a.len c.chunk.result a.words.now (omega (arith, room t, long (head t))) (start (head t)).pre.2
+    view_word a.start (row t) (n t) a.len c.chunk.result a.words.now (omega (arith, room t, long (head t))) (start (head t)).pre.2
     c.chunk.ensures
 
 -- the turn counted
@@ -79,7 +79,7 @@ module _ (c : tie.After-edge-word invariant-loop decreases-loop) where
   next = row (sized (read c)) + n (sized (read c))
 
   abbrev found : ℕ
-  found = ones c.edge-word.result
+  found = ones c.edge_word.result
 
   counted : Counted (rows here) next (here.loop.sum + found) ((read c).chunk.result / 2 ^ (n (sized (read c)) - 1))
   counted =
@@ -87,10 +87,10 @@ module _ (c : tie.After-edge-word invariant-loop decreases-loop) where
       let l = here.loop in
       let x : ℕ = (read c).chunk.result in
       counted_next (rows here) (row t) (n t) l.sum l.carry x l.inv.1 (some t) (room t) (word (read c)) found
-      (found-ones (rows here) (row t) (n t) l.sum l.carry x l.inv.1 (some t) (room t) (word (read c)) c.edge-word.result c.edge-word.ensures)
+      (found_ones (rows here) (row t) (n t) l.sum l.carry x l.inv.1 (some t) (room t) (word (read c)) c.edge_word.result c.edge_word.ensures)
 
-  few-more : here.loop.sum + found ≤ next
-  few-more = omega (arith, counted.passed, count-take-le next (edges false (rows here)))
+  few_more : here.loop.sum + found ≤ next
+  few_more = omega (arith, counted.passed, count_take_le next (edges false (rows here)))
 
 -- ---- the answers
 
@@ -107,13 +107,13 @@ edge-word-requires : tie.Need-edge-word-requires invariant-loop decreases-loop
 edge-word-requires c κs =
     let t = sized c in
     let l = (head t).loop in
-    ((some t, omega (arith, t.chunk-len.ensures)), carry-small (rows (head t)) l.row l.sum l.carry l.inv.1)
+    ((some t, omega (arith, t.chunk-len.ensures)), carry_small (rows (head t)) l.row l.sum l.carry l.inv.1)
 
 cast-found : tie.Need-overflow-cast-found invariant-loop decreases-loop
-cast-found c = omega (arith, few-more c)
+cast-found c = omega (arith, few_more c)
 
 add-sum : tie.Need-overflow-add-sum invariant-loop decreases-loop
-add-sum c = omega (arith, few-more c, room (sized (read c)), long (here c))
+add-sum c = omega (arith, few_more c, room (sized (read c)), long (here c))
 
 sub-carry : tie.Need-overflow-sub-carry invariant-loop decreases-loop
 sub-carry c = omega (arith, some (sized (read c)))
@@ -133,15 +133,15 @@ loop-again c = (omega (arith, room (sized (read c)), long (here c)), counted c)
 add-result : tie.Need-overflow-add-result invariant-loop decreases-loop
 add-result c =
     let h = c.before in
-    omega (arith, few h, carry-small (rows h) h.loop.row h.loop.sum h.loop.carry h.loop.invariant.1)
+    omega (arith, few h, carry_small (rows h) h.loop.row h.loop.sum h.loop.carry h.loop.invariant.1)
 
 returns : tie.Need-returns invariant-loop decreases-loop
 returns c =
     let h = c.before in
-    counted-all (rows h) h.loop.row h.loop.sum h.loop.carry h.loop.invariant.1 (omega (arith, long h))
+    counted_all (rows h) h.loop.row h.loop.sum h.loop.carry h.loop.invariant.1 (omega (arith, long h))
 
-pub count-turns-spec : {M : Type 1} → statement M
-count-turns-spec =
+pub count_turns_spec : {M : Type 1} → statement M
+count_turns_spec =
     tie.close
     (tie.spec
     invariant-loop

@@ -5,7 +5,7 @@ use mathlib.Core.Path.{ap, ◌∙◌}
 use native.Mathlib.Omega.{arith}
 use lib.Bits.{bit_and, bit_or, bit_xor}
 use borrow.Author.Rules.{rules}
-use Rattle.rows.proofs.TurnLaws.{edge-word}
+use Rattle.rows.proofs.TurnLaws.{edge_word}
 use Rattle.turns.proofs.inner.edge_word.Statement.{statement}
 use Rattle.turns.proofs.inner.edge_word.Tie as tie
 
@@ -16,7 +16,7 @@ returns : tie.Need-returns
 returns c =
     let a = c.before.args in
     let x : ℕ = a.chunk in
-    ap (bit_and (bit_xor x (bit_or (x * 2 % 2 ^ 64) a.carry))) c.ones.ensures ∙ edge-word 64 a.n x a.carry (omega arith) (omega arith)
+    ap (bit_and (bit_xor x (bit_or (x * 2 % 2 ^ 64) a.carry))) c.ones.ensures ∙ edge_word 64 a.n x a.carry (omega arith) (omega arith)
 
-pub edge-word-spec : {M : Type 1} → statement M
-edge-word-spec = tie.close (tie.spec ones-requires returns)
+pub edge_word_spec : {M : Type 1} → statement M
+edge_word_spec = tie.close (tie.spec ones-requires returns)

@@ -2,7 +2,7 @@
 -- By the laws of what stands between an entry and the next. Assumes nothing.
 use mathlib.Core.Path.{sym, ap}
 use lib.ListN.{length}
-use Rattle.turns.proofs.ListTurnLaws.{between_none, between-two}
+use Rattle.turns.proofs.ListTurnLaws.{between_none, between_two}
 use Rattle.turns.proofs.inner.gap.Statement.{statement}
 use Rattle.turns.proofs.inner.gap.Tie as tie
 
@@ -10,7 +10,7 @@ returns : tie.Need-returns
 returns c = sym (ap length (between_none c.before.args.past c.before.args.row c.if1.true))
 
 returns-2 : tie.Need-returns-2
-returns-2 c = sym (ap length (between-two c.before.args.past c.before.args.row c.if1.false))
+returns-2 c = sym (ap length (between_two c.before.args.past c.before.args.row c.if1.false))
 
-pub gap-spec : {M : Type 1} → statement M
-gap-spec = tie.close (tie.spec returns returns-2)
+pub gap_spec : {M : Type 1} → statement M
+gap_spec = tie.close (tie.spec returns returns-2)

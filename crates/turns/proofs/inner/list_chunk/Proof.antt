@@ -10,12 +10,12 @@ use lib.Bits.{and_le_l}
 use lib.Count.{trailing_le}
 use Rattle.rows.specs.Rows.{count, splice}
 use Rattle.rows.specs.Word.{bits_of}
-use Rattle.rows.specs.Lists.{setRows}
-use Rattle.rows.proofs.SpliceLaws.{splice-nil}
-use Rattle.rows.proofs.ListLaws.{rows-count}
+use Rattle.rows.specs.Lists.{set_rows}
+use Rattle.rows.proofs.SpliceLaws.{splice_nil}
+use Rattle.rows.proofs.ListLaws.{rows_count}
 use Rattle.rows.proofs.ClearLaws.{count_low}
-use Rattle.rows.proofs.PartLaws.{rows-zero}
-use Rattle.turns.proofs.WrittenLaws.{bit-turn}
+use Rattle.rows.proofs.PartLaws.{rows_zero}
+use Rattle.turns.proofs.WrittenLaws.{bit_turn}
 use borrow.Author.Rules.{rules}
 use Rattle.turns.proofs.inner.list_chunk.Statement.{statement}
 use Rattle.turns.proofs.inner.list_chunk.Tie as tie
@@ -23,7 +23,7 @@ use Rattle.turns.proofs.inner.list_chunk.Tie as tie
 abbrev invariant-loop : tie.invariant-loop
 invariant-loop chunk base k out₀ rest₀ p₀ out rest p =
     (rest < 2 ^ 64) × (length out ≡ length out₀) × (p + count (bits_of 64 rest) ≡ k + count (bits_of 64 chunk))
-    × (splice p out (setRows base (bits_of 64 rest)) ≡ splice k out₀ (setRows base (bits_of 64 chunk)))
+    × (splice p out (set_rows base (bits_of 64 rest)) ≡ splice k out₀ (set_rows base (bits_of 64 chunk)))
 
 abbrev decreases-loop : tie.decreases-loop
 decreases-loop chunk base k out₀ rest₀ p₀ out rest p = count (bits_of 64 rest)
@@ -58,7 +58,7 @@ loop-again c =
       omega (arith, and_le_l l.rest (l.rest - 1)),
       length-set l.out l.p _ ∙ l.invariant.1,
       omega arith,
-      rw (add-one l.p) (bit-turn 64 a.base l.rest l.p l.out pos l.invariant.0 (omega arith) ∙ l.invariant.3),
+      rw (add-one l.p) (bit_turn 64 a.base l.rest l.p l.out pos l.invariant.0 (omega arith) ∙ l.invariant.3),
     )
 
 same_length : tie.Need-same-length invariant-loop decreases-loop
@@ -68,12 +68,12 @@ returns : tie.Need-returns invariant-loop decreases-loop
 returns c =
     let a = c.before.before.args in
     let l = c.before.loop in
-    let z : setRows a.base (bits_of 64 l.rest) ≡ [] = ap (λ (x : ℕ). setRows a.base (bits_of 64 x)) c.loop-test.false ∙ rows-zero a.base 64 in
-    let n : count (bits_of 64 l.rest) ≡ 0 = sym (rows-count a.base (bits_of 64 l.rest)) ∙ ap length z in
-    (omega arith, sym (splice-nil l.p l.out) ∙ ap (splice l.p l.out) (sym z) ∙ l.invariant.3)
+    let z : set_rows a.base (bits_of 64 l.rest) ≡ [] = ap (λ (x : ℕ). set_rows a.base (bits_of 64 x)) c.loop-test.false ∙ rows_zero a.base 64 in
+    let n : count (bits_of 64 l.rest) ≡ 0 = sym (rows_count a.base (bits_of 64 l.rest)) ∙ ap length z in
+    (omega arith, sym (splice_nil l.p l.out) ∙ ap (splice l.p l.out) (sym z) ∙ l.invariant.3)
 
-pub list-chunk-spec : {M : Type 1} → statement M
-list-chunk-spec =
+pub list_chunk_spec : {M : Type 1} → statement M
+list_chunk_spec =
     tie.close
     (tie.spec
     invariant-loop

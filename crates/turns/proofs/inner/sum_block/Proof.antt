@@ -5,10 +5,10 @@ use mathlib.Core.Path.{◌≡◌, refl}
 use mathlib.Core.List.{List}
 use native.Mathlib.Omega.{arith}
 use lib.ListN.{length, drop}
-use Rattle.rows.specs.Runs.{runLengths}
-use Rattle.rows.proofs.RunLaws.{runs-few}
+use Rattle.rows.specs.Runs.{run_lengths}
+use Rattle.rows.proofs.RunLaws.{runs_few}
 use Rattle.rows.proofs.RunTurnLaws.{NextRun, lengths_none}
-use Rattle.turns.proofs.SumLaws.{Exceeds, Adding, adding-none, adding-fits, adding-next, adding-run, adding-all, lengths-less}
+use Rattle.turns.proofs.SumLaws.{Exceeds, Adding, adding_none, adding_fits, adding_next, adding_run, adding_all, lengths_less}
 use borrow.Author.Rules.{rules}
 use Rattle.turns.proofs.inner.sum_block.Statement.{statement}
 use Rattle.turns.proofs.inner.sum_block.Tie as tie
@@ -21,8 +21,8 @@ abbrev decreases-loop : tie.decreases-loop
 decreases-loop runs half one₀ other₀ i₀ one other i = half - i
 
 -- on numbers: of an even number before an even half there are two more to it
-two-more : (len i : ℕ) → len % 4 ≡ 0 → i % 2 ≡ 0 → i < len / 2 → i + 2 ≤ len / 2
-two-more len i h k l =
+two_more : (len i : ℕ) → len % 4 ≡ 0 → i % 2 ≡ 0 → i < len / 2 → i + 2 ≤ len / 2
+two_more len i h k l =
     let fours : len / 2 ≡ len / 4 * 2 = omega arith in
     let twos : i ≡ i / 2 * 2 = omega arith in
     let before : i / 2 < len / 4 = omega (arith, fours, twos) in
@@ -72,24 +72,24 @@ module _ (c : tie.In-loop invariant-loop decreases-loop) where
       let l = (head c).loop.invariant in
       let p = s.pre in
       let inside : i < half = omega (arith, l.0) in
-      let two = two-more (length runs) i p.0 l.2 inside in
+      let two = two_more (length runs) i p.0 l.2 inside in
       (inside, omega (arith, two), two, omega (arith, two, p.1))
 
   run : NextRun (head c).loop.invariant.3.from 1048576 i runs
-  run = adding-next runs 0 i (head c).loop.one (head c).loop.invariant.3 i (omega arith) (omega (arith, within))
+  run = adding_next runs 0 i (head c).loop.one (head c).loop.invariant.3 i (omega arith) (omega (arith, within))
 
 more : (c : tie.After-packed invariant-loop decreases-loop) → Adding (runs (turn c)) 0 (i (turn c) + 2) ((head (turn c)).loop.one + c.packed.result)
 more c =
     let t = turn c in
-    adding-run (runs t) 0 (i t) (head t).loop.one (head t).loop.inv.3 (i t) (omega arith) (omega (arith, within t)) c.packed.result c.packed.ensures
+    adding_run (runs t) 0 (i t) (head t).loop.one (head t).loop.inv.3 (i t) (omega arith) (omega (arith, within t)) c.packed.result c.packed.ensures
 
 module _ (c : tie.After-packed2 invariant-loop decreases-loop) where
   abbrev here : tie.In-loop invariant-loop decreases-loop
   here = turn (one-packed c)
 
-  other-more : Adding (runs here) (half here) (i here + 2) ((head here).loop.other + c.packed2.result)
-  other-more =
-      adding-run (runs here) (half here) (i here) (head here).loop.other (head here).loop.inv.4 (half here + i here) (omega arith)
+  other_more : Adding (runs here) (half here) (i here + 2) ((head here).loop.other + c.packed2.result)
+  other_more =
+      adding_run (runs here) (half here) (i here) (head here).loop.other (head here).loop.inv.4 (half here + i here) (omega arith)
       (omega (arith, within here)) c.packed2.result c.packed2.ensures
 
 -- ---- the answers
@@ -98,7 +98,7 @@ loop-holds : tie.Need-loop-init invariant-loop decreases-loop
 loop-holds c =
     let e = c.before in
     let runs = e.args.runs.now in
-    (refl, omega arith, omega arith, adding-none runs 0 (omega arith) e.requires.2, adding-none runs (length runs / 2) (omega (arith, e.requires.0)) e.requires.2)
+    (refl, omega arith, omega arith, adding_none runs 0 (omega arith) e.requires.2, adding_none runs (length runs / 2) (omega (arith, e.requires.0)) e.requires.2)
 
 mul-packed : tie.Need-overflow-mul-packed invariant-loop decreases-loop
 mul-packed c = omega (arith, within c)
@@ -121,7 +121,7 @@ packed-requires c κs = search rules
 add-one : tie.Need-overflow-add-one invariant-loop decreases-loop
 add-one c =
     let t = turn c in
-    omega (arith, adding-fits (runs t) 0 (i t + 2) ((head t).loop.one + c.packed.result) (more c) (within t).3)
+    omega (arith, adding_fits (runs t) 0 (i t + 2) ((head t).loop.one + c.packed.result) (more c) (within t).3)
 
 add-packed-2 : tie.Need-overflow-add-packed-2 invariant-loop decreases-loop
 add-packed-2 c = omega (arith, within (turn c))
@@ -150,7 +150,7 @@ packed-requires-2 c κs = search rules
 add-other : tie.Need-overflow-add-other invariant-loop decreases-loop
 add-other c =
     let t = here c in
-    omega (arith, adding-fits (runs t) (half t) (i t + 2) ((head t).loop.other + c.packed2.result) (other-more c) (within t).3)
+    omega (arith, adding_fits (runs t) (half t) (i t + 2) ((head t).loop.other + c.packed2.result) (other_more c) (within t).3)
 
 add-i : tie.Need-overflow-add-i invariant-loop decreases-loop
 add-i c = omega (arith, within (here c))
@@ -161,7 +161,7 @@ loop-less c = omega (arith, within (here c))
 loop-again : tie.Need-loop-preserved invariant-loop decreases-loop
 loop-again c =
     let t = here c in
-    ((head t).loop.inv.0, omega (arith, within t), omega (arith, (head t).loop.inv.2), more (one-packed c), other-more c)
+    ((head t).loop.inv.0, omega (arith, within t), omega (arith, (head t).loop.inv.2), more (one-packed c), other_more c)
 
 -- ---- all added
 
@@ -180,40 +180,40 @@ module _ (c : tie.After-loop invariant-loop decreases-loop) where
       let p = (start h).pre in
       (omega (arith, h.loop.inv.0, h.loop.inv.1), omega (arith, p.1), omega (arith, p.0), omega (arith, p.0))
 
-  one-all : Exceeds block 0 middle h.loop.one
-  one-all =
-      adding-all block 0 h.loop.i h.loop.one h.loop.inv.3 middle (omega (arith, done)) (omega (arith, done))
-      (lengths-less middle block done.2 (start h).pre.2)
+  one_all : Exceeds block 0 middle h.loop.one
+  one_all =
+      adding_all block 0 h.loop.i h.loop.one h.loop.inv.3 middle (omega (arith, done)) (omega (arith, done))
+      (lengths_less middle block done.2 (start h).pre.2)
 
-  none : runLengths (drop (length block) block) ≡ 0
+  none : run_lengths (drop (length block) block) ≡ 0
   none = lengths_none (length block) block (omega arith)
 
-  other-all : Exceeds block middle (length block) h.loop.other
-  other-all =
-      adding-all block middle h.loop.i h.loop.other h.loop.inv.4 (length block) (omega (arith, done)) (omega (arith, done))
+  other_all : Exceeds block middle (length block) h.loop.other
+  other_all =
+      adding_all block middle h.loop.i h.loop.other h.loop.inv.4 (length block) (omega (arith, done)) (omega (arith, done))
       (omega (arith, none))
 
 excess-requires : tie.Need-excess-requires invariant-loop decreases-loop
-excess-requires c κs = (one-all c).0
+excess-requires c κs = (one_all c).0
 
 excess-requires-2 : tie.Need-excess-requires-2 invariant-loop decreases-loop
-excess-requires-2 c κs = (other-all c.before).0
+excess-requires-2 c κs = (other_all c.before).0
 
-both : (c : tie.After-excess2 invariant-loop decreases-loop) → c.before.excess.result + c.excess2.result ≡ runLengths (block c.before.before)
+both : (c : tie.After-excess2 invariant-loop decreases-loop) → c.before.excess.result + c.excess2.result ≡ run_lengths (block c.before.before)
 both c =
     let l = c.before.before in
-    omega (arith, c.before.excess.ensures, (one-all l).1, c.excess2.ensures, (other-all l).1, none l)
+    omega (arith, c.before.excess.ensures, (one_all l).1, c.excess2.ensures, (other_all l).1, none l)
 
 add-result : tie.Need-overflow-add-result invariant-loop decreases-loop
 add-result c =
     let l = c.before.before in
-    omega (arith, both c, runs-few 0 1048576 (block l) (start (h l)).pre.2 (omega arith))
+    omega (arith, both c, runs_few 0 1048576 (block l) (start (h l)).pre.2 (omega arith))
 
 returns : tie.Need-returns invariant-loop decreases-loop
 returns c = both c
 
-pub sum-block-spec : {M : Type 1} → statement M
-sum-block-spec =
+pub sum_block_spec : {M : Type 1} → statement M
+sum_block_spec =
     tie.close
     (tie.spec
     invariant-loop

@@ -5,18 +5,18 @@ use mathlib.Core.Path.{◌≡◌, refl, subst}
 use mathlib.Core.List.{List}
 use native.Mathlib.Omega.{arith}
 use lib.ListN.{length, take, drop, get_or, length-take, length-drop}
-use Rattle.rows.specs.Runs.{runLengths}
-use Rattle.rows.proofs.RunLaws.{apart-even, runs-few}
+use Rattle.rows.specs.Runs.{run_lengths}
+use Rattle.rows.proofs.RunLaws.{apart_even, runs_few}
 use Rattle.rows.proofs.RunTurnLaws.{NextRun}
 use Rattle.turns.proofs.SumLaws.{
   Summing,
-  summing-none,
+  summing_none,
   part_apart,
-  summing-part,
-  summing-few,
-  summing-all,
-  summing-next,
-  summing-last,
+  summing_part,
+  summing_few,
+  summing_all,
+  summing_next,
+  summing_last,
 }
 use Rattle.turns.proofs.inner.sum_runs.Statement.{statement}
 use Rattle.turns.proofs.inner.sum_runs.Tie as tie
@@ -79,7 +79,7 @@ more : (c : tie.After-sum-block invariant-loop decreases-loop) → Summing (runs
 more c =
     let t = added c in
     let l = (head t).loop in
-    summing-part (runs t) (i t) l.sum l.inv.3 (past t) (omega (arith, sized t)) (even t) c.sum-block.result c.sum-block.ensures
+    summing_part (runs t) (i t) l.sum l.inv.3 (past t) (omega (arith, sized t)) (even t) c.sum-block.result c.sum-block.ensures
 
 -- ---- the run that has no pair
 
@@ -93,7 +93,7 @@ module _ (c : tie.Else1 invariant-loop decreases-loop) where
   -- there is one more, and no more
   left : (paired < length all) × (length all ≤ paired + 2)
   left =
-      let e = apart-even 0 1048576 all (start (last c)).pre in
+      let e = apart_even 0 1048576 all (start (last c)).pre in
       (omega (arith, (last c).loop.invariant.2, e), omega (arith, e))
 
   summed : Summing all paired (last c).loop.sum
@@ -103,10 +103,10 @@ module _ (c : tie.Else1 invariant-loop decreases-loop) where
       subst (λ (k : ℕ). Summing all k l.sum) done l.inv.3
 
   single : NextRun 0 1048576 paired all
-  single = summing-next all paired (last c).loop.sum summed left.0
+  single = summing_next all paired (last c).loop.sum summed left.0
 
-  total : (last c).loop.sum + (get_or all (paired + 1) 0 - get_or all paired 0) ≡ runLengths all
-  total = summing-last all paired (last c).loop.sum summed left.0 left.1
+  total : (last c).loop.sum + (get_or all (paired + 1) 0 - get_or all paired 0) ≡ run_lengths all
+  total = summing_last all paired (last c).loop.sum summed left.0 left.1
 
 -- ---- the answers
 
@@ -114,7 +114,7 @@ mul-paired : tie.Need-overflow-mul-paired invariant-loop decreases-loop
 mul-paired c = omega arith
 
 loop-holds : tie.Need-loop-init invariant-loop decreases-loop
-loop-holds c = (omega arith, omega arith, refl, summing-none c.before.args.runs.now c.before.requires)
+loop-holds c = (omega arith, omega arith, refl, summing_none c.before.args.runs.now c.before.requires)
 
 block-end-requires : tie.Need-block-end-requires invariant-loop decreases-loop
 block-end-requires c κs = omega (arith, c.before.loop.invariant.0)
@@ -145,7 +145,7 @@ sum-block-requires c κs =
 add-sum : tie.Need-overflow-add-sum invariant-loop decreases-loop
 add-sum c =
     let t = added c in
-    omega (arith, summing-few (runs t) (past t) ((head t).loop.sum + c.sum-block.result) (more c) (start (head t)).pre)
+    omega (arith, summing_few (runs t) (past t) ((head t).loop.sum + c.sum-block.result) (more c) (start (head t)).pre)
 
 loop-less : tie.Need-loop-smaller invariant-loop decreases-loop
 loop-less c = omega (arith, sized (added c), (head (added c)).loop.inv.2)
@@ -160,7 +160,7 @@ returns : tie.Need-returns invariant-loop decreases-loop
 returns c =
     let h = c.before.before in
     let l = h.loop in
-    summing-all (start h).args.runs.now l.i l.sum l.invariant.3 (omega (arith, l.invariant.0, l.invariant.2, c.if1.true))
+    summing_all (start h).args.runs.now l.i l.sum l.invariant.3 (omega (arith, l.invariant.0, l.invariant.2, c.if1.true))
 
 mul-first : tie.Need-overflow-mul-first invariant-loop decreases-loop
 mul-first c = omega arith
@@ -186,13 +186,13 @@ cast-result c = omega (arith, (single (read c)).within)
 add-result : tie.Need-overflow-add-result invariant-loop decreases-loop
 add-result c =
     let e = read c in
-    omega (arith, total e, runs-few 0 1048576 (all e) (start (last e)).pre (omega arith))
+    omega (arith, total e, runs_few 0 1048576 (all e) (start (last e)).pre (omega arith))
 
 returns-2 : tie.Need-returns-2 invariant-loop decreases-loop
 returns-2 c = total (read c)
 
-pub sum-runs-spec : {M : Type 1} → statement M
-sum-runs-spec =
+pub sum_runs_spec : {M : Type 1} → statement M
+sum_runs_spec =
     tie.close
     (tie.spec
     invariant-loop

@@ -4,7 +4,7 @@ use mathlib.Core.Path.{sym, ap, ◌∙◌}
 use native.Mathlib.Omega.{arith}
 use lib.ListN.{length}
 use Rattle.rows.specs.Rows.{splice}
-use Rattle.rows.proofs.SpliceLaws.{splice-nil, splice-one}
+use Rattle.rows.proofs.SpliceLaws.{splice_nil, splice_one}
 use borrow.Author.Rules.{rules}
 use Rattle.turns.proofs.WrittenLaws.{no_end, one_end}
 use Rattle.turns.proofs.inner.write_end.Statement.{statement}
@@ -13,7 +13,7 @@ use Rattle.turns.proofs.inner.write_end.Tie as tie
 returns : tie.Need-returns
 returns c =
     let a = c.before.args in
-    sym (ap (splice a.k a.out.now) (no_end a.carry a.past c.if1.true) ∙ splice-nil a.k a.out.now)
+    sym (ap (splice a.k a.out.now) (no_end a.carry a.past c.if1.true) ∙ splice_nil a.k a.out.now)
 
 mul-out : tie.Need-overflow-mul-out
 mul-out c = search rules
@@ -29,7 +29,7 @@ same_length c = search rules
 returns-2 : tie.Need-returns-2
 returns-2 c =
     let a = c.before.args in
-    sym (ap (splice a.k a.out.now) (one_end a.carry a.past (omega arith)) ∙ splice-one a.k a.out.now a.past)
+    sym (ap (splice a.k a.out.now) (one_end a.carry a.past (omega arith)) ∙ splice_one a.k a.out.now a.past)
 
-pub write-end-spec : {M : Type 1} → statement M
-write-end-spec = tie.close (tie.spec returns mul-out slice-write-out same_length returns-2)
+pub write_end_spec : {M : Type 1} → statement M
+write_end_spec = tie.close (tie.spec returns mul-out slice-write-out same_length returns-2)

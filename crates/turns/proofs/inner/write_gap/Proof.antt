@@ -6,20 +6,20 @@ use native.Mathlib.Omega.{arith}
 use lib.ListN.{length, length-set}
 use borrow.Author.Rules.{rules}
 use Rattle.rows.specs.Rows.{splice}
-use Rattle.rows.proofs.SpliceLaws.{splice-nil}
+use Rattle.rows.proofs.SpliceLaws.{splice_nil}
 use Rattle.turns.specs.Gaps.{between}
-use Rattle.turns.proofs.ListTurnLaws.{between_none, between-two, two-written}
+use Rattle.turns.proofs.ListTurnLaws.{between_none, between_two, two_written}
 use Rattle.turns.proofs.inner.write_gap.Statement.{statement}
 use Rattle.turns.proofs.inner.write_gap.Tie as tie
 
 two : (c : tie.Else1) → between c.before.args.past c.before.args.row ≡ c.before.args.past ∷ c.before.args.row ∷ []
-two c = between-two c.before.args.past c.before.args.row c.if1.false
+two c = between_two c.before.args.past c.before.args.row c.if1.false
 
 returns : tie.Need-returns
 returns c =
     let a = c.before.args in
     let none = between_none a.past a.row c.if1.true in
-    (omega (arith, ap length none), sym (ap (splice a.k a.out.now) none ∙ splice-nil a.k a.out.now))
+    (omega (arith, ap length none), sym (ap (splice a.k a.out.now) none ∙ splice_nil a.k a.out.now))
 
 mul-out : tie.Need-overflow-mul-out
 mul-out c = search rules
@@ -50,11 +50,11 @@ returns-2 c =
       omega (arith, ap length (two c)),
       sym
           (ap (splice a.k a.out.now) (two c)
-          ∙ two-written a.k a.past a.row a.out.now (omega (arith, ap length (two c)))),
+          ∙ two_written a.k a.past a.row a.out.now (omega (arith, ap length (two c)))),
     )
 
-pub write-gap-spec : {M : Type 1} → statement M
-write-gap-spec =
+pub write_gap_spec : {M : Type 1} → statement M
+write_gap_spec =
     tie.close
     (tie.spec
     returns

@@ -8,17 +8,17 @@ use lib.ListN.{length, drop, get_or, length-set}
 use borrow.Author.Rules.{rules}
 use Rattle.rows.specs.Rows.{splice}
 use Rattle.rows.specs.Lists.{listed}
-use Rattle.rows.specs.Runs.{runsOf}
-use Rattle.rows.proofs.SpliceLaws.{splice-nil, splice-length}
+use Rattle.rows.specs.Runs.{runs_of}
+use Rattle.rows.proofs.SpliceLaws.{splice_nil, splice_length}
 use Rattle.turns.specs.Gaps.{between}
-use Rattle.turns.proofs.ListTurnLaws.{gaps, listTurns, runs-listed, turns-few, list-short, list-below, turns-none, turns-first, gaps-end}
-use Rattle.turns.proofs.ListTurnLaws.{count_next, gap-written, first-written, end-written}
+use Rattle.turns.proofs.ListTurnLaws.{gaps, list_turns, runs_listed, turns_few, list_short, list_below, turns_none, turns_first, gaps_end}
+use Rattle.turns.proofs.ListTurnLaws.{count_next, gap_written, first_written, end_written}
 use Rattle.turns.proofs.inner.write_list_turns.Statement.{statement}
 use Rattle.turns.proofs.inner.write_list_turns.Tie as tie
 
 abbrev invariant-loop : tie.invariant-loop
 invariant-loop rows len out₀ first past₀ k₀ i₀ out past k i =
-    (i ≤ length rows) × (length out ≡ length out₀) × (k + length (gaps past (drop i rows)) ≡ length (listTurns rows))
+    (i ≤ length rows) × (length out ≡ length out₀) × (k + length (gaps past (drop i rows)) ≡ length (list_turns rows))
     × (splice k out (gaps past (drop i rows)) ≡ splice 1 out₀ (gaps (first + 1) (drop 1 rows)))
 
 abbrev decreases-loop : tie.decreases-loop
@@ -50,17 +50,17 @@ module _ (c : tie.Start invariant-loop decreases-loop) where
   abbrev list : List ℕ
   list = c.args.rows.now
 
-  all : runsOf (listed c.args.len list) ≡ listTurns list
-  all = runs-listed c.args.len list c.requires.1
+  all : runs_of (listed c.args.len list) ≡ list_turns list
+  all = runs_listed c.args.len list c.requires.1
 
-  few : length (listTurns list) ≤ 2097152
-  few = omega (arith, turns-few list, c.requires.0, list-short c.args.len list c.requires.1)
+  few : length (list_turns list) ≤ 2097152
+  few = omega (arith, turns_few list, c.requires.0, list_short c.args.len list c.requires.1)
 
-  room : length (listTurns list) ≤ length c.args.out.now
+  room : length (list_turns list) ≤ length c.args.out.now
   room = omega (arith, c.requires.2, ap length all)
 
   below : (i : ℕ) → i < length list → get_or list i 0 < 1048576
-  below i h = omega (arith, c.requires.0, list-below c.args.len list i c.requires.1 h)
+  below i h = omega (arith, c.requires.0, list_below c.args.len list i c.requires.1 h)
 
 -- the first entry
 module _ (c : tie.Else1 invariant-loop decreases-loop) where
@@ -70,8 +70,8 @@ module _ (c : tie.Else1 invariant-loop decreases-loop) where
   abbrev first : ℕ
   first = get_or (list (start c)) 0 0
 
-  turned : length (listTurns (list (start c))) ≡ 1 + length (gaps (first + 1) (drop 1 (list (start c))))
-  turned = omega (arith, ap length (turns-first (list (start c)) some))
+  turned : length (list_turns (list (start c))) ≡ 1 + length (gaps (first + 1) (drop 1 (list (start c))))
+  turned = omega (arith, ap length (turns_first (list (start c)) some))
 
   one : 0 < length (start c).args.out.now
   one = omega (arith, room (start c), turned)
@@ -87,7 +87,7 @@ module _ (c : tie.After-shared-slice-known3 invariant-loop decreases-loop) where
   abbrev left : List ℕ
   left = gaps (entry + 1) (drop ((head c).loop.i + 1) (list at))
 
-  next : (head c).loop.k + length (between (head c).loop.past entry) + length left ≡ length (listTurns (list at))
+  next : (head c).loop.k + length (between (head c).loop.past entry) + length left ≡ length (list_turns (list at))
   next =
       let l = (head c).loop in
       omega (arith, l.inv.2, count_next l.k l.past l.i (list at) (omega arith))
@@ -101,7 +101,7 @@ returns : tie.Need-returns invariant-loop decreases-loop
 returns c =
     let s = c.before.before.before in
     let out = s.args.out.now in
-    sym (ap (splice 0 out) (all s ∙ turns-none (list s) c.if1.true) ∙ splice-nil 0 out)
+    sym (ap (splice 0 out) (all s ∙ turns_none (list s) c.if1.true) ∙ splice_nil 0 out)
 
 shared-slice-read-first : tie.Need-shared-slice-read-first invariant-loop decreases-loop
 shared-slice-read-first c = omega arith
@@ -150,34 +150,34 @@ module _ (c : tie.After-write-gap invariant-loop decreases-loop) where
   again =
       let l = here.loop in
       ap₂ (λ (j : ℕ) (o : List ℕ). splice j o (left (turn c))) c.write-gap.ensures.0 c.write-gap.ensures.1
-      ∙ gap-written l.k l.past l.i (list (at (turn c))) l.out (omega arith)
+      ∙ gap_written l.k l.past l.i (list (at (turn c))) l.out (omega arith)
 
-  length-kept : length after ≡ length here.loop.out
-  length-kept = ap length c.write-gap.ensures.1 ∙ splice-length here.loop.k here.loop.out (between here.loop.past (entry (turn c)))
+  length_kept : length after ≡ length here.loop.out
+  length_kept = ap length c.write-gap.ensures.1 ∙ splice_length here.loop.k here.loop.out (between here.loop.past (entry (turn c)))
 
 loop-again : tie.Need-loop-preserved invariant-loop decreases-loop
 loop-again c =
     let w = written c in
     let l = (here w).loop in
-    (omega arith, length-kept w ∙ l.inv.1, omega (arith, next (turn w), w.write-gap.ensures.0), again w ∙ l.inv.3)
+    (omega arith, length_kept w ∙ l.inv.1, omega (arith, next (turn w), w.write-gap.ensures.0), again w ∙ l.inv.3)
 
 -- nothing is left but the last run's end
 module _ (c : tie.After-loop invariant-loop decreases-loop) where
   abbrev base : tie.Start invariant-loop decreases-loop
   base = start (begun (last c))
 
-  at-end : (last c).loop.k < length (last c).loop.out
-  at-end =
+  at_end : (last c).loop.k < length (last c).loop.out
+  at_end =
       let l = (last c).loop in
       let b = begun (last c) in
       omega
-      (arith, l.inv.1, l.inv.2, ap length (gaps-end l.past l.i (list base) (omega arith)), room base, length-set base.args.out.now 0 (first b))
+      (arith, l.inv.1, l.inv.2, ap length (gaps_end l.past l.i (list base) (omega arith)), room base, length-set base.args.out.now 0 (first b))
 
 mul-out : tie.Need-overflow-mul-out invariant-loop decreases-loop
 mul-out c = omega (arith, few (base c), (last c).loop.invariant.2)
 
 slice-write-out-2 : tie.Need-slice-write-out-2 invariant-loop decreases-loop
-slice-write-out-2 c = at-end c
+slice-write-out-2 c = at_end c
 
 same_length : tie.Need-same-length invariant-loop decreases-loop
 same_length c =
@@ -189,13 +189,13 @@ returns-2 c =
     let l = (last c).loop in
     let b = begun (last c) in
     let out = (base c).args.out.now in
-    end-written l.k l.past l.i (list (base c)) l.out (omega arith)
+    end_written l.k l.past l.i (list (base c)) l.out (omega arith)
     ∙ l.inv.3
-    ∙ first-written (list (base c)) out (some b) (one b)
+    ∙ first_written (list (base c)) out (some b) (one b)
     ∙ ap (splice 0 out) (sym (all (base c)))
 
-pub write-list-turns-spec : {M : Type 1} → statement M
-write-list-turns-spec =
+pub write_list_turns_spec : {M : Type 1} → statement M
+write_list_turns_spec =
     tie.close
     (tie.spec
     invariant-loop

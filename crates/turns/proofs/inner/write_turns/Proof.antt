@@ -7,13 +7,13 @@ use mathlib.Core.List.{List, []}
 use native.Mathlib.Omega.{arith}
 use lib.ListN.{length, take, drop}
 use Rattle.rows.specs.Rows.{count, splice}
-use Rattle.rows.specs.Word.{isOne, bits_of, word_of}
+use Rattle.rows.specs.Word.{is_one, bits_of, word_of}
 use Rattle.rows.specs.Words.{view}
 use Rattle.rows.specs.Runs.{turns}
-use Rattle.rows.proofs.SpliceLaws.{splice-length}
-use Rattle.rows.proofs.WordsLaws.{view-length}
-use Rattle.turns.proofs.TurnedLaws.{Counted, carry-small, view-word, counted-few}
-use Rattle.turns.proofs.WrittenLaws.{Written, written_none, written-kept, next-counted, written_next, end-room, written_all}
+use Rattle.rows.proofs.SpliceLaws.{splice_length}
+use Rattle.rows.proofs.WordsLaws.{view_length}
+use Rattle.turns.proofs.TurnedLaws.{Counted, carry_small, view_word, counted_few}
+use Rattle.turns.proofs.WrittenLaws.{Written, written_none, written_kept, next_counted, written_next, end_room, written_all}
 use Rattle.turns.proofs.inner.write_turns.Statement.{statement}
 use Rattle.turns.proofs.inner.write_turns.Tie as tie
 
@@ -62,10 +62,10 @@ module _ (c : tie.At-loop invariant-loop decreases-loop) where
   first = (start c).args.out.now
 
   long : length rows ≡ (start c).args.len
-  long = view-length (start c).args.start (start c).args.len (start c).args.words.now (start c).requires.0.2
+  long = view_length (start c).args.start (start c).args.len (start c).args.words.now (start c).requires.0.2
 
   kept : length c.loop.out ≡ length first
-  kept = written-kept rows first c.loop.row c.loop.k c.loop.carry c.loop.out c.loop.invariant.1
+  kept = written_kept rows first c.loop.row c.loop.k c.loop.carry c.loop.out c.loop.invariant.1
 
 -- a turn's rows, and the word of them
 module _ (c : tie.After-chunk-len invariant-loop decreases-loop) where
@@ -92,7 +92,7 @@ module _ (c : tie.After-chunk invariant-loop decreases-loop) where
   word =
       let t = sized c in
       let a = (start (head t)).args in
-      view-word a.start (row t) (n t) a.len chunk a.words.now (omega (arith, room t, long (head t))) (start (head t)).pre.0.2 c.chunk.ensures
+      view_word a.start (row t) (n t) a.len chunk a.words.now (omega (arith, room t, long (head t))) (start (head t)).pre.0.2 c.chunk.ensures
 
 -- the turn's numbers, after those before it
 module _ (c : tie.After-edge-word invariant-loop decreases-loop) where
@@ -100,17 +100,17 @@ module _ (c : tie.After-edge-word invariant-loop decreases-loop) where
   here = head (sized (read c))
 
   abbrev numbers : ℕ
-  numbers = count (bits_of 64 c.edge-word.result)
+  numbers = count (bits_of 64 c.edge_word.result)
 
   more : Counted (rows here) (row (sized (read c)) + n (sized (read c))) (here.loop.k + numbers) (chunk (read c) / 2 ^ (n (sized (read c)) - 1))
   more =
       let t = sized (read c) in
       let l = here.loop in
-      next-counted (rows here) (first here) (row t) (n t) l.k l.carry (chunk (read c)) c.edge-word.result l.out l.inv.1
-      (some t) (short t) (room t) (word (read c)) c.edge-word.ensures
+      next_counted (rows here) (first here) (row t) (n t) l.k l.carry (chunk (read c)) c.edge_word.result l.out l.inv.1
+      (some t) (short t) (room t) (word (read c)) c.edge_word.ensures
 
   fits : here.loop.k + numbers ≤ length (first here)
-  fits = omega (arith, counted-few (rows here) _ _ _ more, (start here).pre.1)
+  fits = omega (arith, counted_few (rows here) _ _ _ more, (start here).pre.1)
 
 module _ (c : tie.After-list-chunk invariant-loop decreases-loop) where
   abbrev at : tie.At-loop invariant-loop decreases-loop
@@ -125,8 +125,8 @@ module _ (c : tie.After-list-chunk invariant-loop decreases-loop) where
       let e = found c in
       let t = sized (read e) in
       let l = at.loop in
-      written_next (rows at) (first at) (row t) (n t) l.k l.carry (chunk (read e)) e.edge-word.result l.out l.inv.1
-      (some t) (short t) (room t) (word (read e)) e.edge-word.ensures
+      written_next (rows at) (first at) (row t) (n t) l.k l.carry (chunk (read e)) e.edge_word.result l.out l.inv.1
+      (some t) (short t) (room t) (word (read e)) e.edge_word.ensures
       c.list-chunk.result after c.list-chunk.ensures.0 c.list-chunk.ensures.1
 
 -- ---- the answers
@@ -144,7 +144,7 @@ edge-word-requires : tie.Need-edge-word-requires invariant-loop decreases-loop
 edge-word-requires c κs =
     let t = sized c in
     let l = (head t).loop in
-    ((some t, short t), carry-small (rows (head t)) l.row l.k l.carry l.inv.1.counted)
+    ((some t, short t), carry_small (rows (head t)) l.row l.k l.carry l.inv.1.counted)
 
 cast-list-chunk : tie.Need-overflow-cast-list-chunk invariant-loop decreases-loop
 cast-list-chunk c = omega (arith, (start (here c)).pre.0.0)
@@ -183,8 +183,8 @@ write-end-requires c κs =
     let end : l.row ≡ (start h).args.len = omega (arith, long h, passed c.before) in
     omega (
       arith,
-      end-room (rows h) (first h) l.row l.k l.carry l.out l.inv.1 (passed c.before),
-      ap (λ (r : ℕ). length (turns (isOne l.carry) r [])) end,
+      end_room (rows h) (first h) l.row l.k l.carry l.out l.inv.1 (passed c.before),
+      ap (λ (r : ℕ). length (turns (is_one l.carry) r [])) end,
       kept h,
       (start h).pre.1,
     )
@@ -193,7 +193,7 @@ same_length : tie.Need-same-length invariant-loop decreases-loop
 same_length c =
     let w = ended c in
     let h = last w.before in
-    ap length w.write-end.ensures ∙ splice-length h.loop.k h.loop.out (turns (isOne h.loop.carry) (start h).args.len []) ∙ kept h
+    ap length w.write-end.ensures ∙ splice_length h.loop.k h.loop.out (turns (is_one h.loop.carry) (start h).args.len []) ∙ kept h
 
 returns : tie.Need-returns invariant-loop decreases-loop
 returns c =
@@ -203,11 +203,11 @@ returns c =
     let l = h.loop in
     let end : (start h).args.len ≡ l.row = omega (arith, long h, passed p) in
     w.write-end.ensures
-    ∙ ap (λ (r : ℕ). splice l.k l.out (turns (isOne l.carry) r [])) end
+    ∙ ap (λ (r : ℕ). splice l.k l.out (turns (is_one l.carry) r [])) end
     ∙ written_all (rows h) (first h) l.row l.k l.carry l.out l.inv.1 (passed p)
 
-pub write-turns-spec : {M : Type 1} → statement M
-write-turns-spec =
+pub write_turns_spec : {M : Type 1} → statement M
+write_turns_spec =
     tie.close
     (tie.spec
     invariant-loop

@@ -6,26 +6,26 @@ use mathlib.Core.List.{List, map}
 use native.Mathlib.Omega.{arith}
 use lib.ListN.{length, get_or}
 use Rattle.rows.specs.Lists.{select}
-use Rattle.rows.specs.Runs.{inRuns}
+use Rattle.rows.specs.Runs.{in_runs}
 use Rattle.rows.specs.Laid.{marked}
 use Rattle.rows.proofs.RunTurnLaws.{NextRun}
 use Rattle.under.proofs.EntryLaws.{
-  taken-length,
-  walk-next,
-  walk-few,
+  taken_length,
+  walk_next,
+  walk_few,
   Marking,
-  marking-none,
-  marking-on,
-  marking-run,
-  marking-all,
-  entry-rows,
+  marking_none,
+  marking_on,
+  marking_run,
+  marking_all,
+  entry_rows,
 }
 use Rattle.under.proofs.entries.mark_entries.Statement.{statement}
 use Rattle.under.proofs.entries.mark_entries.Tie as tie
 
 abbrev invariant-loop : tie.invariant-loop
 invariant-loop runs ranks len at out₀ passed₀ next₀ i₀ out passed next i =
-    (length out ≡ length out₀) × Marking runs ranks len at i next passed out (marked at (map (select (inRuns len runs)) ranks) out₀)
+    (length out ≡ length out₀) × Marking runs ranks len at i next passed out (marked at (map (select (in_runs len runs)) ranks) out₀)
 
 abbrev decreases-loop : tie.decreases-loop
 decreases-loop runs ranks len at out₀ passed₀ next₀ i₀ out passed next i = length runs - i
@@ -61,7 +61,7 @@ module _ (c : tie.At-loop invariant-loop decreases-loop) where
 
   -- the output once all ranks are marked
   abbrev goal : List ℕ
-  goal = marked (start c).args.at (map (select (inRuns (start c).args.len runs)) ranks) (start c).args.out.now
+  goal = marked (start c).args.at (map (select (in_runs (start c).args.len runs)) ranks) (start c).args.out.now
 
 -- ---- a turn's run
 
@@ -87,17 +87,17 @@ module _ (c : tie.In-loop invariant-loop decreases-loop) where
   there : i < length (runs h)
   there =
       let l = h.loop in
-      marking-on (runs h) (ranks h) s.args.len s.args.at i l.next passed l.out (goal h) l.inv.1 s.pre.0 s.pre.1 (omega arith)
+      marking_on (runs h) (ranks h) s.args.len s.args.at i l.next passed l.out (goal h) l.inv.1 s.pre.0 s.pre.1 (omega arith)
 
   next : NextRun h.loop.inv.1.walk.row s.args.len i (runs h)
-  next = walk-next (runs h) s.args.len i passed h.loop.inv.1.walk there
+  next = walk_next (runs h) s.args.len i passed h.loop.inv.1.walk there
 
   -- the number of the run behind it is a number
   fits : i + 2 < 2 ^ 64
   fits = omega (arith, next.pair)
 
   few : passed + own ≤ s.args.len
-  few = walk-few (runs h) s.args.len i passed h.loop.inv.1.walk there
+  few = walk_few (runs h) s.args.len i passed h.loop.inv.1.walk there
 
 -- ---- the answers
 
@@ -105,7 +105,7 @@ loop-holds : tie.Need-loop-init invariant-loop decreases-loop
 loop-holds c =
     let s = entry c in
     let a = s.args in
-    (refl, marking-none a.runs.now a.ranks.now a.len a.at a.out.now s.pre.0 s.pre.2 s.pre.1)
+    (refl, marking_none a.runs.now a.ranks.now a.len a.at a.out.now s.pre.0 s.pre.2 s.pre.1)
 
 mul-first : tie.Need-overflow-mul-first invariant-loop decreases-loop
 mul-first c = omega (arith, there c)
@@ -161,8 +161,8 @@ loop-again c =
     let row : ℕ → ℕ = λ r. first t + (r - passed t) in
     let end : ℕ = passed t + own t in
     let m = (back c).mark-in-run in (
-      taken-length (ranks k) row a.at l.next end end l.out m.result _ m.ensures ∙ l.inv.0,
-      marking-run (runs k) (ranks k) a.len a.at (i t) l.next (passed t) l.out (goal k) l.inv.1 (there t) m.result _ m.ensures,
+      taken_length (ranks k) row a.at l.next end end l.out m.result _ m.ensures ∙ l.inv.0,
+      marking_run (runs k) (ranks k) a.len a.at (i t) l.next (passed t) l.out (goal k) l.inv.1 (there t) m.result _ m.ensures,
     )
 
 same_length : tie.Need-same-length invariant-loop decreases-loop
@@ -174,11 +174,11 @@ returns c =
     let s = start k in
     let a = s.args in
     let l = k.loop in
-    marking-all (runs k) (ranks k) a.len a.at l.i l.next l.passed l.out (goal k) l.invariant.1 (omega arith)
-    ∙ ap (λ (rs : List ℕ). marked a.at rs a.out.now) (sym (entry-rows (runs k) (ranks k) a.len s.pre.0 s.pre.1))
+    marking_all (runs k) (ranks k) a.len a.at l.i l.next l.passed l.out (goal k) l.invariant.1 (omega arith)
+    ∙ ap (λ (rs : List ℕ). marked a.at rs a.out.now) (sym (entry_rows (runs k) (ranks k) a.len s.pre.0 s.pre.1))
 
-pub mark-entries-spec : {M : Type 1} → statement M
-mark-entries-spec =
+pub mark_entries_spec : {M : Type 1} → statement M
+mark_entries_spec =
     tie.close
     (tie.spec
     invariant-loop

@@ -6,7 +6,7 @@ use mathlib.Core.List.{List}
 use native.Mathlib.Omega.{arith}
 use lib.ListN.{length, get_or}
 use Rattle.under.specs.Taken.{Taken}
-use Rattle.under.proofs.EntryLaws.{taken_none, taken-length, taken-ahead, taken_next, taken-past, taken-all}
+use Rattle.under.proofs.EntryLaws.{taken_none, taken_length, taken_ahead, taken_next, taken_past, taken_all}
 use Rattle.under.proofs.entries.mark_in_run.Statement.{statement}
 use Rattle.under.proofs.entries.mark_in_run.Tie as tie
 
@@ -51,7 +51,7 @@ module _ (c : tie.At-loop invariant-loop decreases-loop) where
   long : length c.loop.out ≡ length (start c).args.out.now
   long =
       let a = (start c).args in
-      taken-length ranks row a.at a.next a.end.0 a.passed.0 a.out.now c.loop.i c.loop.out c.loop.invariant
+      taken_length ranks row a.at a.next a.end.0 a.passed.0 a.out.now c.loop.i c.loop.out c.loop.invariant
 
 module _ (c : tie.In-loop invariant-loop decreases-loop) where
   abbrev i : ℕ
@@ -64,7 +64,7 @@ module _ (c : tie.In-loop invariant-loop decreases-loop) where
   reached =
       let a = (start (head c)).args in
       let l = (head c).loop in
-      (taken-ahead (ranks (head c)) (row (head c)) a.at a.next a.end.0 a.passed.0 a.out.now i l.out l.inv (omega arith)).0
+      (taken_ahead (ranks (head c)) (row (head c)) a.at a.next a.end.0 a.passed.0 a.out.now i l.out l.inv (omega arith)).0
 
 -- the row is one of the run's
 within : (c : tie.Else1 invariant-loop decreases-loop) → row (head (turn c)) (rank (turn c)) < (start (head (turn c))).args.first.0
@@ -97,7 +97,7 @@ returns c =
     let t = tested c.before in
     let h = head t in
     let a = (start h).args in
-    taken-past (ranks h) (row h) a.at a.next a.end.0 a.passed.0 a.out.now (i t) h.loop.out h.loop.inv (omega arith) (omega arith)
+    taken_past (ranks h) (row h) a.at a.next a.end.0 a.passed.0 a.out.now (i t) h.loop.out h.loop.inv (omega arith) (omega arith)
 
 sub_row : tie.Need-overflow-sub-row invariant-loop decreases-loop
 sub_row c = reached (turn c.before)
@@ -136,10 +136,10 @@ returns-2 : tie.Need-returns-2 invariant-loop decreases-loop
 returns-2 c =
     let h = c.before in
     let a = (start h).args in
-    taken-all (ranks h) (row h) a.at a.next a.end.0 a.passed.0 a.out.now h.loop.i h.loop.out h.loop.invariant (omega arith)
+    taken_all (ranks h) (row h) a.at a.next a.end.0 a.passed.0 a.out.now h.loop.i h.loop.out h.loop.invariant (omega arith)
 
-pub mark-in-run-spec : {M : Type 1} → statement M
-mark-in-run-spec =
+pub mark_in_run_spec : {M : Type 1} → statement M
+mark_in_run_spec =
     tie.close
     (tie.spec
     invariant-loop

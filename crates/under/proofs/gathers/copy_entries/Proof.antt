@@ -6,7 +6,7 @@ use native.Mathlib.Omega.{arith}
 use Rattle.rows.specs.Word.{bits_of}
 use Rattle.rows.specs.Laid.{laid}
 use Rattle.rows.proofs.LaidLaws.{below_all}
-use Rattle.under.proofs.GatheredLaws.{Copied, copied_none, copied-part, copied_all}
+use Rattle.under.proofs.GatheredLaws.{Copied, copied_none, copied_part, copied_all}
 use Rattle.under.proofs.gathers.copy_entries.Statement.{statement}
 use Rattle.under.proofs.gathers.copy_entries.Tie as tie
 
@@ -108,7 +108,7 @@ loop-again c =
     let l = h.loop in
     let bits = w.rank-bits-for-chunk.result.bits in
     let same : a.at + (a.row.0 + l.done) ≡ a.at + a.row.0 + l.done = omega arith in
-    copied-part a.ranks.now a.rank.0 a.n (a.at + a.row.0) l.done l.j a.out.now l.out l.inv
+    copied_part a.ranks.now a.rank.0 a.n (a.at + a.row.0) l.done l.j a.out.now l.out l.inv
     (n t) bits w.rank-bits-for-chunk.result.next (written c).put-rows.new.0 (in_rest t) w.rank-bits-for-chunk.ensures
     ((written c).put-rows.ensures ∙ ap (λ (k : ℕ). laid k (bits_of (n t) bits) l.out) same)
 
@@ -122,8 +122,8 @@ returns c =
     let l = h.loop in
     copied_all a.ranks.now a.rank.0 a.n (a.at + a.row.0) l.done l.j a.out.now l.out l.invariant (omega arith)
 
-pub copy-entries-spec : {M : Type 1} → statement M
-copy-entries-spec =
+pub copy_entries_spec : {M : Type 1} → statement M
+copy_entries_spec =
     tie.close
     (tie.spec
     invariant-loop

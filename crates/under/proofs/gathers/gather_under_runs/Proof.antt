@@ -8,19 +8,19 @@ use native.Mathlib.Omega.{arith}
 use lib.ListN.{length, take, drop, get_or, replicate}
 use borrow.Author.Rules.{rules}
 use Rattle.rows.specs.Lists.{tab, member, listed}
-use Rattle.rows.specs.Runs.{runLengths}
+use Rattle.rows.specs.Runs.{run_lengths}
 use Rattle.rows.specs.Laid.{laid}
-use Rattle.rows.proofs.LaidLaws.{below_all, laid-length}
+use Rattle.rows.proofs.LaidLaws.{below_all, laid_length}
 use Rattle.rows.proofs.RunTurnLaws.{NextRun}
 use Rattle.books.specs.Gathers.{Parted}
-use Rattle.books.proofs.GatherLaws.{ascending-climbs}
-use Rattle.under.proofs.UnderLaws.{Under, under_none, under_next, under-ranks, under-few, under-run, under_last, listed-long, listed-part}
+use Rattle.books.proofs.GatherLaws.{ascending_climbs}
+use Rattle.under.proofs.UnderLaws.{Under, under_none, under_next, under_ranks, under_few, under_run, under_last, listed_long, listed_part}
 use Rattle.under.proofs.gathers.gather_under_runs.Statement.{statement}
 use Rattle.under.proofs.gathers.gather_under_runs.Tie as tie
 
 abbrev invariant-loop : tie.invariant-loop
 invariant-loop runs ranks len at out₀ done₀ rank₀ next₀ i₀ out done rank next i =
-    Under runs (listed (runLengths runs) ranks) len at done i rank out₀ out × Parted rank next ranks
+    Under runs (listed (run_lengths runs) ranks) len at done i rank out₀ out × Parted rank next ranks
 
 abbrev decreases-loop : tie.decreases-loop
 decreases-loop runs ranks len at out₀ done₀ rank₀ next₀ i₀ out done rank next i = length runs - i
@@ -61,10 +61,10 @@ cleared c = c.before.before
 
 module _ (s : tie.Start invariant-loop decreases-loop) where
   abbrev bits : List Bool
-  bits = listed (runLengths s.args.runs.now) s.args.ranks.now
+  bits = listed (run_lengths s.args.runs.now) s.args.ranks.now
 
-  long : runLengths s.args.runs.now ≤ length bits
-  long = listed-long (runLengths s.args.runs.now) s.args.ranks.now
+  long : run_lengths s.args.runs.now ≤ length bits
+  long = listed_long (run_lengths s.args.runs.now) s.args.ranks.now
 
 -- ---- a turn's run
 
@@ -98,14 +98,14 @@ module _ (c : tie.In-loop invariant-loop decreases-loop) where
   few =
       let l = (head c).loop in
       let a = s.args in
-      under-few runs (bits s) a.len a.at l.done i l.rank a.out.now l.out l.inv.0 (omega arith) (long s) s.pre.0
+      under_few runs (bits s) a.len a.at l.done i l.rank a.out.now l.out l.inv.0 (omega arith) (long s) s.pre.0
 
   part : tab (head c).loop.rank held (λ k. member k ranks) ≡ take held (drop (head c).loop.rank (bits s))
   part =
       let l = (head c).loop in
       let a = s.args in
-      listed-part (runLengths runs) l.rank held ranks
-      (under-ranks runs (bits s) a.len a.at l.done i l.rank a.out.now l.out l.inv.0 (omega arith) (long s))
+      listed_part (run_lengths runs) l.rank held ranks
+      (under_ranks runs (bits s) a.len a.at l.done i l.rank a.out.now l.out l.inv.0 (omega arith) (long s))
 
 -- ---- the answers
 
@@ -115,7 +115,7 @@ loop-holds c =
     let a = s.args in
     let out = a.out.now in
     let small = below_all (2 ^ 64) out (λ i. (c.slice-known.given i).fits) in
-    let climbs = ascending-climbs 0 (runLengths a.runs.now) a.ranks.now s.pre.1 in
+    let climbs = ascending_climbs 0 (run_lengths a.runs.now) a.ranks.now s.pre.1 in
     (under_none a.runs.now (bits s) a.len a.at out s.pre.0 small, record { within = omega arith; before = tt; after = climbs })
 
 mul-first : tie.Need-overflow-mul-first invariant-loop decreases-loop
@@ -160,7 +160,7 @@ copy-entries-requires c κs =
     let r = next t in
     let l = (head t).loop in
     let unset = replicate (first t - l.done) false in
-    let long = ap length g.clear-rows.ensures ∙ laid-length 64 ((s t).args.at + l.done) unset l.out ∙ l.inv.0.progress.long in
+    let long = ap length g.clear-rows.ensures ∙ laid_length 64 ((s t).args.at + l.done) unset l.out ∙ l.inv.0.progress.long in
     (omega (arith, few t, (s t).pre.2), l.inv.1, (omega (arith, r.some, r.within, long, room.0), omega (arith, r.some, r.within, room.1)))
 
 add-rank : tie.Need-overflow-add-rank invariant-loop decreases-loop
@@ -182,7 +182,7 @@ loop-again c =
     let e = (back c).copy-entries.ensures in
     let z = (gone (back c).before).clear-rows in
     let lies = e.1 ∙ ap (λ (p : List Bool). laid (a.at + first t) p z.last.0) (part t) in (
-      under-run (runs t) (bits (s t)) a.len a.at l.done (i t) l.rank a.out.now l.out l.inv.0 (omega arith) (long (s t)) z.last.0 _
+      under_run (runs t) (bits (s t)) a.len a.at l.done (i t) l.rank a.out.now l.out l.inv.0 (omega arith) (long (s t)) z.last.0 _
           z.ensures lies,
       e.0,
     )
@@ -208,8 +208,8 @@ returns c =
     under_last a.runs.now (bits (start h)) a.len a.at l.done l.i l.rank a.out.now l.out l.inv.0 _ (omega arith)
     (cleared c).clear-rows2.ensures
 
-pub gather-under-runs-spec : {M : Type 1} → statement M
-gather-under-runs-spec =
+pub gather_under_runs_spec : {M : Type 1} → statement M
+gather_under_runs_spec =
     tie.close
     (tie.spec
     invariant-loop

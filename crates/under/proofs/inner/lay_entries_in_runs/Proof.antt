@@ -4,12 +4,12 @@ use mathlib.Core.Path.{◌≡◌, ap, ◌∙◌}
 use lib.ListN.{length}
 use borrow.Author.Rules.{rules}
 use Rattle.rows.specs.Rows.{count, compose}
-use Rattle.rows.specs.Lists.{listed, setRows}
-use Rattle.rows.specs.Runs.{held, inRuns, runLengths}
+use Rattle.rows.specs.Lists.{listed, set_rows}
+use Rattle.rows.specs.Runs.{held, in_runs, run_lengths}
 use Rattle.rows.specs.Laid.{marked}
-use Rattle.rows.proofs.ListLaws.{tab-length}
-use Rattle.marks.proofs.ListLaws.{marked-compose}
-use Rattle.under.proofs.EntryLaws.{entry-count}
+use Rattle.rows.proofs.ListLaws.{tab_length}
+use Rattle.marks.proofs.ListLaws.{marked_compose}
+use Rattle.under.proofs.EntryLaws.{entry_count}
 use Rattle.under.proofs.inner.lay_entries_in_runs.Statement.{statement}
 use Rattle.under.proofs.inner.lay_entries_in_runs.Tie as tie
 
@@ -35,9 +35,9 @@ gathered c = c.before.before
 
 -- ---- as many rows are set as ranks are listed
 
-listed-all : (s : tie.Start) → let runs = s.args.runs.now in let ranks = s.args.ranks.now in
-    length ranks ≡ count (compose (inRuns s.args.len runs) (listed (runLengths runs) ranks))
-listed-all s = entry-count s.args.runs.now s.args.ranks.now s.args.len s.requires.0 s.requires.1
+listed_all : (s : tie.Start) → let runs = s.args.runs.now in let ranks = s.args.ranks.now in
+    length ranks ≡ count (compose (in_runs s.args.len runs) (listed (run_lengths runs) ranks))
+listed_all s = entry_count s.args.runs.now s.args.ranks.now s.args.len s.requires.0 s.requires.1
 
 -- ---- the answers
 
@@ -50,7 +50,7 @@ same_length c = search rules
 returns : tie.Need-returns
 returns c =
     let g = gathered c in
-    (listed-all (many g), g.gather-under-runs.ensures)
+    (listed_all (many g), g.gather-under-runs.ensures)
 
 clear-requires : tie.Need-clear-requires
 clear-requires c κs = search rules
@@ -67,15 +67,15 @@ returns-2 c =
     let z = cleared m.before in
     let a = (few z).args in
     let runs = a.runs.now in
-    let self = inRuns a.len runs in
-    let r = listed (runLengths runs) a.ranks.now in (
-      listed-all (few z),
-      m.mark-entries.ensures ∙ ap (marked a.at (setRows 0 (compose self r))) z.clear.ensures
-          ∙ marked-compose a.at a.len self r a.out.now (tab-length 0 a.len (λ i. held i runs)),
+    let self = in_runs a.len runs in
+    let r = listed (run_lengths runs) a.ranks.now in (
+      listed_all (few z),
+      m.mark-entries.ensures ∙ ap (marked a.at (set_rows 0 (compose self r))) z.clear.ensures
+          ∙ marked_compose a.at a.len self r a.out.now (tab_length 0 a.len (λ i. held i runs)),
     )
 
-pub lay-entries-in-runs-spec : {M : Type 1} → statement M
-lay-entries-in-runs-spec =
+pub lay_entries_in_runs_spec : {M : Type 1} → statement M
+lay_entries_in_runs_spec =
     tie.close
     (tie.spec
     gather-under-runs-requires

@@ -8,19 +8,19 @@ use native.Mathlib.Omega.{arith}
 use lib.ListN.{length, take, drop, get_or, replicate}
 use borrow.Author.Rules.{rules}
 use Rattle.rows.specs.Rows.{count}
-use Rattle.rows.specs.Words.{bitsOfAll, view}
-use Rattle.rows.specs.Runs.{runLengths}
+use Rattle.rows.specs.Words.{bits_of_all, view}
+use Rattle.rows.specs.Runs.{run_lengths}
 use Rattle.rows.specs.Laid.{laid}
-use Rattle.rows.proofs.LaidLaws.{below_all, laid-length}
+use Rattle.rows.proofs.LaidLaws.{below_all, laid_length}
 use Rattle.rows.proofs.RunTurnLaws.{NextRun}
-use Rattle.under.proofs.UnderLaws.{Under, under_none, under_next, under-ranks, under-few, under-run, under_last}
-use Rattle.under.proofs.UnderLaws.{Sums, sums_none, sums-run, sums-few, sums-last, read-long, read-part}
+use Rattle.under.proofs.UnderLaws.{Under, under_none, under_next, under_ranks, under_few, under_run, under_last}
+use Rattle.under.proofs.UnderLaws.{Sums, sums_none, sums_run, sums_few, sums_last, read_long, read_part}
 use Rattle.under.proofs.inner.lay_ranks_under_runs.Statement.{statement}
 use Rattle.under.proofs.inner.lay_ranks_under_runs.Tie as tie
 
 abbrev invariant-loop : tie.invariant-loop
 invariant-loop runs ranks from len at out₀ done₀ rank₀ sum₀ i₀ out done rank sum i =
-    Under runs (drop from (bitsOfAll 64 ranks)) len at done i rank out₀ out × Sums runs (drop from (bitsOfAll 64 ranks)) len at done i rank sum
+    Under runs (drop from (bits_of_all 64 ranks)) len at done i rank out₀ out × Sums runs (drop from (bits_of_all 64 ranks)) len at done i rank sum
 
 abbrev decreases-loop : tie.decreases-loop
 decreases-loop runs ranks from len at out₀ done₀ rank₀ sum₀ i₀ out done rank sum i = length runs - i
@@ -61,10 +61,10 @@ cleared c = c.before.before
 
 module _ (s : tie.Start invariant-loop decreases-loop) where
   abbrev bits : List Bool
-  bits = drop s.args.from (bitsOfAll 64 s.args.ranks.now)
+  bits = drop s.args.from (bits_of_all 64 s.args.ranks.now)
 
-  long : runLengths s.args.runs.now ≤ length bits
-  long = read-long s.args.ranks.now s.args.from (runLengths s.args.runs.now) s.pre.3
+  long : run_lengths s.args.runs.now ≤ length bits
+  long = read_long s.args.ranks.now s.args.from (run_lengths s.args.runs.now) s.pre.3
 
 -- ---- a turn's run
 
@@ -94,33 +94,33 @@ module _ (c : tie.In-loop invariant-loop decreases-loop) where
       under_next runs (bits s) a.len a.at l.done i l.rank a.out.now l.out l.inv.0 (omega arith)
 
   -- its rank bits are there, and no more than the rows
-  read-room : s.args.from + (head c).loop.rank + held ≤ length ranks * 64
-  read-room =
+  read_room : s.args.from + (head c).loop.rank + held ≤ length ranks * 64
+  read_room =
       let l = (head c).loop in
       let a = s.args in
       omega (
         arith,
         s.pre.3,
-        under-ranks runs (bits s) a.len a.at l.done i l.rank a.out.now l.out l.inv.0 (omega arith) (long s),
+        under_ranks runs (bits s) a.len a.at l.done i l.rank a.out.now l.out l.inv.0 (omega arith) (long s),
       )
 
   few : (head c).loop.rank + held ≤ s.args.len
   few =
       let l = (head c).loop in
       let a = s.args in
-      under-few runs (bits s) a.len a.at l.done i l.rank a.out.now l.out l.inv.0 (omega arith) (long s) s.pre.0
+      under_few runs (bits s) a.len a.at l.done i l.rank a.out.now l.out l.inv.0 (omega arith) (long s) s.pre.0
 
   part : view (s.args.from + (head c).loop.rank) held ranks ≡ take held (drop (head c).loop.rank (bits s))
-  part = read-part ranks s.args.from (head c).loop.rank held
+  part = read_part ranks s.args.from (head c).loop.rank held
 
-  sum-few : (head c).loop.sum + count (view (s.args.from + (head c).loop.rank) held ranks) ≤ s.args.len
-  sum-few =
+  sum_few : (head c).loop.sum + count (view (s.args.from + (head c).loop.rank) held ranks) ≤ s.args.len
+  sum_few =
       let l = (head c).loop in
       let a = s.args in
       omega (
         arith,
         ap count part,
-        sums-few runs (bits s) a.len a.at l.done i l.rank a.out.now l.out l.inv.0 (omega arith) (long s) l.sum l.inv.1,
+        sums_few runs (bits s) a.len a.at l.done i l.rank a.out.now l.out l.inv.0 (omega arith) (long s) l.sum l.inv.1,
       )
 
 -- ---- the answers
@@ -176,17 +176,17 @@ copy-ranks-requires c κs =
     let r = next t in
     let l = (head t).loop in
     let unset = replicate (first t - l.done) false in
-    let long = ap length g.clear-rows.ensures ∙ laid-length 64 ((s t).args.at + l.done) unset l.out ∙ l.inv.0.progress.long in (
+    let long = ap length g.clear-rows.ensures ∙ laid_length 64 ((s t).args.at + l.done) unset l.out ∙ l.inv.0.progress.long in (
       (s t).pre.2,
       omega (arith, few t, (s t).pre.1),
-      read-room t,
+      read_room t,
       (omega (arith, r.some, r.within, long, room.0), omega (arith, r.some, r.within, room.1)),
     )
 
 add-sum : tie.Need-overflow-add-sum invariant-loop decreases-loop
 add-sum c =
     let t = around c in
-    omega (arith, sum-few t, (back c).copy-ranks.ensures.0, (s t).pre.1)
+    omega (arith, sum_few t, (back c).copy-ranks.ensures.0, (s t).pre.1)
 
 add-rank : tie.Need-overflow-add-rank invariant-loop decreases-loop
 add-rank c =
@@ -208,9 +208,9 @@ loop-again c =
     let z = (gone (back c).before).clear-rows in
     let w = long (s t) in
     let lies = e.1 ∙ ap (λ (p : List Bool). laid (a.at + first t) p z.last.0) (part t) in (
-      under-run (runs t) (bits (s t)) a.len a.at l.done (i t) l.rank a.out.now l.out l.inv.0 (omega arith) w z.last.0 _
+      under_run (runs t) (bits (s t)) a.len a.at l.done (i t) l.rank a.out.now l.out l.inv.0 (omega arith) w z.last.0 _
           z.ensures lies,
-      sums-run (runs t) (bits (s t)) a.len a.at l.done (i t) l.rank a.out.now l.out l.inv.0 (omega arith) w l.sum
+      sums_run (runs t) (bits (s t)) a.len a.at l.done (i t) l.rank a.out.now l.out l.inv.0 (omega arith) w l.sum
           (back c).copy-ranks.result (e.0 ∙ ap count (part t)) l.inv.1,
     )
 
@@ -234,12 +234,12 @@ returns c =
     let l = h.loop in
     let rs = a.runs.now in
     let bs = bits (start h) in (
-      sums-last rs bs a.len a.at l.done l.i l.rank a.out.now l.out l.inv.0 l.sum (omega arith) l.inv.1,
+      sums_last rs bs a.len a.at l.done l.i l.rank a.out.now l.out l.inv.0 l.sum (omega arith) l.inv.1,
       under_last rs bs a.len a.at l.done l.i l.rank a.out.now l.out l.inv.0 _ (omega arith) (cleared c).clear-rows2.ensures,
     )
 
-pub lay-ranks-under-runs-spec : {M : Type 1} → statement M
-lay-ranks-under-runs-spec =
+pub lay_ranks_under_runs_spec : {M : Type 1} → statement M
+lay_ranks_under_runs_spec =
     tie.close
     (tie.spec
     invariant-loop

@@ -3,11 +3,11 @@
 use mathlib.Core.Path.{ap, ◌∙◌}
 use borrow.Author.Rules.{rules}
 use Rattle.rows.specs.Rows.{compose}
-use Rattle.rows.specs.Lists.{setRows}
-use Rattle.rows.specs.Runs.{held, inRuns, runLengths}
+use Rattle.rows.specs.Lists.{set_rows}
+use Rattle.rows.specs.Runs.{held, in_runs, run_lengths}
 use Rattle.rows.specs.Laid.{marked}
-use Rattle.rows.proofs.ListLaws.{tab-length}
-use Rattle.marks.proofs.ListLaws.{marked-compose}
+use Rattle.rows.proofs.ListLaws.{tab_length}
+use Rattle.marks.proofs.ListLaws.{marked_compose}
 use Rattle.under.proofs.inner.lay_runs_in_runs.Statement.{statement}
 use Rattle.under.proofs.inner.lay_runs_in_runs.Tie as tie
 
@@ -43,13 +43,13 @@ returns c =
     let a = (start z).args in
     let runs = a.runs.now in
     let ranks = a.ranks.now in
-    let self = inRuns a.len runs in
-    let r = inRuns (runLengths runs) ranks in (
+    let self = in_runs a.len runs in
+    let r = in_runs (run_lengths runs) ranks in (
       m.mark-runs.ensures.0,
-      m.mark-runs.ensures.1 ∙ ap (marked a.at (setRows 0 (compose self r))) z.clear.ensures
-          ∙ marked-compose a.at a.len self r a.out.now (tab-length 0 a.len (λ i. held i runs)),
+      m.mark-runs.ensures.1 ∙ ap (marked a.at (set_rows 0 (compose self r))) z.clear.ensures
+          ∙ marked_compose a.at a.len self r a.out.now (tab_length 0 a.len (λ i. held i runs)),
     )
 
-pub lay-runs-in-runs-spec : {M : Type 1} → statement M
-lay-runs-in-runs-spec =
+pub lay_runs_in_runs_spec : {M : Type 1} → statement M
+lay_runs_in_runs_spec =
     tie.close (tie.spec clear-requires mark-runs-requires same_length returns)

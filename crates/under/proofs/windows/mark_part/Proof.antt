@@ -6,10 +6,10 @@ use mathlib.Core.Bool.{true}
 use native.Mathlib.Omega.{arith}
 use lib.ListN.{replicate}
 use borrow.Author.Rules.{rules}
-use Rattle.rows.specs.Lists.{setRows}
+use Rattle.rows.specs.Lists.{set_rows}
 use Rattle.rows.specs.Laid.{laid, marked}
 use Rattle.books.specs.Windows.{into}
-use Rattle.under.proofs.WindowLaws.{ones-marked}
+use Rattle.under.proofs.WindowLaws.{ones_marked}
 use Rattle.under.proofs.windows.mark_part.Statement.{statement}
 use Rattle.under.proofs.windows.mark_part.Tie as tie
 
@@ -40,14 +40,14 @@ module _ (c : tie.After-struct-known) where
   abbrev t : tie.After-ranks-into2
   t = chosen c
 
-  begin-is : t.before.ranks-into.result ≡ begin t
-  begin-is = t.before.ranks-into.ensures
+  begin_is : t.before.ranks-into.result ≡ begin t
+  begin_is = t.before.ranks-into.ensures
 
   end_is : t.ranks-into2.result ≡ end t
   end_is = t.ranks-into2.ensures
 
   some : begin t < end t
-  some = omega (arith, begin-is, end_is, (start t).pre.0, c.before.if1.false)
+  some = omega (arith, begin_is, end_is, (start t).pre.0, c.before.if1.false)
 
 -- ---- the answers
 
@@ -62,10 +62,10 @@ returns c =
     let t = c.before in
     let a = (start t).args in
     let none : 0 ≡ end t - begin t = omega (arith, t.before.ranks-into.ensures, t.ranks-into2.ensures) in
-    (none, ap (λ (n : ℕ). marked a.at (setRows (a.row.0 + begin t) (replicate n true)) a.out.now) none)
+    (none, ap (λ (n : ℕ). marked a.at (set_rows (a.row.0 + begin t) (replicate n true)) a.out.now) none)
 
 add-top : tie.Need-overflow-add-top
-add-top c = omega (arith, some c, begin-is c, (start (chosen c)).requires.1.1)
+add-top c = omega (arith, some c, begin_is c, (start (chosen c)).requires.1.1)
 
 add-below : tie.Need-overflow-add-below
 add-below c = omega (arith, end_is c.before, (start (chosen c.before)).requires.1.1)
@@ -74,12 +74,12 @@ set-run-requires : tie.Need-set-run-requires
 set-run-requires c κs =
     let k = asked c in
     let room = (start (chosen k)).requires.1 in
-    (omega (arith, some k, begin-is k, end_is k), (omega (arith, end_is k, room.0), omega (arith, end_is k, room.1)))
+    (omega (arith, some k, begin_is k, end_is k), (omega (arith, end_is k, room.0), omega (arith, end_is k, room.1)))
 
 sub-result : tie.Need-overflow-sub-result
 sub-result c =
     let k = asked (written c).before in
-    omega (arith, some k, begin-is k, end_is k)
+    omega (arith, some k, begin_is k, end_is k)
 
 same_length : tie.Need-same-length
 same_length c = search rules
@@ -92,15 +92,15 @@ returns-2 c =
     let a = (start t).args in
     let out = a.out.now in
     let row = a.row.0 in
-    let place : row + t.before.ranks-into.result ≡ row + begin t = omega (arith, begin-is k) in
-    let long : row + t.ranks-into2.result - (row + t.before.ranks-into.result) ≡ end t - begin t = omega (arith, begin-is k, end_is k) in (
-      ap₂ (λ (x y : ℕ). x - y) (end_is k) (begin-is k),
-      w.set-run.ensures ∙ ap₂ (λ (b n : ℕ). laid (a.at + b) (replicate n true) out) place long
-          ∙ sym (ones-marked a.at (row + begin t) (end t - begin t) out (omega (arith, some k))),
+    let place : row + t.before.ranks-into.result ≡ row + begin t = omega (arith, begin_is k) in
+    let long : row + t.ranks-into2.result - (row + t.before.ranks-into.result) ≡ end t - begin t = omega (arith, begin_is k, end_is k) in (
+      ap₂ (λ (x y : ℕ). x - y) (end_is k) (begin_is k),
+      w.set_run.ensures ∙ ap₂ (λ (b n : ℕ). laid (a.at + b) (replicate n true) out) place long
+          ∙ sym (ones_marked a.at (row + begin t) (end t - begin t) out (omega (arith, some k))),
     )
 
-pub mark-part-spec : {M : Type 1} → statement M
-mark-part-spec =
+pub mark_part_spec : {M : Type 1} → statement M
+mark_part_spec =
     tie.close
     (tie.spec
     ranks-into-requires

@@ -8,7 +8,7 @@ use lib.ListN.{length, get_or}
 use Rattle.rows.specs.Rows.{count}
 use Rattle.rows.proofs.RunTurnLaws.{NextRun}
 use Rattle.books.specs.Windows.{window}
-use Rattle.under.proofs.RunsInRunsLaws.{Composing, composing-none, composing-next, composing-few, composing-sum, composing-run, composing-all}
+use Rattle.under.proofs.RunsInRunsLaws.{Composing, composing_none, composing_next, composing_few, composing_sum, composing_run, composing_all}
 use Rattle.under.proofs.windows.mark_runs.Statement.{statement}
 use Rattle.under.proofs.windows.mark_runs.Tie as tie
 
@@ -57,19 +57,19 @@ module _ (c : tie.In-loop invariant-loop decreases-loop) where
   next =
       let l = (head c).loop in
       let a = s.args in
-      composing-next runs ranks a.len a.at i l.rank l.next l.sum a.out.now l.out l.inv (omega arith)
+      composing_next runs ranks a.len a.at i l.rank l.next l.sum a.out.now l.out l.inv (omega arith)
 
   few : (head c).loop.rank + (get_or runs (i + 1) 0 - get_or runs i 0) ≤ s.args.len
   few =
       let l = (head c).loop in
       let a = s.args in
-      composing-few runs ranks a.len a.at i l.rank l.next l.sum a.out.now l.out l.inv (omega arith) s.pre.0
+      composing_few runs ranks a.len a.at i l.rank l.next l.sum a.out.now l.out l.inv (omega arith) s.pre.0
 
-  sum-few : (head c).loop.sum + count (window (head c).loop.rank (get_or runs (i + 1) 0 - get_or runs i 0) ranks) ≤ s.args.len
-  sum-few =
+  sum_few : (head c).loop.sum + count (window (head c).loop.rank (get_or runs (i + 1) 0 - get_or runs i 0) ranks) ≤ s.args.len
+  sum_few =
       let l = (head c).loop in
       let a = s.args in
-      composing-sum runs ranks a.len a.at i l.rank l.next l.sum a.out.now l.out l.inv (omega arith)
+      composing_sum runs ranks a.len a.at i l.rank l.next l.sum a.out.now l.out l.inv (omega arith)
 
 -- ---- the answers
 
@@ -77,7 +77,7 @@ loop-holds : tie.Need-loop-init invariant-loop decreases-loop
 loop-holds c =
     let s = entry c in
     let a = s.args in
-    composing-none a.runs.now a.ranks.now a.len a.at a.out.now s.pre.0 s.pre.1 s.pre.2
+    composing_none a.runs.now a.ranks.now a.len a.at a.out.now s.pre.0 s.pre.1 s.pre.2
 
 mul-first : tie.Need-overflow-mul-first invariant-loop decreases-loop
 mul-first c = omega arith
@@ -117,7 +117,7 @@ mark-window-requires c κs =
 add-sum : tie.Need-overflow-add-sum invariant-loop decreases-loop
 add-sum c =
     let t = turn (back c) in
-    omega (arith, sum-few t, (back c).mark-window.ensures.1, (s t).pre.2)
+    omega (arith, sum_few t, (back c).mark-window.ensures.1, (s t).pre.2)
 
 add-rank : tie.Need-overflow-add-rank invariant-loop decreases-loop
 add-rank c =
@@ -137,7 +137,7 @@ loop-again c =
     let a = (s t).args in
     let e = (back c).mark-window.ensures in
     let m = (back c).mark-window.result in
-    composing-run (runs t) (ranks t) a.len a.at (i t) l.rank l.next l.sum a.out.now l.out l.inv (omega arith)
+    composing_run (runs t) (ranks t) a.len a.at (i t) l.rank l.next l.sum a.out.now l.out l.inv (omega arith)
     _ m.next m.set e.0 e.1 e.2
 
 same_length : tie.Need-same-length invariant-loop decreases-loop
@@ -148,10 +148,10 @@ returns c =
     let h = c.before in
     let l = h.loop in
     let a = (start h).args in
-    composing-all a.runs.now a.ranks.now a.len a.at l.i l.rank l.next l.sum a.out.now l.out l.invariant (omega arith)
+    composing_all a.runs.now a.ranks.now a.len a.at l.i l.rank l.next l.sum a.out.now l.out l.invariant (omega arith)
 
-pub mark-runs-spec : {M : Type 1} → statement M
-mark-runs-spec =
+pub mark_runs_spec : {M : Type 1} → statement M
+mark_runs_spec =
     tie.close
     (tie.spec
     invariant-loop

@@ -6,7 +6,7 @@ use native.Mathlib.Omega.{arith}
 use lib.ListN.{length}
 use borrow.Author.Rules.{rules}
 use Rattle.rows.proofs.RunTurnLaws.{NextRun}
-use Rattle.under.proofs.WindowLaws.{Windowing, windowing-none, windowing-next, windowing-few, windowing-run, windowing-stop, windowing-end}
+use Rattle.under.proofs.WindowLaws.{Windowing, windowing_none, windowing_next, windowing_few, windowing_run, windowing_stop, windowing_end}
 use Rattle.under.proofs.windows.mark_window.Statement.{statement}
 use Rattle.under.proofs.windows.mark_window.Tie as tie
 
@@ -49,7 +49,7 @@ module _ (c : tie.In-loop invariant-loop decreases-loop) where
   next =
       let l = (head c).loop in
       let a = s.args in
-      windowing-next ranks a.from.0 a.n a.row.0 a.at l.i l.set a.out.now l.out l.inv (omega arith)
+      windowing_next ranks a.from.0 a.n a.row.0 a.at l.i l.set a.out.now l.out l.inv (omega arith)
 
 -- ---- the answers
 
@@ -59,7 +59,7 @@ add-end c = omega (arith, (entry c).requires.1)
 loop-holds : tie.Need-loop-init invariant-loop decreases-loop
 loop-holds c =
     let a = (entry c).args in
-    windowing-none a.ranks.now a.from.0 a.n a.row.0 a.at a.next a.out.now (entry c).requires.0
+    windowing_none a.ranks.now a.from.0 a.n a.row.0 a.at a.next a.out.now (entry c).requires.0
 
 mul-first : tie.Need-overflow-mul-first invariant-loop decreases-loop
 mul-first c = omega arith
@@ -95,7 +95,7 @@ add-set c =
     let l = (head t).loop in
     let a = (s t).args in
     let few =
-    windowing-few (ranks t) a.from.0 a.n a.row.0 a.at l.i l.set a.out.now l.out l.inv (omega arith) l.out in
+    windowing_few (ranks t) a.from.0 a.n a.row.0 a.at l.i l.set a.out.now l.out l.inv (omega arith) l.out in
     omega (arith, few, m.mark-part.ensures.0, (s t).pre.1)
 
 same_length : tie.Need-same-length invariant-loop decreases-loop
@@ -108,7 +108,7 @@ returns c =
     let l = (head t).loop in
     let a = (s t).args in
     let e = m.mark-part.ensures in
-    windowing-stop (ranks t) a.from.0 a.n a.row.0 a.at l.i l.set a.out.now l.out l.inv (omega arith) _
+    windowing_stop (ranks t) a.from.0 a.n a.row.0 a.at l.i l.set a.out.now l.out l.inv (omega arith) _
     m.mark-part.result e.0 e.1 c.if1.true
 
 add-i : tie.Need-overflow-add-i invariant-loop decreases-loop
@@ -124,7 +124,7 @@ loop-again c =
     let l = (head t).loop in
     let a = (s t).args in
     let e = m.mark-part.ensures in
-    windowing-run (ranks t) a.from.0 a.n a.row.0 a.at l.i l.set a.out.now l.out l.inv (omega arith) _
+    windowing_run (ranks t) a.from.0 a.n a.row.0 a.at l.i l.set a.out.now l.out l.inv (omega arith) _
     m.mark-part.result e.0 e.1 (omega arith)
 
 same-length-2 : tie.Need-same-length-2 invariant-loop decreases-loop
@@ -135,10 +135,10 @@ returns-2 c =
     let h = c.before in
     let l = h.loop in
     let a = (start h).args in
-    windowing-end a.ranks.now a.from.0 a.n a.row.0 a.at l.i l.set a.out.now l.out l.invariant (omega arith)
+    windowing_end a.ranks.now a.from.0 a.n a.row.0 a.at l.i l.set a.out.now l.out l.invariant (omega arith)
 
-pub mark-window-spec : {M : Type 1} → statement M
-mark-window-spec =
+pub mark_window_spec : {M : Type 1} → statement M
+mark_window_spec =
     tie.close
     (tie.spec
     invariant-loop

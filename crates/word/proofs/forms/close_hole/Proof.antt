@@ -1,9 +1,9 @@
 -- `word::forms::close_hole` meets its contract: the hole's wrapping minus one is the digits below the hole. Assumes nothing.
 use Rattle.std.proofs.Common.{◌≡◌, ℕ, ◌-◌, ◌/◌, ◌^◌, ap, ◌∙◌, ap₂, arith, rules}
 use lib.Bits.{bit_and, bit_or, bit_xor}
-use Rattle.network.specs.Lowest.{closed, withoutLowest}
+use Rattle.network.specs.Lowest.{closed, without_lowest}
 use Rattle.network.proofs.LowestLaws.{xor_low}
-use Rattle.word.proofs.HoleLaws.{under, below-hole}
+use Rattle.word.proofs.HoleLaws.{under, below_hole}
 use Rattle.word.proofs.CloseLaws.{closed_is}
 use Rattle.word.proofs.forms.close_hole.Statement.{statement}
 use Rattle.word.proofs.forms.close_hole.Tie as tie
@@ -20,12 +20,12 @@ returns c =
     let s : ℕ = start.args.source in
     let h : ℕ = start.args.holes in
     let below : ℕ = c.wrapping-sub-u64.result in
-    let b : below ≡ under 64 h = below-hole h below (omega arith) (c.wrapping-sub-u64.ensures ∙ c.before.lowest.ensures) in
+    let b : below ≡ under 64 h = below_hole h below (omega arith) (c.wrapping-sub-u64.ensures ∙ c.before.lowest.ensures) in
     let moved : bit_or (bit_and s below) (bit_and (s / 2) (2 ^ 64 - 1 - below)) ≡ closed 64 h s =
     ap (λ (n : ℕ). bit_or (bit_and s n) (bit_and (s / 2) (2 ^ 64 - 1 - n))) b ∙ closed_is 64 h s start.ranges.source.fits in
-    let left : bit_xor h c.before.lowest.result / 2 ≡ withoutLowest 64 h / 2 =
+    let left : bit_xor h c.before.lowest.result / 2 ≡ without_lowest 64 h / 2 =
     ap (λ (n : ℕ). n / 2) (ap (bit_xor h) c.before.lowest.ensures ∙ xor_low 64 h start.ranges.holes.fits) in
     ap₂ (λ (x y : ℕ). record { source = x; holes = y }) moved left
 
-pub close-hole-spec : {M : Type 1} → statement M
-close-hole-spec = tie.close (tie.spec lowest-requires wrapping-sub-u64-requires returns)
+pub close_hole_spec : {M : Type 1} → statement M
+close_hole_spec = tie.close (tie.spec lowest-requires wrapping-sub-u64-requires returns)

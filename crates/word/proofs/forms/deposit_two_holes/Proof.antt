@@ -2,9 +2,9 @@
 -- Assumes nothing.
 use Rattle.std.proofs.Common.{◌≡◌, ℕ, ◌+◌, ◌-◌, ◌^◌, ◌<◌, sym, ap, ◌∙◌, ap₂, arith, rules}
 use lib.Bits.{bit_and}
-use Rattle.network.specs.Lowest.{pastHole}
-use Rattle.network.proofs.DealtLaws.{pdep-dealt}
-use Rattle.word.proofs.HoleLaws.{two-holes, ones-comp}
+use Rattle.network.specs.Lowest.{past_hole}
+use Rattle.network.proofs.DealtLaws.{pdep_dealt}
+use Rattle.word.proofs.HoleLaws.{two_holes, ones_comp}
 use Rattle.word.proofs.forms.deposit_two_holes.Statement.{statement}
 use Rattle.word.proofs.forms.deposit_two_holes.Tie as tie
 
@@ -24,8 +24,8 @@ returns c =
     let e : m + h + 1 ≡ 2 ^ 64 = omega arith in
     ap (λ (n : ℕ). bit_and n m)
     (ap (λ r. r.source) c.before.past-hole2.ensures
-    ∙ ap₂ (λ (x y : ℕ). pastHole 64 x 0 y) (ap (λ r. r.holes) c.before.before.past-hole.ensures) (ap (λ r. r.source) c.before.before.past-hole.ensures))
-    ∙ two-holes 64 s m h e (omega (arith, ones-comp 64 m h e, start.requires)) ∙ sym (pdep-dealt 64 s m)
+    ∙ ap₂ (λ (x y : ℕ). past_hole 64 x 0 y) (ap (λ r. r.holes) c.before.before.past-hole.ensures) (ap (λ r. r.source) c.before.before.past-hole.ensures))
+    ∙ two_holes 64 s m h e (omega (arith, ones_comp 64 m h e, start.requires)) ∙ sym (pdep_dealt 64 s m)
 
-pub deposit-two-holes-spec : {M : Type 1} → statement M
-deposit-two-holes-spec = tie.close (tie.spec past-hole-requires past-hole-requires-2 returns)
+pub deposit_two_holes_spec : {M : Type 1} → statement M
+deposit_two_holes_spec = tie.close (tie.spec past-hole-requires past-hole-requires-2 returns)

@@ -1,9 +1,9 @@
 -- `word::forms::deposit_two_lowest` meets its contract: two set digits are peeled off the mask, and no third is there. Assumes nothing.
 use Rattle.std.proofs.Common.{◌≡◌, ℕ, ◌*◌, ◌/◌, ◌%◌, ◌^◌, ◌<◌, sym, ap, ◌∙◌, ap₂, rules}
 use lib.Bits.{bit_or, bit_xor}
-use Rattle.network.specs.Lowest.{lowestSet, withoutLowest}
+use Rattle.network.specs.Lowest.{lowest_set, without_lowest}
 use Rattle.network.proofs.LowestLaws.{xor_low}
-use Rattle.network.proofs.DealtLaws.{two-lowest, pdep-dealt}
+use Rattle.network.proofs.DealtLaws.{two_lowest, pdep_dealt}
 use Rattle.word.proofs.forms.deposit_two_lowest.Statement.{statement}
 use Rattle.word.proofs.forms.deposit_two_lowest.Tie as tie
 
@@ -25,13 +25,13 @@ returns c =
     let s : ℕ = start.args.source in
     let m : ℕ = start.args.mask in
     let h : m < 2 ^ 64 = start.ranges.mask.fits in
-    let first : c.before.before.before.lowest.result ≡ lowestSet 64 m = c.before.before.before.lowest.ensures in
-    let second : c.before.before.lowest2.result ≡ lowestSet 64 (withoutLowest 64 m) =
-    c.before.before.lowest2.ensures ∙ ap (lowestSet 64) (ap (bit_xor m) first ∙ xor_low 64 m h) in
+    let first : c.before.before.before.lowest.result ≡ lowest_set 64 m = c.before.before.before.lowest.ensures in
+    let second : c.before.before.lowest2.result ≡ lowest_set 64 (without_lowest 64 m) =
+    c.before.before.lowest2.ensures ∙ ap (lowest_set 64) (ap (bit_xor m) first ∙ xor_low 64 m h) in
     ap₂ bit_or (c.before.if-odd.ensures ∙ ap (λ (x : ℕ). x * (s % 2)) first) (c.if-odd2.ensures ∙ ap (λ (x : ℕ). x * (s / 2 % 2)) second)
-    ∙ two-lowest 64 s m h start.requires ∙ sym (pdep-dealt 64 s m)
+    ∙ two_lowest 64 s m h start.requires ∙ sym (pdep_dealt 64 s m)
 
-pub deposit-two-lowest-spec : {M : Type 1} → statement M
-deposit-two-lowest-spec =
+pub deposit_two_lowest_spec : {M : Type 1} → statement M
+deposit_two_lowest_spec =
     tie.close
     (tie.spec lowest-requires lowest-requires-2 if-odd-requires if-odd-requires-2 returns)

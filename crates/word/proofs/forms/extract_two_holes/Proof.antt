@@ -2,9 +2,9 @@
 -- By the law of at most two holes closed. Assumes nothing.
 use Rattle.std.proofs.Common.{◌≡◌, ℕ, ◌+◌, ◌-◌, ◌^◌, sym, ap, ◌∙◌, ap₂, arith, rules}
 use Rattle.network.specs.Lowest.{closed}
-use Rattle.network.proofs.CollectedLaws.{pext-collected}
-use Rattle.word.proofs.HoleLaws.{ones-comp}
-use Rattle.word.proofs.CloseLaws.{two-closed}
+use Rattle.network.proofs.CollectedLaws.{pext_collected}
+use Rattle.word.proofs.HoleLaws.{ones_comp}
+use Rattle.word.proofs.CloseLaws.{two_closed}
 use Rattle.word.proofs.forms.extract_two_holes.Statement.{statement}
 use Rattle.word.proofs.forms.extract_two_holes.Tie as tie
 
@@ -24,7 +24,7 @@ returns c =
     let e : m + h + 1 ≡ 2 ^ 64 = omega (arith, start.ranges.mask.fits) in
     ap (λ r. r.source) c.close-hole2.ensures
     ∙ ap₂ (closed 64) (ap (λ r. r.holes) once.ensures) (ap (λ r. r.source) once.ensures)
-    ∙ two-closed 64 s m h e (omega (arith, ones-comp 64 m h e, start.requires)) start.ranges.source.fits ∙ sym (pext-collected 64 s m)
+    ∙ two_closed 64 s m h e (omega (arith, ones_comp 64 m h e, start.requires)) start.ranges.source.fits ∙ sym (pext_collected 64 s m)
 
-pub extract-two-holes-spec : {M : Type 1} → statement M
-extract-two-holes-spec = tie.close (tie.spec close-hole-requires close-hole-requires-2 returns)
+pub extract_two_holes_spec : {M : Type 1} → statement M
+extract_two_holes_spec = tie.close (tie.spec close-hole-requires close-hole-requires-2 returns)

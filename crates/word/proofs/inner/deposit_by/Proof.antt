@@ -6,9 +6,9 @@ use Rattle.rows.specs.declared.Refusal.{Refusal}
 use Rattle.rows.specs.Rows.{count}
 use Rattle.rows.specs.Word.{bits_of}
 use Rattle.rows.specs.Pdep.{pdep}
-use Rattle.rows.specs.WordAnswer.{depositAnswer, deposited}
+use Rattle.rows.specs.WordAnswer.{deposit_answer, deposited}
 use Rattle.rows.proofs.WordLaws.{count_bits}
-use Rattle.rows.proofs.Theorems.{deposit-refused, deposit-answers}
+use Rattle.rows.proofs.Theorems.{deposit_refused, deposit_answers}
 use Rattle.word.proofs.inner.deposit_by.Statement.{statement}
 use Rattle.word.proofs.inner.deposit_by.Tie as tie
 
@@ -32,8 +32,8 @@ returns : tie.Need-returns
 returns c =
     let s = c.before.before.before in
     let differs = c.before.before.if1 in
-    c.deposit-answer.ensures ∙ ap (λ (x : Refusal). depositAnswer x 0) c.before.refusal.ensures
-    ∙ sym (deposit-refused s.args.source s.args.mask s.args.claimed (λ h. omega (arith, counted s, differs)))
+    c.deposit-answer.ensures ∙ ap (λ (x : Refusal). deposit_answer x 0) c.before.refusal.ensures
+    ∙ sym (deposit_refused s.args.source s.args.mask s.args.claimed (λ h. omega (arith, counted s, differs)))
 
 cast-count : tie.Need-overflow-cast-count
 cast-count c = omega (arith, few c.before)
@@ -60,25 +60,25 @@ deposit-answer-requires-3 : tie.Need-deposit-answer-requires-3
 deposit-answer-requires-3 c κs = search rules
 
 -- where the count was found to be the mask's: the word that PDEP gives is the answer
-answers : (q : tie.After-no-refusal) → let a = q.before.before.args in depositAnswer q.no-refusal.result (pdep 64 a.source a.mask) ≡ deposited a.source a.mask a.claimed
+answers : (q : tie.After-no-refusal) → let a = q.before.before.args in deposit_answer q.no-refusal.result (pdep 64 a.source a.mask) ≡ deposited a.source a.mask a.claimed
 answers q =
     let s = q.before.before in
     let same = q.before.if1 in
-    ap (λ (x : Refusal). depositAnswer x (pdep 64 s.args.source s.args.mask)) q.no-refusal.ensures
-    ∙ sym (deposit-answers s.args.source s.args.mask s.args.claimed (omega (arith, counted s, same)))
+    ap (λ (x : Refusal). deposit_answer x (pdep 64 s.args.source s.args.mask)) q.no-refusal.ensures
+    ∙ sym (deposit_answers s.args.source s.args.mask s.args.claimed (omega (arith, counted s, same)))
 
 returns-2 : tie.Need-returns-2
 returns-2 c =
     let q = c.before.before.before.before in
-    c.deposit-answer2.ensures ∙ ap (depositAnswer q.no-refusal.result) c.before.deposit-portable.ensures ∙ answers q
+    c.deposit-answer2.ensures ∙ ap (deposit_answer q.no-refusal.result) c.before.deposit-portable.ensures ∙ answers q
 
 returns-3 : tie.Need-returns-3
 returns-3 c =
     let q = c.before.before.before.before in
-    c.deposit-answer3.ensures ∙ ap (depositAnswer q.no-refusal.result) c.before.deposit-portable-loop.ensures ∙ answers q
+    c.deposit-answer3.ensures ∙ ap (deposit_answer q.no-refusal.result) c.before.deposit-portable-loop.ensures ∙ answers q
 
-pub deposit-by-spec : {M : Type 1} → statement M
-deposit-by-spec =
+pub deposit_by_spec : {M : Type 1} → statement M
+deposit_by_spec =
     tie.close
     (tie.spec
     cast-if1

@@ -4,8 +4,8 @@ use Rattle.std.proofs.Common.{◌≡◌, ℕ, ◌-◌, ◌*◌, ◌/◌, ◌%◌
 use lib.Bits.{bit_and, bit_or, and_le_l, and_le_r, or_zero_r}
 use borrow.Author.Tests.{not-false}
 use Rattle.rows.specs.Pdep.{pdep}
-use Rattle.network.specs.Lowest.{lowestSet}
-use Rattle.network.proofs.DealtLaws.{dealt, pdep-dealt, turn, dealt-no-mask, dealt-no-source}
+use Rattle.network.specs.Lowest.{lowest_set}
+use Rattle.network.proofs.DealtLaws.{dealt, pdep_dealt, turn, dealt_no_mask, dealt_no_source}
 use Rattle.word.proofs.inner.deposit_portable_loop.Statement.{statement}
 use Rattle.word.proofs.inner.deposit_portable_loop.Tie as tie
 
@@ -22,7 +22,7 @@ returns : tie.Need-returns invariant-loop decreases-loop
 returns c = c.deposit-two-lowest.ensures
 
 loop-holds : tie.Need-loop-init invariant-loop decreases-loop
-loop-holds c = (c.before.ranges.mask.fits, sym (pdep-dealt 64 c.before.args.source c.before.args.mask))
+loop-holds c = (c.before.ranges.mask.fits, sym (pdep_dealt 64 c.before.args.source c.before.args.mask))
 
 lowest-requires : tie.Need-lowest-requires invariant-loop decreases-loop
 lowest-requires c κs = search rules
@@ -41,7 +41,7 @@ loop-again c =
     let at = c.before.before.before.before.loop in
     let m : ℕ = at.m in
     let s : ℕ = at.s in
-    let new : c.if-odd.result ≡ lowestSet 64 m * (s % 2) = c.if-odd.ensures ∙ ap (λ (x : ℕ). x * (s % 2)) c.before.lowest.ensures in (
+    let new : c.if-odd.result ≡ lowest_set 64 m * (s % 2) = c.if-odd.ensures ∙ ap (λ (x : ℕ). x * (s % 2)) c.before.lowest.ensures in (
       lt_of_le_of_lt (and_le_l m (m - 1)) at.invariant.0,
       ap (λ (x : ℕ). bit_or (bit_or at.result x) (dealt 64 (s / 2) (bit_and m (m - 1)))) new ∙ turn 64 at.result s m at.invariant.0 (omega arith) ∙ at.invariant.1,
     )
@@ -49,15 +49,15 @@ loop-again c =
 returns-2 : tie.Need-returns-2 invariant-loop decreases-loop
 returns-2 c =
     let at = c.before.before.loop in
-    sym (or_zero_r at.result) ∙ ap (bit_or at.result) (sym (ap (λ (x : ℕ). dealt 64 x at.m) (eqb-true at.s 0 (not-false (eqb at.s 0) c.if2.false)) ∙ dealt-no-source 64 at.m)) ∙ at.invariant.1
+    sym (or_zero_r at.result) ∙ ap (bit_or at.result) (sym (ap (λ (x : ℕ). dealt 64 x at.m) (eqb-true at.s 0 (not-false (eqb at.s 0) c.if2.false)) ∙ dealt_no_source 64 at.m)) ∙ at.invariant.1
 
 returns-3 : tie.Need-returns-3 invariant-loop decreases-loop
 returns-3 c =
     let at = c.before.loop in
-    sym (or_zero_r at.result) ∙ ap (bit_or at.result) (sym (ap (dealt 64 at.s) c.loop-test.false ∙ dealt-no-mask 64 at.s)) ∙ at.invariant.1
+    sym (or_zero_r at.result) ∙ ap (bit_or at.result) (sym (ap (dealt 64 at.s) c.loop-test.false ∙ dealt_no_mask 64 at.s)) ∙ at.invariant.1
 
-pub deposit-portable-loop-spec : {M : Type 1} → statement M
-deposit-portable-loop-spec =
+pub deposit_portable_loop_spec : {M : Type 1} → statement M
+deposit_portable_loop_spec =
     tie.close
     (tie.spec
     invariant-loop

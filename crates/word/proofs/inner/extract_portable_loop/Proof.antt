@@ -2,8 +2,8 @@
 -- The measure is the mask. Assumes nothing.
 use Rattle.std.proofs.Common.{◌≡◌, ℕ, ◌-◌, ◌<◌, min, ap, ◌∙◌, arith, rules}
 use lib.Bits.{bit_and, and_le_r}
-use Rattle.network.specs.Lowest.{lowestSet}
-use Rattle.word.proofs.CollectingLaws.{Collecting, collecting-none, collecting-room, collecting-turn, collecting-end}
+use Rattle.network.specs.Lowest.{lowest_set}
+use Rattle.word.proofs.CollectingLaws.{Collecting, collecting_none, collecting_room, collecting_turn, collecting_end}
 use Rattle.word.proofs.inner.extract_portable_loop.Statement.{statement}
 use Rattle.word.proofs.inner.extract_portable_loop.Tie as tie
 
@@ -29,9 +29,9 @@ module _ (c : tie.In-loop invariant-loop decreases-loop) where
   some = omega arith
 
   near : c.before.loop.k < 64
-  near = collecting-room 64 _ _ c.before.loop.k m _ some c.before.loop.invariant
+  near = collecting_room 64 _ _ c.before.loop.k m _ some c.before.loop.invariant
 
-given : (c : tie.After-any invariant-loop decreases-loop) → c.any.result ≡ min (bit_and (start (turn c).before).args.source (lowestSet 64 (m (turn c)))) 1
+given : (c : tie.After-any invariant-loop decreases-loop) → c.any.result ≡ min (bit_and (start (turn c).before).args.source (lowest_set 64 (m (turn c)))) 1
 given c = c.any.ensures ∙ ap (λ (n : ℕ). min (bit_and (start (turn c).before).args.source n) 1) c.before.lowest.ensures
 
 -- ---- the answers
@@ -42,7 +42,7 @@ returns : tie.Need-returns invariant-loop decreases-loop
 returns c = c.extract-two-lowest.ensures
 
 loop-holds : tie.Need-loop-init invariant-loop decreases-loop
-loop-holds c = collecting-none 64 c.before.args.source c.before.args.mask c.before.ranges.mask.fits
+loop-holds c = collecting_none 64 c.before.args.source c.before.args.mask c.before.ranges.mask.fits
 
 lowest-requires : tie.Need-lowest-requires invariant-loop decreases-loop
 lowest-requires c κs = search rules
@@ -66,13 +66,13 @@ loop-less : tie.Need-loop-smaller invariant-loop decreases-loop
 loop-less c = omega (arith, some (turn c), and_le_r (m (turn c)) (m (turn c) - 1))
 
 loop-again : tie.Need-loop-preserved invariant-loop decreases-loop
-loop-again c = collecting-turn 64 _ _ _ (m (turn c)) _ c.any.result (some (turn c)) (given c) (turn c).before.loop.invariant
+loop-again c = collecting_turn 64 _ _ _ (m (turn c)) _ c.any.result (some (turn c)) (given c) (turn c).before.loop.invariant
 
 returns-2 : tie.Need-returns-2 invariant-loop decreases-loop
-returns-2 c = collecting-end 64 _ _ _ _ _ c.loop-test.false c.before.loop.invariant
+returns-2 c = collecting_end 64 _ _ _ _ _ c.loop-test.false c.before.loop.invariant
 
-pub extract-portable-loop-spec : {M : Type 1} → statement M
-extract-portable-loop-spec =
+pub extract_portable_loop_spec : {M : Type 1} → statement M
+extract_portable_loop_spec =
     tie.close
     (tie.spec
     invariant-loop

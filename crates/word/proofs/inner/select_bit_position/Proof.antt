@@ -7,42 +7,42 @@ use lib.Count.{ones, ones-le}
 use Rattle.rows.specs.Word.{bits_of}
 use Rattle.rows.specs.Lists.{select}
 use Rattle.network.specs.Lanes.{each}
-use Rattle.network.proofs.GatherLaws.{count_low, count-high}
-use Rattle.word.proofs.SelectWord.{skip-bits, in-bits, in-bits-lt}
+use Rattle.network.proofs.GatherLaws.{count_low, count_high}
+use Rattle.word.proofs.SelectWord.{skip_bits, in_bits, in_bits_lt}
 use Rattle.word.proofs.inner.select_bit_position.Statement.{statement}
 use Rattle.word.proofs.inner.select_bit_position.Tie as tie
 
 -- the bytes from a bit on
-abbrev bytesFrom : ℕ → ℕ
-bytesFrom offset = (64 - offset) / 8
+abbrev bytes_from : ℕ → ℕ
+bytes_from offset = (64 - offset) / 8
 
 -- what a byte that is left has: its count is the first of the counts
 record Byte (offset rest counts : ℕ) : Type 0 where
   room : offset + 8 ≤ 64
   few : ones (rest % 256) ≤ 8
   count : bit_and counts 255 ≡ ones (rest % 256)
-  later : counts / 256 ≡ each ones (bytesFrom (offset + 8)) (rest / 256)
+  later : counts / 256 ≡ each ones (bytes_from (offset + 8)) (rest / 256)
 
-byte_left : (offset rest counts : ℕ) → offset < 64 → offset % 8 ≡ 0 → counts ≡ each ones (bytesFrom offset) rest → Byte offset rest counts
+byte_left : (offset rest counts : ℕ) → offset < 64 → offset % 8 ≡ 0 → counts ≡ each ones (bytes_from offset) rest → Byte offset rest counts
 byte_left offset rest counts more whole are =
-    let n : ℕ = bytesFrom (offset + 8) in
-    let e : bytesFrom offset ≡ suc n = omega arith in
+    let n : ℕ = bytes_from (offset + 8) in
+    let e : bytes_from offset ≡ suc n = omega arith in
     let all : counts ≡ each ones (suc n) rest = are ∙ ap (λ (k : ℕ). each ones k rest) e in
     record {
       room = omega arith;
       few = ones-le 8 (rest % 256) (omega arith);
       count = and_mask counts 8 ∙ ap (λ (k : ℕ). k % 256) all ∙ count_low n rest;
-      later = ap (λ (k : ℕ). k / 256) all ∙ count-high n rest;
+      later = ap (λ (k : ℕ). k / 256) all ∙ count_high n rest;
     }
 
 -- past the last byte no bit is left
-select-empty : (n r : ℕ) → select (bits_of 0 n) r ≡ 0
+select_empty : (n r : ℕ) → select (bits_of 0 n) r ≡ 0
 unfolding bits_of
-select-empty n r = refl
+select_empty n r = refl
 
 abbrev invariant-bytes : tie.invariant-bytes
 invariant-bytes word rank left₀ rest₀ counts₀ offset₀ left rest counts offset =
-    (offset ≤ 64) × (offset % 8 ≡ 0) × (counts ≡ each ones (bytesFrom offset) rest) × (offset + select (bits_of (64 - offset) rest) left ≡ select (bits_of 64 word) rank)
+    (offset ≤ 64) × (offset % 8 ≡ 0) × (counts ≡ each ones (bytes_from offset) rest) × (offset + select (bits_of (64 - offset) rest) left ≡ select (bits_of 64 word) rank)
 
 abbrev decreases-bytes : tie.decreases-bytes
 decreases-bytes word rank left₀ rest₀ counts₀ offset₀ left rest counts offset = 64 - offset
@@ -69,7 +69,7 @@ add-position : tie.Need-overflow-add-position invariant-bytes decreases-bytes
 add-position c =
     let at = c.before.before.before.bytes in
     let byte = byte_left at.bit-offset at.rest at.counts c.before.before.if1.false at.invariant.1 at.invariant.2 in
-    let within = in-bits-lt 8 at.rest at.left (omega (arith, byte.count, c.before.if2.true)) in
+    let within = in_bits_lt 8 at.rest at.left (omega (arith, byte.count, c.before.if2.true)) in
     let low = ap (λ (k : ℕ). select (bits_of 8 k) at.left) (and_mask at.rest 8) in
     record { fits = omega (arith, byte.room, within, low, c.place_in.ensures) }
 
@@ -87,7 +87,7 @@ bytes-again c =
     let j : ℕ = 64 - (at.bit-offset + 8) in
     let v : 64 - at.bit-offset ≡ 8 + j = omega (arith, byte.room) in
     let skip : select (bits_of (64 - at.bit-offset) n) at.left ≡ 8 + select (bits_of j (n / 256)) (at.left - bit_and at.counts 255) =
-    ap (λ (k : ℕ). select (bits_of k n) at.left) v ∙ skip-bits 8 j n at.left (omega (arith, byte.count, c.if2.false))
+    ap (λ (k : ℕ). select (bits_of k n) at.left) v ∙ skip_bits 8 j n at.left (omega (arith, byte.count, c.if2.false))
     ∙ ap (λ (k : ℕ). 8 + select (bits_of j (n / 256)) (at.left - k)) (sym byte.count) in
     (byte.room, omega (arith, at.invariant.1), byte.later, omega (arith, at.invariant.3))
 
@@ -95,7 +95,7 @@ returns : tie.Need-returns invariant-bytes decreases-bytes
 returns c =
     let at = c.before.bytes in
     let e : 64 - at.bit-offset ≡ 0 = omega arith in
-    let z : select (bits_of (64 - at.bit-offset) at.rest) at.left ≡ 0 = ap (λ (k : ℕ). select (bits_of k at.rest) at.left) e ∙ select-empty at.rest at.left in
+    let z : select (bits_of (64 - at.bit-offset) at.rest) at.left ≡ 0 = ap (λ (k : ℕ). select (bits_of k at.rest) at.left) e ∙ select_empty at.rest at.left in
     omega (arith, at.invariant.3)
 
 returns-2 : tie.Need-returns-2 invariant-bytes decreases-bytes
@@ -107,12 +107,12 @@ returns-2 c =
     let v : 64 - at.bit-offset ≡ 8 + j = omega (arith, byte.room) in
     let held : at.left < ones (n % 256) = omega (arith, byte.count, c.before.if2.true) in
     ap (λ (k : ℕ). at.bit-offset + k)
-    (c.place_in.ensures ∙ ap (λ (k : ℕ). select (bits_of 8 k) at.left) (and_mask n 8) ∙ sym (in-bits 8 j n at.left held)
+    (c.place_in.ensures ∙ ap (λ (k : ℕ). select (bits_of 8 k) at.left) (and_mask n 8) ∙ sym (in_bits 8 j n at.left held)
     ∙ ap (λ (k : ℕ). select (bits_of k n) at.left) (sym v))
     ∙ at.invariant.3
 
-pub select-bit-position-spec : {M : Type 1} → statement M
-select-bit-position-spec =
+pub select_bit_position_spec : {M : Type 1} → statement M
+select_bit_position_spec =
     tie.close
     (tie.spec
     invariant-bytes

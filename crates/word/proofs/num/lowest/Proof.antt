@@ -11,5 +11,5 @@ zero-minus-requires c κs = search rules
 returns : tie.Need-returns
 returns c = low_word c.before.args.x c.zero_minus.result c.before.ranges.x.fits c.zero_minus.ensures
 
-pub lowest-spec : {M : Type 1} → statement M
-lowest-spec = tie.close (tie.spec zero-minus-requires returns)
+pub lowest_spec : {M : Type 1} → statement M
+lowest_spec = tie.close (tie.spec zero-minus-requires returns)

@@ -7,9 +7,9 @@ use mathlib.Core.List.{List}
 use native.Mathlib.Omega.{arith}
 use lib.ListN.{length, replicate}
 use borrow.Author.Rules.{rules}
-use Rattle.rows.proofs.LaidLaws.{laid-length}
+use Rattle.rows.proofs.LaidLaws.{laid_length}
 use Rattle.rows.proofs.RunTurnLaws.{NextRun}
-use Rattle.fills.proofs.FillLaws.{Setting, setting-none, setting-next, setting-run, setting-all}
+use Rattle.fills.proofs.FillLaws.{Setting, setting_none, setting_next, setting_run, setting_all}
 use Rattle.fills.proofs.inner.lay.fill_runs.Statement.{statement}
 use Rattle.fills.proofs.inner.lay.fill_runs.Tie as tie
 
@@ -50,7 +50,7 @@ turn c = both c.before.before
 long : (c : tie.After-clear invariant-loop decreases-loop) → length c.clear.new.0 ≡ length (start c).args.out.now
 long c =
     let a = (start c).args in
-    ap length c.clear.ensures ∙ laid-length 64 a.at (replicate a.len false) a.out.now
+    ap length c.clear.ensures ∙ laid_length 64 a.at (replicate a.len false) a.out.now
 
 -- ---- a turn's run
 
@@ -65,7 +65,7 @@ module _ (c : tie.In-loop invariant-loop decreases-loop) where
   set = (head c).loop.invariant
 
   next : NextRun set.from s.args.len (head c).loop.i s.args.runs.now
-  next = setting-next s.args.runs.now s.args.len s.args.at (head c).loop.i out₀ (head c).loop.out set (omega arith)
+  next = setting_next s.args.runs.now s.args.len s.args.at (head c).loop.i out₀ (head c).loop.out set (omega arith)
 
 -- ---- the answers
 
@@ -75,7 +75,7 @@ clear-requires c κs = search rules
 loop-holds : tie.Need-loop-init invariant-loop decreases-loop
 loop-holds c =
     let a = (start (before c)).args in
-    setting-none a.runs.now a.len a.at _ (start (before c)).pre.0
+    setting_none a.runs.now a.len a.at _ (start (before c)).pre.0
 
 mul-first : tie.Need-overflow-mul-first invariant-loop decreases-loop
 mul-first c = omega arith
@@ -116,7 +116,7 @@ loop-again c =
     let t = turn (back c) in
     let a = (s t).args in
     let l = (head t).loop in
-    setting-run a.runs.now a.len a.at l.i (out₀ t) l.out (set t) _ (omega arith) (back c).set-run.ensures
+    setting_run a.runs.now a.len a.at l.i (out₀ t) l.out (set t) _ (omega arith) (back c).set_run.ensures
 
 same_length : tie.Need-same-length invariant-loop decreases-loop
 same_length c = search rules
@@ -127,11 +127,11 @@ returns c =
     let z = cleared h in
     let a = (start z).args in
     let l = h.loop in
-    setting-all a.runs.now a.len a.at l.i z.clear.last.0 l.out l.invariant a.out.now (omega arith) (start z).pre.0
+    setting_all a.runs.now a.len a.at l.i z.clear.last.0 l.out l.invariant a.out.now (omega arith) (start z).pre.0
     z.clear.ensures
 
-pub fill-runs-spec : {M : Type 1} → statement M
-fill-runs-spec =
+pub fill_runs_spec : {M : Type 1} → statement M
+fill_runs_spec =
     tie.close
     (tie.spec
     invariant-loop

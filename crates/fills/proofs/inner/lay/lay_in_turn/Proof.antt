@@ -6,7 +6,7 @@ use lib.ListN.{length}
 use Rattle.rows.proofs.RunTurnLaws.{NextRun}
 use borrow.Author.Rules.{rules}
 use Rattle.rows.proofs.LaidLaws.{below_all}
-use Rattle.fills.proofs.LayLaws.{Laying, laying-none, laying-next, laying-run, laying-last}
+use Rattle.fills.proofs.LayLaws.{Laying, laying_none, laying_next, laying_run, laying_last}
 use Rattle.fills.proofs.inner.lay.lay_in_turn.Statement.{statement}
 use Rattle.fills.proofs.inner.lay.lay_in_turn.Tie as tie
 
@@ -48,7 +48,7 @@ next : (c : tie.In-loop invariant-loop decreases-loop) → NextRun (head c).loop
 next c =
     let l = (head c).loop in
     let a = (start (head c)).args in
-    laying-next a.runs.now a.len a.at l.done l.i a.out.now l.out l.inv (omega arith)
+    laying_next a.runs.now a.len a.at l.done l.i a.out.now l.out l.inv (omega arith)
 
 -- ---- the answers
 
@@ -56,7 +56,7 @@ loop-holds : tie.Need-loop-init invariant-loop decreases-loop
 loop-holds c =
     let s = entry c in
     let out = s.args.out.now in
-    laying-none s.args.runs.now s.args.len s.args.at out s.pre.0 (below_all (2 ^ 64) out (λ i. (c.slice-known.given i).fits))
+    laying_none s.args.runs.now s.args.len s.args.at out s.pre.0 (below_all (2 ^ 64) out (λ i. (c.slice-known.given i).fits))
 
 mul-first : tie.Need-overflow-mul-first invariant-loop decreases-loop
 mul-first c = omega arith
@@ -97,7 +97,7 @@ loop-again c =
     let h = head (turn (back c)) in
     let a = (start h).args in
     let l = h.loop in
-    laying-run a.runs.now a.len a.at l.done l.i a.out.now l.out l.inv _ (omega arith) (back c).lay-run.ensures
+    laying_run a.runs.now a.len a.at l.done l.i a.out.now l.out l.inv _ (omega arith) (back c).lay-run.ensures
 
 add-clear : tie.Need-overflow-add-clear invariant-loop decreases-loop
 add-clear c = omega (arith, c.before.before.loop.invariant.within)
@@ -119,10 +119,10 @@ returns c =
     let h = last (cleared c) in
     let a = (start h).args in
     let l = h.loop in
-    laying-last a.runs.now a.len a.at l.done l.i a.out.now l.out l.inv _ (omega arith) (cleared c).clear.ensures
+    laying_last a.runs.now a.len a.at l.done l.i a.out.now l.out l.inv _ (omega arith) (cleared c).clear.ensures
 
-pub lay-in-turn-spec : {M : Type 1} → statement M
-lay-in-turn-spec =
+pub lay_in_turn_spec : {M : Type 1} → statement M
+lay_in_turn_spec =
     tie.close
     (tie.spec
     invariant-loop

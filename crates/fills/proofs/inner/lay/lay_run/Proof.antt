@@ -7,7 +7,7 @@ use native.Mathlib.Omega.{arith}
 use lib.ListN.{replicate, length-replicate}
 use borrow.Author.Rules.{rules}
 use Rattle.rows.specs.Laid.{laid}
-use Rattle.rows.proofs.LaidLaws.{laid-append}
+use Rattle.rows.proofs.LaidLaws.{laid_append}
 use Rattle.fills.proofs.inner.lay.lay_run.Statement.{statement}
 use Rattle.fills.proofs.inner.lay.lay_run.Tie as tie
 
@@ -53,10 +53,10 @@ returns c =
     let unset = replicate (a.first - a.done) false in
     let set = replicate (a.past - a.first) true in
     f.fill.ensures ∙ ap (laid (a.at + a.first) set) z.clear.ensures
-    ∙ laid-append 64 (a.at + a.done) (a.at + a.first) unset set a.out.now (omega (arith, length-replicate (a.first - a.done) false))
+    ∙ laid_append 64 (a.at + a.done) (a.at + a.first) unset set a.out.now (omega (arith, length-replicate (a.first - a.done) false))
 
-pub lay-run-spec : {M : Type 1} → statement M
-lay-run-spec =
+pub lay_run_spec : {M : Type 1} → statement M
+lay_run_spec =
     tie.close
     (tie.spec
     add-clear

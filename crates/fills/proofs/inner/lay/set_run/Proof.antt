@@ -7,7 +7,7 @@ use mathlib.Core.List.{List}
 use lib.ListN.{replicate}
 use borrow.Author.Rules.{rules}
 use Rattle.rows.specs.Laid.{laid}
-use Rattle.laid.proofs.LayLaws.{ones-bits}
+use Rattle.laid.proofs.LayLaws.{ones_bits}
 use Rattle.laid.proofs.SameLaws.{low_same}
 use Rattle.fills.proofs.inner.lay.set_run.Statement.{statement}
 use Rattle.fills.proofs.inner.lay.set_run.Tie as tie
@@ -56,7 +56,7 @@ returns-2 c =
     let few = w.before.before in
     let a = (start few).args in
     w.put.ensures
-    ∙ ap (λ (l : List Bool). laid (a.at + a.first) l a.out.now) (low_same (a.past - a.first) 64 (2 ^ 64 - 1) true few.if2.taken (ones-bits 64))
+    ∙ ap (λ (l : List Bool). laid (a.at + a.first) l a.out.now) (low_same (a.past - a.first) 64 (2 ^ 64 - 1) true few.if2.taken (ones_bits 64))
 
 fill-requires : tie.Need-fill-requires
 fill-requires c κs = search rules
@@ -67,8 +67,8 @@ same-length-3 c = search rules
 returns-3 : tie.Need-returns-3
 returns-3 c = search rules
 
-pub set-run-spec : {M : Type 1} → statement M
-set-run-spec =
+pub set_run_spec : {M : Type 1} → statement M
+set_run_spec =
     tie.close
     (tie.spec
     sub-n

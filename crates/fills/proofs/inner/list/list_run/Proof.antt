@@ -4,7 +4,7 @@ use Prim.Native.Nat.{◌-◌, ◌≤◌, ◌<◌}
 use native.Mathlib.Omega.{arith}
 use lib.ListN.{length}
 use borrow.Author.Rules.{rules}
-use Rattle.fills.proofs.ListLaws.{InRun, in-run-none, in-run-row, in-run-all}
+use Rattle.fills.proofs.ListLaws.{InRun, in_run_none, in_run_row, in_run_all}
 use Rattle.fills.proofs.inner.list.list_run.Statement.{statement}
 use Rattle.fills.proofs.inner.list.list_run.Tie as tie
 
@@ -15,7 +15,7 @@ abbrev decreases-loop : tie.decreases-loop
 decreases-loop first past k out₀ row₀ next₀ out row next = past - row
 
 loop-holds : tie.Need-loop-init invariant-loop decreases-loop
-loop-holds c = (omega arith, in-run-none c.args.first c.args.k c.args.out.now)
+loop-holds c = (omega arith, in_run_none c.args.first c.args.k c.args.out.now)
 
 -- the entry is within
 within : (c : tie.In-loop invariant-loop decreases-loop) → c.before.loop.next < length c.before.loop.out
@@ -45,7 +45,7 @@ loop-again : tie.Need-loop-preserved invariant-loop decreases-loop
 loop-again c =
     let a = c.before.before.args in
     let l = c.before.loop in
-    (omega arith, in-run-row a.first a.k l.row l.next a.out.now l.out l.invariant.1)
+    (omega arith, in_run_row a.first a.k l.row l.next a.out.now l.out l.invariant.1)
 
 same_length : tie.Need-same-length invariant-loop decreases-loop
 same_length c = search rules
@@ -54,10 +54,10 @@ returns : tie.Need-returns invariant-loop decreases-loop
 returns c =
     let a = c.before.before.args in
     let l = c.before.loop in
-    in-run-all a.first a.k l.row l.next a.past a.out.now l.out l.invariant.1 (omega arith)
+    in_run_all a.first a.k l.row l.next a.past a.out.now l.out l.invariant.1 (omega arith)
 
-pub list-run-spec : {M : Type 1} → statement M
-list-run-spec =
+pub list_run_spec : {M : Type 1} → statement M
+list_run_spec =
     tie.close
     (tie.spec
     invariant-loop

@@ -3,8 +3,8 @@
 use Prim.Native.Nat.{◌+◌, ◌-◌}
 use native.Mathlib.Omega.{arith}
 use lib.ListN.{length}
-use Rattle.rows.proofs.RunTurnLaws.{NextRun, lengths-next}
-use Rattle.fills.proofs.ListLaws.{Listing, listing_none, listing-next, listing-run, listing-all}
+use Rattle.rows.proofs.RunTurnLaws.{NextRun, lengths_next}
+use Rattle.fills.proofs.ListLaws.{Listing, listing_none, listing_next, listing_run, listing_all}
 use Rattle.fills.proofs.inner.list.list_runs.Statement.{statement}
 use Rattle.fills.proofs.inner.list.list_runs.Tie as tie
 
@@ -41,7 +41,7 @@ next : (c : tie.In-loop invariant-loop decreases-loop)
 next c =
     let l = (head c).loop in
     let a = (start (head c)).args in
-    listing-next a.runs.now a.len l.next l.i a.out.now l.out l.inv (omega arith)
+    listing_next a.runs.now a.len l.next l.i a.out.now l.out l.inv (omega arith)
 
 -- ---- the answers
 
@@ -76,7 +76,7 @@ list-run-requires c κs =
     let r = next (read c) in
     let h = head (read c) in
     let l = h.loop in
-    let left = lengths-next l.inv.done (start h).args.len l.i (start h).args.runs.now r in
+    let left = lengths_next l.inv.done (start h).args.len l.i (start h).args.runs.now r in
     (omega (arith, r.some), omega (arith, r.within, (start h).pre.2), omega (arith, l.inv.room, l.inv.long, left))
 
 add-i : tie.Need-overflow-add-i invariant-loop decreases-loop
@@ -91,7 +91,7 @@ loop-again c =
     let a = (start h).args in
     let l = h.loop in
     let e = (back c).list-run.ensures in
-    listing-run a.runs.now a.len l.next l.i a.out.now l.out l.inv _ _ (omega arith) e.0 e.1
+    listing_run a.runs.now a.len l.next l.i a.out.now l.out l.inv _ _ (omega arith) e.0 e.1
 
 same_length : tie.Need-same-length invariant-loop decreases-loop
 same_length c = c.before.loop.invariant.long
@@ -101,10 +101,10 @@ returns c =
     let h = c.before in
     let a = (start h).args in
     let l = h.loop in
-    listing-all a.runs.now a.len l.next l.i a.out.now l.out l.invariant (omega arith)
+    listing_all a.runs.now a.len l.next l.i a.out.now l.out l.invariant (omega arith)
 
-pub list-runs-spec : {M : Type 1} → statement M
-list-runs-spec =
+pub list_runs_spec : {M : Type 1} → statement M
+list_runs_spec =
     tie.close
     (tie.spec
     invariant-loop

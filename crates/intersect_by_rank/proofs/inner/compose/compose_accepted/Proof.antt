@@ -5,13 +5,13 @@ use mathlib.Core.Path.{◌≡◌, ap, ◌∙◌}
 use mathlib.Core.Bool.{Bool}
 use mathlib.Core.List.{List}
 use native.Mathlib.Omega.{arith}
-use Rattle.rows.specs.Laid.{laid, lastCleared, written}
+use Rattle.rows.specs.Laid.{laid, last_cleared, written}
 use Rattle.rows.proofs.LaidLaws.{below_all}
-use Rattle.rows.proofs.WrittenLaws.{laid-written}
+use Rattle.rows.proofs.WrittenLaws.{laid_written}
 use Rattle.rules.specs.Operand.{Operand, lent, length_of}
 use Rattle.rules.specs.Compose.{result}
-use Rattle.rules.proofs.OperandLaws.{accepted-limit}
-use Rattle.rules.proofs.ComposeLaws.{result-length}
+use Rattle.rules.proofs.OperandLaws.{accepted_limit}
+use Rattle.rules.proofs.ComposeLaws.{result_length}
 use Rattle.intersect_by_rank.proofs.inner.compose.compose_accepted.Statement.{statement}
 use Rattle.intersect_by_rank.proofs.inner.compose.compose_accepted.Tie as tie
 use borrow.Author.Rules.{rules}
@@ -54,24 +54,24 @@ module _ (c : tie.After-slice-known) where
   abbrev len : ℕ
   len = length_of (entry c).args.s.form
 
-  whole : laid 0 rows (lastCleared len out) ≡ written len rows out
+  whole : laid 0 rows (last_cleared len out) ≡ written len rows out
   whole =
-      laid-written len rows out (below_all (2 ^ 64) out (λ i. (c.slice-known.given i).fits))
-      (result-length self rank (entry c).requires.0) (entry c).requires.3
+      laid_written len rows out (below_all (2 ^ 64) out (λ i. (c.slice-known.given i).fits))
+      (result_length self rank (entry c).requires.0) (entry c).requires.3
 
 module _ (c : tie.After-clear-last) where
   abbrev start : tie.After-slice-known
   start = given (measured c)
 
-  zeroed : c.clear-last.new.0 ≡ lastCleared (len start) (out start)
-  zeroed = c.clear-last.ensures ∙ ap (λ (n : ℕ). lastCleared n (out start)) (measured c).length-of.ensures
+  zeroed : c.clear-last.new.0 ≡ last_cleared (len start) (out start)
+  zeroed = c.clear-last.ensures ∙ ap (λ (n : ℕ). last_cleared n (out start)) (measured c).length-of.ensures
 
 module _ (c : tie.After-lay-composition) where
   abbrev here : tie.After-clear-last
   here = cleared c.before
 
-  rows-laid : c.lay-composition.new.1.1.1.1.1.1.1.1.0 ≡ laid 0 (rows (start here)) here.clear-last.last.0
-  rows-laid = c.lay-composition.ensures.1
+  rows_laid : c.lay-composition.new.1.1.1.1.1.1.1.1.0 ≡ laid 0 (rows (start here)) here.clear-last.last.0
+  rows_laid = c.lay-composition.ensures.1
 
 -- ---- the answers
 
@@ -85,7 +85,7 @@ lay-composition-requires : tie.Need-lay-composition-requires
 lay-composition-requires c κs =
     let q = start (cleared c) in
     let p = (entry q).pre in
-    (p.0, p.1, p.2, (omega (arith, p.3), omega (arith, accepted-limit (self q) p.0.self)))
+    (p.0, p.1, p.2, (omega (arith, p.3), omega (arith, accepted_limit (self q) p.0.self)))
 
 same_length : tie.Need-same-length
 same_length c = search rules
@@ -94,10 +94,10 @@ returns : tie.Need-returns
 returns c =
     let l = laid_out c in
     let k = here l in
-    (l.lay-composition.ensures.0, rows-laid l ∙ ap (laid 0 (rows (start k))) (zeroed k) ∙ whole (start k))
+    (l.lay-composition.ensures.0, rows_laid l ∙ ap (laid 0 (rows (start k))) (zeroed k) ∙ whole (start k))
 
-pub compose-accepted-spec : {M : Type 1} → statement M
-compose-accepted-spec =
+pub compose_accepted_spec : {M : Type 1} → statement M
+compose_accepted_spec =
     tie.close
     (tie.spec
     length-of-requires

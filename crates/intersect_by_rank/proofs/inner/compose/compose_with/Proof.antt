@@ -11,12 +11,12 @@ use Rattle.rows.specs.Laid.{written}
 use Rattle.rows.specs.Table.{first}
 use Rattle.rules.specs.Operand.{Operand, lent, length_of}
 use Rattle.rules.specs.Answer.{answered}
-use Rattle.rules.specs.Compose.{composeChecks, result, routed, composed, composedOut}
-use Rattle.rules.proofs.AnswerLaws.{by-fine, by-refusal}
-use Rattle.rules.proofs.Compositions.{compose-fine}
+use Rattle.rules.specs.Compose.{compose_checks, result, routed, composed, composed_out}
+use Rattle.rules.proofs.AnswerLaws.{by_fine, by_refusal}
+use Rattle.rules.proofs.Compositions.{compose_fine}
 use borrow.Author.Rules.{rules}
 use Rattle.intersect_by_rank.specs.declared.inner.judge.Judged.{Judged}
-use Rattle.intersect_by_rank.proofs.JudgeLaws.{all-counts}
+use Rattle.intersect_by_rank.proofs.JudgeLaws.{all_counts}
 use Rattle.intersect_by_rank.proofs.inner.compose.compose_with.Statement.{statement}
 use Rattle.intersect_by_rank.proofs.inner.compose.compose_with.Tie as tie
 
@@ -59,7 +59,7 @@ module _ (c : tie.Start) where
   out = c.args.out.now
 
   abbrev verdict : Verdict
-  verdict = first (composeChecks self rank (length out))
+  verdict = first (compose_checks self rank (length out))
 
   abbrev rows : List Bool
   rows = result self rank
@@ -105,30 +105,30 @@ compose-accepted-requires : tie.Need-compose-accepted-requires
 compose-accepted-requires c κs =
     let j = passed c.before in
     let s = start j in
-    let well = (compose-fine (self s) (rank s) (length (out s))).0 (fine c.before) in
-    let own = all-counts (self s) (rank s) (length (out s)) (fine c.before) in
+    let well = (compose_fine (self s) (rank s) (length (out s))).0 (fine c.before) in
+    let own = all_counts (self s) (rank s) (length (out s)) (fine c.before) in
     (well.0, ap (λ (x : Judged). x.rows) j.judge.ensures ∙ own.0, ap (λ (x : Judged). x.ranks) j.judge.ensures ∙ own.1, well.1)
 
 returns : tie.Need-returns
-unfolding composed composedOut
+unfolding composed composed_out
 returns c =
     let s = start (barred (told c)) in
-    let p = by-refusal (verdict s) (rows s) (route s) (to s) (out s) _ (refuses (told c)) in
+    let p = by_refusal (verdict s) (rows s) (route s) (to s) (out s) _ (refuses (told c)) in
     (c.refused.ensures ∙ p.0, p.1)
 
 same_length : tie.Need-same-length
 same_length c = search rules
 
 returns-2 : tie.Need-returns-2
-unfolding composed composedOut
+unfolding composed composed_out
 returns-2 c =
     let g = gave c in
     let s = here g in
-    let p = by-fine (verdict s) (rows s) (route s) (to s) (out s) (fine (asked g)) in
+    let p = by_fine (verdict s) (rows s) (route s) (to s) (out s) (fine (asked g)) in
     (answer g ∙ p.0, left g ∙ p.1)
 
-pub compose-with-spec : {M : Type 1} → statement M
-compose-with-spec =
+pub compose_with_spec : {M : Type 1} → statement M
+compose_with_spec =
     tie.close
     (tie.spec
     judge-requires

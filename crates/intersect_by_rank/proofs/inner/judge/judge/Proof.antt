@@ -6,12 +6,12 @@ use mathlib.Core.List.{[], ◌∷◌}
 use native.Mathlib.Decide.{ℕ_discrete, dec_le}
 use borrow.Author.Rules.{rules}
 use Rattle.rows.specs.declared.Verdict.{Verdict}
-use Rattle.rows.specs.Laid.{wordsFor}
-use Rattle.rows.specs.Table.{first, need, ifFine}
+use Rattle.rows.specs.Laid.{words_for}
+use Rattle.rows.specs.Table.{first, need, if_fine}
 use Rattle.rules.specs.Operand.{Operand, lent, length_of}
 use Rattle.intersect_by_rank.specs.declared.inner.judge.Judged.{Judged}
-use Rattle.intersect_by_rank.specs.Judged.{judgedBy, judgedBoth}
-use Rattle.intersect_by_rank.proofs.JudgeLaws.{told-verdict}
+use Rattle.intersect_by_rank.specs.Judged.{judged_by, judged_both}
+use Rattle.intersect_by_rank.proofs.JudgeLaws.{told_verdict}
 use Rattle.intersect_by_rank.proofs.inner.judge.judge.Statement.{statement}
 use Rattle.intersect_by_rank.proofs.inner.judge.judge.Tie as tie
 
@@ -45,11 +45,11 @@ module _ (c : tie.Start) where
   seven j = first (need (ℕ_discrete (length_of c.args.r) j.rows) 7 0 ∷ [])
 
   abbrev eight : Verdict
-  eight = first (need (dec_le (wordsFor (length_of c.args.s)) c.args.room) 8 0 ∷ [])
+  eight = first (need (dec_le (words_for (length_of c.args.s)) c.args.room) 8 0 ∷ [])
 
   -- all parts in order
   abbrev parts : Judged → Verdict
-  parts j = ifFine j.verdict (ifFine (seven j) eight (seven j)) j.verdict
+  parts j = if_fine j.verdict (if_fine (seven j) eight (seven j)) j.verdict
 
   abbrev told : Judged → Verdict → Judged
   told j v = record { verdict = v; rows = j.rows; ranks = j.ranks }
@@ -58,18 +58,18 @@ module _ (c : tie.After-equal) where
   abbrev asked : tie.Start
   asked = start (judged c)
 
-  ranks-told : c.equal.result ≡ seven asked (judged c).judge-both.result
-  ranks-told = c.equal.ensures ∙ ap (λ (x : ℕ). first (need (ℕ_discrete x (judged c).judge-both.result.rows) 7 0 ∷ [])) c.before.length-of.ensures
+  ranks_told : c.equal.result ≡ seven asked (judged c).judge-both.result
+  ranks_told = c.equal.ensures ∙ ap (λ (x : ℕ). first (need (ℕ_discrete x (judged c).judge-both.result.rows) 7 0 ∷ [])) c.before.length-of.ensures
 
 module _ (c : tie.After-has-room) where
   abbrev here : tie.Start
   here = asked (matched c)
 
-  space-told : c.has_room.result ≡ eight here
-  space-told =
+  space_told : c.has_room.result ≡ eight here
+  space_told =
       c.has_room.ensures
       ∙ ap (λ (n : ℕ). first (need (dec_le n here.args.room) 8 0 ∷ []))
-      (c.before.words-for.ensures ∙ ap wordsFor c.before.before.length-of2.ensures)
+      (c.before.words-for.ensures ∙ ap words_for c.before.before.length-of2.ensures)
 
 module _ (c : tie.After-then) where
   abbrev begun : tie.Start
@@ -78,12 +78,12 @@ module _ (c : tie.After-then) where
   abbrev both : Judged
   both = (judged (matched (roomed c))).judge-both.result
 
-  joined : c.then.result ≡ ifFine (seven begun both) (eight begun) (seven begun both)
+  joined : c.then.result ≡ if_fine (seven begun both) (eight begun) (seven begun both)
   joined =
-      let seventh = ranks-told (matched (roomed c)) in
-      c.then.ensures ∙ (λ i. ifFine (seventh i) (space-told (roomed c) i) (seventh i))
+      let seventh = ranks_told (matched (roomed c)) in
+      c.then.ensures ∙ (λ i. if_fine (seventh i) (space_told (roomed c) i) (seventh i))
 
-  both_told : both ≡ judgedBoth (self begun) (rank begun)
+  both_told : both ≡ judged_both (self begun) (rank begun)
   both_told = (judged (matched (roomed c))).judge-both.ensures
 
 -- ---- the answers
@@ -117,13 +117,13 @@ returns c =
     let k = c.before in
     let j = both k in
     let s = begun k in
-    let all = c.then2.ensures ∙ ap (λ (v : Verdict). ifFine j.verdict v j.verdict) (joined k) in
+    let all = c.then2.ensures ∙ ap (λ (v : Verdict). if_fine j.verdict v j.verdict) (joined k) in
     ap (told s j) all
     ∙ ap (λ (x : Judged). told s x (parts s x)) (both_told k)
-    ∙ ap (λ (v : Verdict). judgedBy v (self s) (rank s)) (told-verdict (self s) (rank s) s.args.room)
+    ∙ ap (λ (v : Verdict). judged_by v (self s) (rank s)) (told_verdict (self s) (rank s) s.args.room)
 
-pub judge-spec : {M : Type 1} → statement M
-judge-spec =
+pub judge_spec : {M : Type 1} → statement M
+judge_spec =
     tie.close
     (tie.spec
     judge-both-requires

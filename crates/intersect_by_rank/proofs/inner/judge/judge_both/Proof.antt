@@ -3,12 +3,12 @@
 use mathlib.Core.Path.{◌≡◌, ap, ◌∙◌}
 use borrow.Author.Rules.{rules}
 use Rattle.rows.specs.declared.Verdict.{Verdict}
-use Rattle.rows.specs.Table.{ifFine}
+use Rattle.rows.specs.Table.{if_fine}
 use Rattle.rules.specs.Operand.{Operand, lent}
 use Rattle.operand.specs.declared.inner.counts.Checked.{Checked}
-use Rattle.operand.specs.Counts.{checkedOf}
+use Rattle.operand.specs.Counts.{checked_of}
 use Rattle.intersect_by_rank.specs.declared.inner.judge.Judged.{Judged}
-use Rattle.operand.proofs.PairLaws.{both-verdict}
+use Rattle.operand.proofs.PairLaws.{both_verdict}
 use Rattle.intersect_by_rank.proofs.inner.judge.judge_both.Statement.{statement}
 use Rattle.intersect_by_rank.proofs.inner.judge.judge_both.Tie as tie
 
@@ -26,7 +26,7 @@ abbrev told : Checked → Checked → Verdict → Judged
 told d e v = record { verdict = v; rows = d.count; ranks = e.count }
 
 abbrev after : Checked → Checked → Verdict
-after d e = ifFine d.verdict e.verdict d.verdict
+after d e = if_fine d.verdict e.verdict d.verdict
 
 returns : tie.Need-returns
 returns c =
@@ -37,7 +37,7 @@ returns c =
     let r = lent a.r a.rwords.now a.rrows.now in
     ap (told one.check.result two.check2.result) c.then.ensures
     ∙ (λ i. told (one.check.ensures i) (two.check2.ensures i) (after (one.check.ensures i) (two.check2.ensures i)))
-    ∙ ap (told (checkedOf 1 s) (checkedOf 2 r)) (both-verdict s r)
+    ∙ ap (told (checked_of 1 s) (checked_of 2 r)) (both_verdict s r)
 
-pub judge-both-spec : {M : Type 1} → statement M
-judge-both-spec = tie.close (tie.spec check-requires check-requires-2 then-requires returns)
+pub judge_both_spec : {M : Type 1} → statement M
+judge_both_spec = tie.close (tie.spec check-requires check-requires-2 then-requires returns)

@@ -8,11 +8,11 @@ use Rattle.rules.specs.declared.Route.{Route}
 use Rattle.rules.specs.Operand.{Operand, lent, count_of}
 use Rattle.rules.specs.Answer.{accepted}
 use Rattle.rules.specs.Compose.{Paired, result, routed}
-use Rattle.rules.specs.Route.{routeBy, routeOf, number_of}
-use Rattle.rules.proofs.OperandLaws.{accepted-limit, accepted-few}
-use Rattle.rules.proofs.ComposeLaws.{result-length, result_count}
+use Rattle.rules.specs.Route.{route_by, route_of, number_of}
+use Rattle.rules.proofs.OperandLaws.{accepted_limit, accepted_few}
+use Rattle.rules.proofs.ComposeLaws.{result_length, result_count}
 use Rattle.by_route.specs.Fits.{Fits}
-use Rattle.by_route.proofs.FitsLaws.{route-fits}
+use Rattle.by_route.proofs.FitsLaws.{route_fits}
 use Rattle.intersect_by_rank.proofs.inner.lay.lay_composition.Statement.{statement}
 use Rattle.intersect_by_rank.proofs.inner.lay.lay_composition.Tie as tie
 use borrow.Author.Rules.{rules}
@@ -62,31 +62,31 @@ module _ (c : tie.After-choose-route) where
   ranked : (start c).args.r.count ≡ count_of r
   ranked = (start c).requires.2
 
-  chosen : c.choose-route.result ≡ routeOf (start c).args.factors s r
-  chosen = c.choose-route.ensures ∙ (λ i. routeBy (start c).args.factors s.form (own i) r.form (ranked i))
+  chosen : c.choose-route.result ≡ route_of (start c).args.factors s r
+  chosen = c.choose-route.ensures ∙ (λ i. route_by (start c).args.factors s.form (own i) r.form (ranked i))
 
   fits : Fits c.choose-route.result s r
-  fits = subst (λ (x : Route). Fits x s r) (sym chosen) (route-fits s r (start c).args.factors)
+  fits = subst (λ (x : Route). Fits x s r) (sym chosen) (route_fits s r (start c).args.factors)
 
 module _ (c : tie.After-length-of) where
   abbrev here : tie.After-choose-route
   here = route (laid (numbered c))
 
-  count-told : (start here).args.r.count ≡ count (result (s here) (r here))
-  count-told = ranked here ∙ sym (result_count (s here) (r here) (both here))
+  count_told : (start here).args.r.count ≡ count (result (s here) (r here))
+  count_told = ranked here ∙ sym (result_count (s here) (r here) (both here))
 
-  route-told : (numbered c).number.result ≡ routed (start here).args.factors (s here) (r here)
-  route-told = (numbered c).number.ensures ∙ ap number_of (chosen here)
+  route_told : (numbered c).number.result ≡ routed (start here).args.factors (s here) (r here)
+  route_told = (numbered c).number.ensures ∙ ap number_of (chosen here)
 
-  length-told : c.length-of.result ≡ length (result (s here) (r here))
-  length-told = c.length-of.ensures ∙ sym (result-length (s here) (r here) (both here))
+  length_told : c.length-of.result ≡ length (result (s here) (r here))
+  length_told = c.length-of.ensures ∙ sym (result_length (s here) (r here) (both here))
 
 -- ---- the answers
 
 choose-route-requires : tie.Need-choose-route-requires
 choose-route-requires c κs =
     let e = entry c in
-    (omega (arith, e.pre.1, accepted-few (self e) e.pre.0.self), omega (arith, e.pre.2, accepted-few (rank e) e.pre.0.rank))
+    (omega (arith, e.pre.1, accepted_few (self e) e.pre.0.self), omega (arith, e.pre.2, accepted_few (rank e) e.pre.0.rank))
 
 lay-by-route-requires : tie.Need-lay-by-route-requires
 lay-by-route-requires c κs =
@@ -104,8 +104,8 @@ accepted-requires c κs =
     let q = here c in
     -- both counts, so that the wrong one is refused at what it tells
     (
-      omega (arith, own q, ranked q, accepted-few (r q) (both q).rank, accepted-few (s q) (both q).self),
-      omega (arith, c.length-of.ensures, accepted-limit (s q) (both q).self),
+      omega (arith, own q, ranked q, accepted_few (r q) (both q).rank, accepted_few (s q) (both q).self),
+      omega (arith, c.length-of.ensures, accepted_limit (s q) (both q).self),
     )
 
 same_length : tie.Need-same-length
@@ -114,12 +114,12 @@ same_length c = search rules
 returns : tie.Need-returns
 returns c =
     let n = c.before in (
-      c.accepted.ensures ∙ (λ i. accepted (count-told n i) (route-told n i) (length-told n i)),
+      c.accepted.ensures ∙ (λ i. accepted (count_told n i) (route_told n i) (length_told n i)),
       (laid (numbered n)).lay-by-route.ensures,
     )
 
-pub lay-composition-spec : {M : Type 1} → statement M
-lay-composition-spec =
+pub lay_composition_spec : {M : Type 1} → statement M
+lay_composition_spec =
     tie.close
     (tie.spec
     choose-route-requires

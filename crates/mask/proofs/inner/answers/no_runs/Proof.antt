@@ -7,14 +7,14 @@ use borrow.Author.Rules.{rules}
 use Rattle.mask.proofs.inner.answers.no_runs.Statement.{statement}
 use Rattle.mask.proofs.inner.answers.no_runs.Tie as tie
 
-abbrev withNone : Answer → Written
-withNone a = record { answer = a; runs = 0 }
+abbrev with_none : Answer → Written
+with_none a = record { answer = a; runs = 0 }
 
 refused-requires : tie.Need-refused-requires
 refused-requires c κs = search rules
 
 returns : tie.Need-returns
-returns c = ap withNone c.refused.ensures
+returns c = ap with_none c.refused.ensures
 
-pub no-runs-spec : {M : Type 1} → statement M
-no-runs-spec = tie.close (tie.spec refused-requires returns)
+pub no_runs_spec : {M : Type 1} → statement M
+no_runs_spec = tie.close (tie.spec refused-requires returns)

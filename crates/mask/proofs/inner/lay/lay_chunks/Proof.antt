@@ -10,10 +10,10 @@ use lib.ListN.{length, take, drop}
 use lib.Seq.{length-take-le, take_all}
 use Rattle.rows.specs.Word.{bits_of}
 use Rattle.rows.specs.Laid.{laid}
-use Rattle.rows.proofs.LaidLaws.{below_all, laid_nil, laid-length, laid-append}
+use Rattle.rows.proofs.LaidLaws.{below_all, laid_nil, laid_length, laid_append}
 use Rattle.rules.specs.Operand.{Operand, lent, rows_of, length_of}
-use Rattle.operand.proofs.FlatLaws.{flat-length}
-use Rattle.rows.proofs.ChunkLaws.{chunk-bits, chunk_next}
+use Rattle.operand.proofs.FlatLaws.{flat_length}
+use Rattle.rows.proofs.ChunkLaws.{chunk_bits, chunk_next}
 use Rattle.mask.proofs.inner.lay.lay_chunks.Statement.{statement}
 use Rattle.mask.proofs.inner.lay.lay_chunks.Tie as tie
 
@@ -63,7 +63,7 @@ module _ (c : tie.At-loop invariant-loop decreases-loop) where
   row = c.loop.row
 
   long : length rows ≡ c.before.length-of.result
-  long = flat-length operand (start c).requires.0 ∙ sym c.loop.invariant.1
+  long = flat_length operand (start c).requires.0 ∙ sym c.loop.invariant.1
 
 -- a turn's rows
 module _ (c : tie.After-chunk-len invariant-loop decreases-loop) where
@@ -76,10 +76,10 @@ module _ (c : tie.After-chunk-len invariant-loop decreases-loop) where
   room : row (head c) + n ≤ length (rows (head c))
   room = omega (arith, long (head c), c.chunk-len.ensures)
 
-read-rows : (c : tie.After-chunk-of invariant-loop decreases-loop) → bits_of (n (turn c)) c.Chunk-of.result ≡ part (turn c)
-read-rows c =
+read_rows : (c : tie.After-chunk-of invariant-loop decreases-loop) → bits_of (n (turn c)) c.Chunk-of.result ≡ part (turn c)
+read_rows c =
     let t = turn c in
-    ap (bits_of (n t)) c.Chunk-of.ensures ∙ chunk-bits (row (head t)) (n t) (rows (head t)) (room t)
+    ap (bits_of (n t)) c.Chunk-of.ensures ∙ chunk_bits (row (head t)) (n t) (rows (head t)) (room t)
 
 -- laid after those before it
 module _ (c : tie.After-put invariant-loop decreases-loop) where
@@ -97,8 +97,8 @@ module _ (c : tie.After-put invariant-loop decreases-loop) where
       let done = take l.row (rows here) in
       let place = ap (λ (x : ℕ). at + x) (sym (length-take-le l.row (rows here) (omega (arith, room t)))) in
       c.put.ensures
-      ∙ ap₂ (laid (at + l.row)) (read-rows (read c)) l.inv.3
-      ∙ laid-append 64 at (at + l.row) done (part t) (out here) place
+      ∙ ap₂ (laid (at + l.row)) (read_rows (read c)) l.inv.3
+      ∙ laid_append 64 at (at + l.row) done (part t) (out here) place
       ∙ ap (λ (z : List Bool). laid at z (out here)) (sym (chunk_next l.row (n t) (rows here)))
 
 -- ---- the answers
@@ -140,7 +140,7 @@ loop-again : tie.Need-loop-preserved invariant-loop decreases-loop
 loop-again c =
     let p = put c in
     let h = here p in
-    let kept = laid-length 64 (start h).args.at (take (next p) (rows h)) (out h) in
+    let kept = laid_length 64 (start h).args.at (take (next p) (rows h)) (out h) in
     (omega arith, h.loop.inv.1, ap length (laid_on p) ∙ kept, laid_on p)
 
 same_length : tie.Need-same-length invariant-loop decreases-loop
@@ -152,8 +152,8 @@ returns c =
     let all = take_all (row h) (rows h) (omega (arith, long h)) in
     h.loop.invariant.3 ∙ ap (λ (z : List Bool). laid (start h).args.at z (out h)) all
 
-pub lay-chunks-spec : {M : Type 1} → statement M
-lay-chunks-spec =
+pub lay_chunks_spec : {M : Type 1} → statement M
+lay_chunks_spec =
     tie.close
     (tie.spec
     invariant-loop

@@ -95,8 +95,8 @@ returns-3 c =
     let none : 0 ≡ first w = omega (arith, (copying l).if1.left) in
     rw w.form.given.1 (l.lay-words.ensures ∙ ap (λ (k : ℕ). laid a.at (view k (len w) a.words.now) a.out.now) none)
 
-pub lay-flat-spec : {M : Type 1} → statement M
-lay-flat-spec =
+pub lay_flat_spec : {M : Type 1} → statement M
+lay_flat_spec =
     tie.close
     (tie.spec
     enum-known-form

@@ -5,8 +5,8 @@ use mathlib.Core.Bool.{false}
 use native.Mathlib.Omega.{arith}
 use lib.ListN.{length, replicate}
 use Rattle.rows.specs.Laid.{marked}
-use Rattle.rows.proofs.LaidLaws.{laid-length}
-use Rattle.rows.proofs.MarkLaws.{marked-listed, ascending-below}
+use Rattle.rows.proofs.LaidLaws.{laid_length}
+use Rattle.rows.proofs.MarkLaws.{marked_listed, ascending_below}
 use borrow.Author.Rules.{rules}
 use Rattle.mask.proofs.inner.lay.lay_list.Statement.{statement}
 use Rattle.mask.proofs.inner.lay.lay_list.Tie as tie
@@ -18,8 +18,8 @@ mark-requires : tie.Need-mark-requires
 mark-requires c κs =
     let s = c.before.before.before.before.before.before.before in
     let e = c.before.before.before.clear.ensures in
-    let size = ap length e ∙ laid-length 64 s.args.at (replicate s.args.len false) s.args.out.now in
-    (ascending-below 0 s.args.len s.args.rows.now s.requires.0, (omega (arith, size, s.requires.1.0), s.requires.1.1))
+    let size = ap length e ∙ laid_length 64 s.args.at (replicate s.args.len false) s.args.out.now in
+    (ascending_below 0 s.args.len s.args.rows.now s.requires.0, (omega (arith, size, s.requires.1.0), s.requires.1.1))
 
 same_length : tie.Need-same-length
 same_length c = search rules
@@ -29,7 +29,7 @@ returns c =
     let s = c.before.before.before.before.before.before.before.before.before.before in
     let a = s.args in
     c.before.before.mark.ensures ∙ ap (marked a.at a.rows.now) c.before.before.before.before.before.before.clear.ensures
-    ∙ marked-listed a.at a.len a.rows.now a.out.now (ascending-below 0 a.len a.rows.now s.requires.0)
+    ∙ marked_listed a.at a.len a.rows.now a.out.now (ascending_below 0 a.len a.rows.now s.requires.0)
 
-pub lay-list-spec : {M : Type 1} → statement M
-lay-list-spec = tie.close (tie.spec clear-requires mark-requires same_length returns)
+pub lay_list_spec : {M : Type 1} → statement M
+lay_list_spec = tie.close (tie.spec clear-requires mark-requires same_length returns)

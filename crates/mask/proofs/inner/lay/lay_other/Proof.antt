@@ -7,9 +7,9 @@ use mathlib.Core.List.{List}
 use Rattle.rows.specs.Lists.{listed}
 use Rattle.rows.specs.Laid.{laid}
 use Rattle.rules.specs.Operand.{Operand, lent, rows_of}
-use Rattle.operand.specs.Flat.{hasRowNumbers, Flat}
-use Rattle.operand.proofs.NumberLaws.{accepted-list, list-rows}
-use Rattle.operand.proofs.FlatLaws.{accepted-flat, flat_rows}
+use Rattle.operand.specs.Flat.{has_row_numbers, Flat}
+use Rattle.operand.proofs.NumberLaws.{accepted_list, list_rows}
+use Rattle.operand.proofs.FlatLaws.{accepted_flat, flat_rows}
 use borrow.Author.Rules.{rules}
 use Rattle.mask.proofs.inner.lay.lay_other.Statement.{statement}
 use Rattle.mask.proofs.inner.lay.lay_other.Tie as tie
@@ -46,7 +46,7 @@ module _ (c : tie.Then1) where
   abbrev lists : tie.Start
   lists = start c.before
 
-  numbered : hasRowNumbers lists.args.form ≡ true
+  numbered : has_row_numbers lists.args.form ≡ true
   numbered = sym c.before.has-row-numbers.ensures ∙ c.if1.true
 
 module _ (c : tie.Else1) where
@@ -54,14 +54,14 @@ module _ (c : tie.Else1) where
   lays = start c.before
 
   accepted : Flat (operand lays)
-  accepted = accepted-flat (operand lays) (sym c.before.has-row-numbers.ensures ∙ c.if1.false) lays.pre.2 lays.pre.0
+  accepted = accepted_flat (operand lays) (sym c.before.has-row-numbers.ensures ∙ c.if1.false) lays.pre.2 lays.pre.0
 
 module _ (c : tie.After-lay-flat) where
   abbrev here : tie.Start
   here = lays (laying c)
 
-  rows-laid : c.lay-flat.new.1.1.1.0 ≡ laid here.args.at (rows_of (operand here)) here.args.out.now
-  rows-laid =
+  rows_laid : c.lay-flat.new.1.1.1.0 ≡ laid here.args.at (rows_of (operand here)) here.args.out.now
+  rows_laid =
       c.lay-flat.ensures
       ∙ ap (λ (z : List Bool). laid here.args.at z here.args.out.now) (sym (flat_rows (operand here) (accepted (laying c))))
 
@@ -77,7 +77,7 @@ lay-list-requires : tie.Need-lay-list-requires
 lay-list-requires c κs =
     let t = listing c.before in
     let s = lists t in
-    rw c.before.length-of.ensures (accepted-list (operand s) (numbered t) s.pre.0, s.pre.1)
+    rw c.before.length-of.ensures (accepted_list (operand s) (numbered t) s.pre.0, s.pre.1)
 
 same_length : tie.Need-same-length
 same_length c = search rules
@@ -89,7 +89,7 @@ returns c =
     let a = (lists t).args in
     l.lay-list.ensures
     ∙ ap (λ (n : ℕ). laid a.at (listed n a.rows.now) a.out.now) (measured l).length-of.ensures
-    ∙ ap (λ (z : List Bool). laid a.at z a.out.now) (sym (list-rows (operand (lists t)) (numbered t)))
+    ∙ ap (λ (z : List Bool). laid a.at z a.out.now) (sym (list_rows (operand (lists t)) (numbered t)))
 
 lay-flat-requires : tie.Need-lay-flat-requires
 lay-flat-requires c κs = (accepted c.before, (lays c.before).pre.1)
@@ -98,10 +98,10 @@ same-length-2 : tie.Need-same-length-2
 same-length-2 c = search rules
 
 returns-2 : tie.Need-returns-2
-returns-2 c = rows-laid (flat_out c)
+returns-2 c = rows_laid (flat_out c)
 
-pub lay-other-spec : {M : Type 1} → statement M
-lay-other-spec =
+pub lay_other_spec : {M : Type 1} → statement M
+lay_other_spec =
     tie.close
     (tie.spec
     has-row-numbers-requires

@@ -5,11 +5,11 @@ use mathlib.Core.Path.{◌≡◌, sym, ap, ◌∙◌}
 use mathlib.Core.Bool.{Bool, true}
 use mathlib.Core.List.{List}
 use borrow.Author.Rules.{rules}
-use Rattle.rows.specs.Runs.{inRuns}
+use Rattle.rows.specs.Runs.{in_runs}
 use Rattle.rows.specs.Laid.{laid}
 use Rattle.rules.specs.Operand.{Operand, lent}
-use Rattle.operand.specs.Flat.{hasRuns}
-use Rattle.operand.proofs.NumberLaws.{accepted-runs, runs-rows}
+use Rattle.operand.specs.Flat.{has_runs}
+use Rattle.operand.proofs.NumberLaws.{accepted_runs, runs_rows}
 use Rattle.mask.proofs.inner.lay.lay_rows.Statement.{statement}
 use Rattle.mask.proofs.inner.lay.lay_rows.Tie as tie
 
@@ -39,7 +39,7 @@ module _ (c : tie.Then1) where
   abbrev fills : tie.Start
   fills = start c.before
 
-  runs : hasRuns fills.args.form ≡ true
+  runs : has_runs fills.args.form ≡ true
   runs = sym c.before.has-runs.ensures ∙ c.if1.true
 
 -- ---- the answers
@@ -54,7 +54,7 @@ lay-runs-requires : tie.Need-lay-runs-requires
 lay-runs-requires c κs =
     let t = filling c.before in
     let s = fills t in
-    rw c.before.length-of.ensures (accepted-runs (operand s) (runs t) s.pre.0, s.pre.1)
+    rw c.before.length-of.ensures (accepted_runs (operand s) (runs t) s.pre.0, s.pre.1)
 
 same_length : tie.Need-same-length
 same_length c = search rules
@@ -65,8 +65,8 @@ returns c =
     let t = filling (measured l) in
     let a = (fills t).args in
     l.lay-runs.ensures
-    ∙ ap (λ (n : ℕ). laid a.at (inRuns n a.rows.now) a.out.now) (measured l).length-of.ensures
-    ∙ ap (λ (z : List Bool). laid a.at z a.out.now) (sym (runs-rows (operand (fills t)) (runs t)))
+    ∙ ap (λ (n : ℕ). laid a.at (in_runs n a.rows.now) a.out.now) (measured l).length-of.ensures
+    ∙ ap (λ (z : List Bool). laid a.at z a.out.now) (sym (runs_rows (operand (fills t)) (runs t)))
 
 lay-other-requires : tie.Need-lay-other-requires
 lay-other-requires c κs =
@@ -80,8 +80,8 @@ same-length-2 c = search rules
 returns-2 : tie.Need-returns-2
 returns-2 c = c.before.before.lay-other.ensures
 
-pub lay-rows-spec : {M : Type 1} → statement M
-lay-rows-spec =
+pub lay_rows_spec : {M : Type 1} → statement M
+lay_rows_spec =
     tie.close
     (tie.spec
     has-runs-requires

@@ -9,11 +9,11 @@ use lib.ListN.{length, take, get_or}
 use lib.Seq.{length-take-le}
 use borrow.Author.Rules.{rules}
 use Rattle.rows.specs.Word.{bits_of}
-use Rattle.rows.specs.Words.{bitsOfAll}
+use Rattle.rows.specs.Words.{bits_of_all}
 use Rattle.rows.specs.Laid.{laid}
-use Rattle.rows.proofs.WordsLaws.{bitsOfAll-length}
+use Rattle.rows.proofs.WordsLaws.{bits_of_all_length}
 use Rattle.rows.proofs.FitLaws.{take_words}
-use Rattle.rows.proofs.LaidLaws.{below_all, laid-append, laid-words}
+use Rattle.rows.proofs.LaidLaws.{below_all, laid_append, laid_words}
 use Rattle.mask.proofs.inner.lay.lay_words.Statement.{statement}
 use Rattle.mask.proofs.inner.lay.lay_words.Tie as tie
 
@@ -54,7 +54,7 @@ module _ (c : tie.After-copy-words) where
 
   -- their bits
   abbrev done : List Bool
-  done = take (n * 64) (bitsOfAll 64 words)
+  done = take (n * 64) (bits_of_all 64 words)
 
   place : first * 64 ≡ start.args.at
   place = omega (arith, start.pre.0)
@@ -62,7 +62,7 @@ module _ (c : tie.After-copy-words) where
   copied : c.copy-words.new.1.1.1.0 ≡ laid (first * 64) done out
   copied =
       c.copy-words.ensures
-      ∙ laid-words 64 first n out words
+      ∙ laid_words 64 first n out words
       (below_all (2 ^ 64) out (λ i. ((lent c).slice-known.given i).fits))
       (below_all (2 ^ 64) words (λ i. ((lent c).before.shared-slice-known.given i).fits))
 
@@ -82,14 +82,14 @@ module _ (c : tie.Else1) where
 
   follows : next ≡ first w * 64 + length (done w)
   follows =
-      let bits = bitsOfAll 64 (words w) in
-      omega (arith, place w, length-take-le (n w * 64) bits (omega (arith, (start w).pre.1, bitsOfAll-length 64 (words w))))
+      let bits = bits_of_all 64 (words w) in
+      omega (arith, place w, length-take-le (n w * 64) bits (omega (arith, (start w).pre.1, bits_of_all_length 64 (words w))))
 
-  both : done w ++ rest ≡ take len (bitsOfAll 64 (words w))
+  both : done w ++ rest ≡ take len (bits_of_all 64 (words w))
   both =
       let all : n w * 64 + len % 64 ≡ len = omega arith in
       sym (take_words 64 (n w) (len % 64) (words w) (omega arith) (omega (arith, c.if1.false, (start w).pre.1)))
-      ∙ ap (λ (i : ℕ). take i (bitsOfAll 64 (words w))) all
+      ∙ ap (λ (i : ℕ). take i (bits_of_all 64 (words w))) all
 
 -- ---- the answers
 
@@ -104,7 +104,7 @@ returns c =
     let w = whole c.before in
     let a = (start w).args in
     let all : n w * 64 ≡ a.len = omega arith in
-    copied w ∙ ap₂ (λ (x y : ℕ). laid x (take y (bitsOfAll 64 (words w))) (out w)) (place w) all
+    copied w ∙ ap₂ (λ (x y : ℕ). laid x (take y (bits_of_all 64 (words w))) (out w)) (place w) all
 
 sub-put : tie.Need-overflow-sub-put
 sub-put c = search rules
@@ -130,11 +130,11 @@ returns-2 c =
     let e = parted p in
     p.put.ensures
     ∙ ap (laid (next e) (rest e)) (copied (w e))
-    ∙ laid-append 64 (first (w e) * 64) (next e) (done (w e)) (rest e) (out (w e)) (follows e)
+    ∙ laid_append 64 (first (w e) * 64) (next e) (done (w e)) (rest e) (out (w e)) (follows e)
     ∙ ap₂ (λ (x : ℕ) (z : List Bool). laid x z (out (w e))) (place (w e)) (both e)
 
-pub lay-words-spec : {M : Type 1} → statement M
-lay-words-spec =
+pub lay_words_spec : {M : Type 1} → statement M
+lay_words_spec =
     tie.close
     (tie.spec
     copy-words-requires

@@ -1,6 +1,6 @@
 -- `mask::inner::lay::mark` meets its contract: each entry's bit is set.
 -- The invariant: the entries before `i` are marked. Assumes nothing.
-use Rattle.rows.proofs.LaidLaws.{laid-length}
+use Rattle.rows.proofs.LaidLaws.{laid_length}
 use borrow.Author.Rules.{rules}
 use Prim.Native.Nat.{ℕ, ◌+◌, ◌-◌, ◌≤◌, ◌<◌}
 use mathlib.Core.Path.{◌≡◌, refl, ap, ◌∙◌}
@@ -96,7 +96,7 @@ loop-again c =
     let l = (head t).loop in
     let next = marked_next a.at l.i (rows t) a.out.now (omega arith) in (
       omega arith,
-      ap length set ∙ laid-length 64 (a.at + row t) (true ∷ []) l.out ∙ l.inv.1,
+      ap length set ∙ laid_length 64 (a.at + row t) (true ∷ []) l.out ∙ l.inv.1,
       rw (add-one l.i) (set ∙ ap (laid (a.at + row t) (true ∷ [])) l.inv.2 ∙ next),
     )
 

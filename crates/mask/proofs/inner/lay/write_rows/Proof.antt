@@ -4,11 +4,11 @@ use mathlib.Core.Path.{◌≡◌, ap, ◌∙◌}
 use mathlib.Core.Bool.{Bool}
 use mathlib.Core.List.{List}
 use Prim.Native.Nat.{ℕ, ◌^◌}
-use Rattle.rows.specs.Laid.{laid, lastCleared, written}
+use Rattle.rows.specs.Laid.{laid, last_cleared, written}
 use Rattle.rows.proofs.LaidLaws.{below_all}
-use Rattle.rows.proofs.WrittenLaws.{laid-written}
+use Rattle.rows.proofs.WrittenLaws.{laid_written}
 use Rattle.rules.specs.Operand.{Operand, lent, rows_of, length_of}
-use Rattle.rules.proofs.OperandLaws.{accepted-length}
+use Rattle.rules.proofs.OperandLaws.{accepted_length}
 use borrow.Author.Rules.{rules}
 use Rattle.mask.proofs.inner.lay.write_rows.Statement.{statement}
 use Rattle.mask.proofs.inner.lay.write_rows.Tie as tie
@@ -42,10 +42,10 @@ module _ (c : tie.After-slice-known) where
   abbrev len : ℕ
   len = length_of (entry c).args.form
 
-  whole : laid 0 (rows_of operand) (lastCleared len out) ≡ written len (rows_of operand) out
+  whole : laid 0 (rows_of operand) (last_cleared len out) ≡ written len (rows_of operand) out
   whole =
-      laid-written len (rows_of operand) out (below_all (2 ^ 64) out (λ i. (c.slice-known.given i).fits))
-      (accepted-length operand (entry c).requires.0) (entry c).requires.1
+      laid_written len (rows_of operand) out (below_all (2 ^ 64) out (λ i. (c.slice-known.given i).fits))
+      (accepted_length operand (entry c).requires.0) (entry c).requires.1
 
 module _ (c : tie.After-clear-last) where
   abbrev start : tie.After-slice-known
@@ -54,11 +54,11 @@ module _ (c : tie.After-clear-last) where
   abbrev rows : List Bool
   rows = rows_of (operand start)
 
-  zeroed : c.clear-last.new.0 ≡ lastCleared (len start) (out start)
-  zeroed = c.clear-last.ensures ∙ ap (λ (n : ℕ). lastCleared n (out start)) (measured c).length-of.ensures
+  zeroed : c.clear-last.new.0 ≡ last_cleared (len start) (out start)
+  zeroed = c.clear-last.ensures ∙ ap (λ (n : ℕ). last_cleared n (out start)) (measured c).length-of.ensures
 
-rows-laid : (c : tie.After-lay-rows) → c.lay-rows.new.1.1.1.1.0 ≡ laid 0 (rows (cleared c.before)) (cleared c.before).clear-last.new.0
-rows-laid c = c.lay-rows.ensures
+rows_laid : (c : tie.After-lay-rows) → c.lay-rows.new.1.1.1.1.0 ≡ laid 0 (rows (cleared c.before)) (cleared c.before).clear-last.new.0
+rows_laid c = c.lay-rows.ensures
 
 -- ---- the answers
 
@@ -78,10 +78,10 @@ returns : tie.Need-returns
 returns c =
     let l = laid_out c in
     let k = cleared l.before in
-    rows-laid l ∙ ap (laid 0 (rows k)) (zeroed k) ∙ whole (start k)
+    rows_laid l ∙ ap (laid 0 (rows k)) (zeroed k) ∙ whole (start k)
 
-pub write-rows-spec : {M : Type 1} → statement M
-write-rows-spec =
+pub write_rows_spec : {M : Type 1} → statement M
+write_rows_spec =
     tie.close
     (tie.spec
     length-of-requires

@@ -2,13 +2,13 @@
 -- By the case that the match tells, and what acceptance gives of it. Assumes nothing.
 use mathlib.Core.Path.{◌≡◌, refl, sym, ap, subst, ◌∙◌}
 use lib.ListN.{length}
-use Rattle.rows.specs.Runs.{runsOf}
-use Rattle.rows.proofs.RunLaws.{runs-back}
+use Rattle.rows.specs.Runs.{runs_of}
+use Rattle.rows.proofs.RunLaws.{runs_back}
 use Rattle.rules.specs.declared.Form.{Form}
 use Rattle.rules.specs.Operand.{Operand, lent, rows_of, Accepted}
-use Rattle.rules.proofs.OperandLaws.{accepted-limit}
-use Rattle.operand.proofs.NumberLaws.{accepted-list, accepted-runs}
-use Rattle.operand.proofs.FlatLaws.{accepted-flat}
+use Rattle.rules.proofs.OperandLaws.{accepted_limit}
+use Rattle.operand.proofs.NumberLaws.{accepted_list, accepted_runs}
+use Rattle.operand.proofs.FlatLaws.{accepted_flat}
 use Rattle.mask.proofs.RunOutLaws.{none_runs}
 use borrow.Author.Rules.{rules}
 use Rattle.mask.proofs.inner.runs.count_runs.Statement.{statement}
@@ -28,8 +28,8 @@ at_none c = begun c.before.before
 abbrev at_words : tie.After-form2 → tie.Start
 at_words c = begun c.before.before
 
-abbrev at-list : tie.After-form3 → tie.Start
-at-list c = begun c.before.before
+abbrev at_list : tie.After-form3 → tie.Start
+at_list c = begun c.before.before
 
 abbrev at-runs : tie.After-enum-told2 → tie.Start
 at-runs c = begun c.before.before
@@ -43,8 +43,8 @@ module _ (s : tie.Start) (f : Form) (e : s.args.form ≡ f) where
   well : Accepted operand
   well = subst (λ (x : Form). Accepted (lent x s.args.words.now s.args.rows.now)) e s.pre
 
-  same : length (runsOf (rows_of operand)) ≡ length (runsOf (rows_of (lent s.args.form s.args.words.now s.args.rows.now)))
-  same = ap (λ (x : Form). length (runsOf (rows_of (lent x s.args.words.now s.args.rows.now)))) (sym e)
+  same : length (runs_of (rows_of operand)) ≡ length (runs_of (rows_of (lent s.args.form s.args.words.now s.args.rows.now)))
+  same = ap (λ (x : Form). length (runs_of (rows_of (lent x s.args.words.now s.args.rows.now)))) (sym e)
 
 -- ---- the answers
 
@@ -64,7 +64,7 @@ count-turns-requires : tie.Need-count-turns-requires
 count-turns-requires c κs =
     let t = c.before in
     let s = at_words t in
-    accepted-flat (operand s _ t.form2.given.1) refl refl (well s _ t.form2.given.1)
+    accepted_flat (operand s _ t.form2.given.1) refl refl (well s _ t.form2.given.1)
 
 enum-known-form-3 : tie.Need-enum-known-form-3
 enum-known-form-3 c = search rules
@@ -72,10 +72,10 @@ enum-known-form-3 c = search rules
 count-list-turns-requires : tie.Need-count-list-turns-requires
 count-list-turns-requires c κs =
     let t = c.before in
-    let s = at-list t in
+    let s = at_list t in
     let o = operand s _ t.form3.given.1 in
     let m = well s _ t.form3.given.1 in
-    (accepted-limit o m, accepted-list o refl m)
+    (accepted_limit o m, accepted_list o refl m)
 
 enum-told-2 : tie.Need-enum-told-2
 enum-told-2 c = search rules
@@ -96,17 +96,17 @@ returns-3 c =
 returns-4 : tie.Need-returns-4
 returns-4 c =
     let t = c.before.before in
-    c.count-list-turns.ensures ∙ same (at-list t) _ t.form3.given.1
+    c.count-list-turns.ensures ∙ same (at_list t) _ t.form3.given.1
 
 returns-5 : tie.Need-returns-5
 returns-5 c =
     let s = at-runs c in
     let e = c.enum-told2.given.1 in
     let o = operand s _ e in
-    sym (ap length (runs-back c.enum-told2.given.0.0 s.args.rows.now (accepted-runs o refl (well s _ e)))) ∙ same s _ e
+    sym (ap length (runs_back c.enum-told2.given.0.0 s.args.rows.now (accepted_runs o refl (well s _ e)))) ∙ same s _ e
 
-pub count-runs-spec : {M : Type 1} → statement M
-count-runs-spec =
+pub count_runs_spec : {M : Type 1} → statement M
+count_runs_spec =
     tie.close
     (tie.spec
     enum-known-form

@@ -3,15 +3,15 @@
 use mathlib.Core.Path.{sym, ap}
 use native.Mathlib.Omega.{arith}
 use lib.ListN.{length}
-use Rattle.mask.proofs.RunOutLaws.{whole_run, whole-none}
+use Rattle.mask.proofs.RunOutLaws.{whole_run, whole_none}
 use Rattle.mask.proofs.inner.runs.count_whole.Statement.{statement}
 use Rattle.mask.proofs.inner.runs.count_whole.Tie as tie
 
 returns : tie.Need-returns
-returns c = sym (ap length (whole-none c.before.args.n c.if1.true))
+returns c = sym (ap length (whole_none c.before.args.n c.if1.true))
 
 returns-2 : tie.Need-returns-2
 returns-2 c = sym (ap length (whole_run c.before.args.n (omega (arith, c.if1.false))))
 
-pub count-whole-spec : {M : Type 1} → statement M
-count-whole-spec = tie.close (tie.spec returns returns-2)
+pub count_whole_spec : {M : Type 1} → statement M
+count_whole_spec = tie.close (tie.spec returns returns-2)

@@ -5,15 +5,15 @@ use mathlib.Core.Path.{◌≡◌, refl, sym, ap, subst, ◌∙◌}
 use mathlib.Core.List.{List}
 use lib.ListN.{length}
 use Rattle.rows.specs.Rows.{splice}
-use Rattle.rows.specs.Runs.{runsOf}
-use Rattle.rows.proofs.SpliceLaws.{splice-nil}
-use Rattle.rows.proofs.RunLaws.{runs-back}
+use Rattle.rows.specs.Runs.{runs_of}
+use Rattle.rows.proofs.SpliceLaws.{splice_nil}
+use Rattle.rows.proofs.RunLaws.{runs_back}
 use Rattle.rules.specs.declared.Form.{Form}
 use Rattle.rules.specs.declared.Form.TheVariants.{Runs}
 use Rattle.rules.specs.Operand.{Operand, lent, rows_of, Accepted}
-use Rattle.rules.proofs.OperandLaws.{accepted-limit}
-use Rattle.operand.proofs.NumberLaws.{accepted-list, accepted-runs}
-use Rattle.operand.proofs.FlatLaws.{accepted-flat}
+use Rattle.rules.proofs.OperandLaws.{accepted_limit}
+use Rattle.operand.proofs.NumberLaws.{accepted_list, accepted_runs}
+use Rattle.operand.proofs.FlatLaws.{accepted_flat}
 use Rattle.mask.proofs.RunOutLaws.{none_runs}
 use borrow.Author.Rules.{rules}
 use Rattle.mask.proofs.inner.runs.write_runs.Statement.{statement}
@@ -27,14 +27,14 @@ begun c = c.before.before.before
 abbrev all_told : tie.After-write-whole-arg → tie.After-form
 all_told c = c.before.before
 
-abbrev words-told : tie.After-write-turns-arg → tie.After-form2
-words-told c = c.before.before
+abbrev words_told : tie.After-write-turns-arg → tie.After-form2
+words_told c = c.before.before
 
-abbrev list-told : tie.After-write-list-turns-arg → tie.After-form3
-list-told c = c.before.before
+abbrev list_told : tie.After-write-list-turns-arg → tie.After-form3
+list_told c = c.before.before
 
-abbrev runs-told : tie.After-copy-list-arg → tie.After-enum-told2
-runs-told c = c.before
+abbrev runs_told_lem : tie.After-copy-list-arg → tie.After-enum-told2
+runs_told_lem c = c.before
 
 abbrev at_all : tie.After-form → tie.Start
 at_all c = begun c.before.before
@@ -45,8 +45,8 @@ at_none c = begun c.before.before
 abbrev at_words : tie.After-form2 → tie.Start
 at_words c = begun c.before.before
 
-abbrev at-list : tie.After-form3 → tie.Start
-at-list c = begun c.before.before
+abbrev at_list : tie.After-form3 → tie.Start
+at_list c = begun c.before.before
 
 abbrev at-runs : tie.After-enum-told2 → tie.Start
 at-runs c = begun c.before.before
@@ -59,7 +59,7 @@ module _ (s : tie.Start) where
 
   -- the runs of an operand of this form
   abbrev runs : Form → List ℕ
-  runs f = runsOf (rows_of (lent f s.args.words.now s.args.rows.now))
+  runs f = runs_of (rows_of (lent f s.args.words.now s.args.rows.now))
 
   module _ (f : Form) (e : s.args.form ≡ f) where
     abbrev operand : Operand
@@ -79,7 +79,7 @@ own : (c : tie.After-enum-told2) → runs (at-runs c) (Runs c.enum-told2.given.0
 own c =
     let s = at-runs c in
     let e = c.enum-told2.given.1 in
-    runs-back c.enum-told2.given.0.0 s.args.rows.now (accepted-runs (operand s _ e) refl (well s _ e))
+    runs_back c.enum-told2.given.0.0 s.args.rows.now (accepted_runs (operand s _ e) refl (well s _ e))
 
 -- ---- the answers
 
@@ -91,7 +91,7 @@ write-whole-requires c κs =
     let t = all_told c in
     let s = at_all t in
     let e = t.form.given.1 in
-    (accepted-limit (operand s _ e) (well s _ e), room s _ e)
+    (accepted_limit (operand s _ e) (well s _ e), room s _ e)
 
 enum_told : tie.Need-enum-told
 enum_told c = search rules
@@ -101,28 +101,28 @@ enum-known-form-2 c = search rules
 
 write-turns-requires : tie.Need-write-turns-requires
 write-turns-requires c κs =
-    let t = words-told c in
+    let t = words_told c in
     let s = at_words t in
     let e = t.form2.given.1 in
-    (accepted-flat (operand s _ e) refl refl (well s _ e), room s _ e)
+    (accepted_flat (operand s _ e) refl refl (well s _ e), room s _ e)
 
 enum-known-form-3 : tie.Need-enum-known-form-3
 enum-known-form-3 c = search rules
 
 write-list-turns-requires : tie.Need-write-list-turns-requires
 write-list-turns-requires c κs =
-    let t = list-told c in
-    let s = at-list t in
+    let t = list_told c in
+    let s = at_list t in
     let e = t.form3.given.1 in
     let o = operand s _ e in
-    (accepted-limit o (well s _ e), accepted-list o refl (well s _ e), room s _ e)
+    (accepted_limit o (well s _ e), accepted_list o refl (well s _ e), room s _ e)
 
 enum-told-2 : tie.Need-enum-told-2
 enum-told-2 c = search rules
 
 copy-list-requires : tie.Need-copy-list-requires
 copy-list-requires c κs =
-    let t = runs-told c in
+    let t = runs_told_lem c in
     let s = at-runs t in
     subst (λ (l : List ℕ). length l ≤ length (out s)) (own t) (room s _ t.enum-told2.given.1)
 
@@ -138,7 +138,7 @@ returns c =
 returns-2 : tie.Need-returns-2
 returns-2 c =
     let s = at_none c in
-    sym (ap (splice 0 (out s)) (none_runs c.enum_told.given.0.0) ∙ splice-nil 0 (out s)) ∙ same s _ c.enum_told.given.1
+    sym (ap (splice 0 (out s)) (none_runs c.enum_told.given.0.0) ∙ splice_nil 0 (out s)) ∙ same s _ c.enum_told.given.1
 
 same-length-2 : tie.Need-same-length-2
 same-length-2 c = search rules
@@ -146,7 +146,7 @@ same-length-2 c = search rules
 returns-3 : tie.Need-returns-3
 returns-3 c =
     let w = c.before.before in
-    let t = words-told w.before in
+    let t = words_told w.before in
     w.write-turns.ensures ∙ same (at_words t) _ t.form2.given.1
 
 same-length-3 : tie.Need-same-length-3
@@ -155,8 +155,8 @@ same-length-3 c = search rules
 returns-4 : tie.Need-returns-4
 returns-4 c =
     let w = c.before.before in
-    let t = list-told w.before in
-    w.write-list-turns.ensures ∙ same (at-list t) _ t.form3.given.1
+    let t = list_told w.before in
+    w.write-list-turns.ensures ∙ same (at_list t) _ t.form3.given.1
 
 same-length-4 : tie.Need-same-length-4
 same-length-4 c = search rules
@@ -164,12 +164,12 @@ same-length-4 c = search rules
 returns-5 : tie.Need-returns-5
 returns-5 c =
     let w = c.before.before in
-    let t = runs-told w.before in
+    let t = runs_told_lem w.before in
     let s = at-runs t in
     w.copy-list.ensures ∙ ap (splice 0 (out s)) (sym (own t)) ∙ same s _ t.enum-told2.given.1
 
-pub write-runs-spec : {M : Type 1} → statement M
-write-runs-spec =
+pub write_runs_spec : {M : Type 1} → statement M
+write_runs_spec =
     tie.close
     (tie.spec
     enum-known-form

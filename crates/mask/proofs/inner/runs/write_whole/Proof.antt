@@ -5,9 +5,9 @@ use mathlib.Core.Path.{sym, ap, ◌∙◌}
 use native.Mathlib.Omega.{arith}
 use lib.ListN.{length, length-set}
 use Rattle.rows.specs.Rows.{splice}
-use Rattle.rows.proofs.SpliceLaws.{splice-nil}
-use Rattle.turns.proofs.ListTurnLaws.{two-written}
-use Rattle.mask.proofs.RunOutLaws.{whole_run, whole-none}
+use Rattle.rows.proofs.SpliceLaws.{splice_nil}
+use Rattle.turns.proofs.ListTurnLaws.{two_written}
+use Rattle.mask.proofs.RunOutLaws.{whole_run, whole_none}
 use borrow.Author.Rules.{rules}
 use Rattle.mask.proofs.inner.runs.write_whole.Statement.{statement}
 use Rattle.mask.proofs.inner.runs.write_whole.Tie as tie
@@ -26,7 +26,7 @@ module _ (c : tie.Else1) where
 returns : tie.Need-returns
 returns c =
     let s = c.before in
-    sym (ap (splice 0 s.args.out.now) (whole-none s.args.n c.if1.true) ∙ splice-nil 0 s.args.out.now)
+    sym (ap (splice 0 s.args.out.now) (whole_none s.args.n c.if1.true) ∙ splice_nil 0 s.args.out.now)
 
 slice-write-out : tie.Need-slice-write-out
 slice-write-out c = omega (arith, room c)
@@ -44,7 +44,7 @@ returns-2 : tie.Need-returns-2
 returns-2 c =
     let s = c.before in
     let out = s.args.out.now in
-    sym (ap (splice 0 out) (whole_run s.args.n (some c)) ∙ two-written 0 0 s.args.n out (omega (arith, room c)))
+    sym (ap (splice 0 out) (whole_run s.args.n (some c)) ∙ two_written 0 0 s.args.n out (omega (arith, room c)))
 
-pub write-whole-spec : {M : Type 1} → statement M
-write-whole-spec = tie.close (tie.spec returns slice-write-out cast-out slice-write-out-2 same_length returns-2)
+pub write_whole_spec : {M : Type 1} → statement M
+write_whole_spec = tie.close (tie.spec returns slice-write-out cast-out slice-write-out-2 same_length returns-2)

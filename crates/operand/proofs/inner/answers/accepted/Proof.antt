@@ -22,5 +22,5 @@ returns c =
     let a = c.before.before.before.args in
     c.answer.ensures ∙ ap₂ (λ (x : Refusal) (d : Float). answer x a.count a.route d) c.before.before.no-refusal.ensures c.before.density.ensures
 
-pub accepted-spec : {M : Type 1} → statement M
-accepted-spec = tie.close (tie.spec no-refusal-requires density-requires answer-requires returns)
+pub accepted_spec : {M : Type 1} → statement M
+accepted_spec = tie.close (tie.spec no-refusal-requires density-requires answer-requires returns)

@@ -7,7 +7,7 @@ use native.Mathlib.Omega.{arith}
 use lib.Dec.{T, leb, le→leb}
 use lib.Ieee.{of_bits, in_float}
 use Rattle.rows.proofs.TableLaws.{chosen, passed_over}
-use Rattle.rules.specs.Answer.{noDensity, densityOf}
+use Rattle.rules.specs.Answer.{no_density, density_of}
 use Rattle.operand.proofs.Quotient.{quotient}
 use Rattle.operand.proofs.inner.answers.density.Statement.{statement}
 use Rattle.operand.proofs.inner.answers.density.Tie as tie
@@ -17,8 +17,8 @@ small : (k : ℕ) → k ≤ 1048576 → T (leb k (2 ^ 53))
 small k h = le→leb k (2 ^ 53) (omega arith)
 
 returns : tie.Need-returns
-unfolding of_bits densityOf
-returns c = sym (chosen (ℕ_discrete c.before.args.length 0) noDensity _ c.if1.true)
+unfolding of_bits density_of
+returns c = sym (chosen (ℕ_discrete c.before.args.length 0) no_density _ c.if1.true)
 
 int-to-float-result : tie.Need-int-to-float-result
 unfolding in_float
@@ -29,11 +29,11 @@ unfolding in_float
 int-to-float-result-2 c = search (small, arith)
 
 returns-2 : tie.Need-returns-2
-unfolding densityOf
+unfolding density_of
 returns-2 c =
     let length = c.before.before.before.args.length in
     let n : length ≡ 0 → ⊥ = c.before.before.if1.false in
-    quotient _ _ (omega arith) (omega arith) (omega (arith, n)) ∙ sym (passed_over (ℕ_discrete length 0) noDensity _ n)
+    quotient _ _ (omega arith) (omega arith) (omega (arith, n)) ∙ sym (passed_over (ℕ_discrete length 0) no_density _ n)
 
-pub density-spec : {M : Type 1} → statement M
-density-spec = tie.close (tie.spec returns int-to-float-result int-to-float-result-2 returns-2)
+pub density_spec : {M : Type 1} → statement M
+density_spec = tie.close (tie.spec returns int-to-float-result int-to-float-result-2 returns-2)

@@ -12,5 +12,5 @@ returns : tie.Need-returns
 unfolding of_bits
 returns c = c.answer.ensures
 
-pub refused-spec : {M : Type 1} → statement M
-refused-spec = tie.close (tie.spec answer-requires returns)
+pub refused_spec : {M : Type 1} → statement M
+refused_spec = tie.close (tie.spec answer-requires returns)

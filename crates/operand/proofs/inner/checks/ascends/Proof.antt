@@ -10,7 +10,7 @@ use borrow.Author.Tests.{lt-ltb, le-ltb}
 use lib.Dec.{ltb}
 use lib.ListN.{length, drop, get_or}
 use Rattle.rules.specs.Operand.{climbs}
-use Rattle.operand.proofs.ClimbLaws.{climbs-step, climbs-end}
+use Rattle.operand.proofs.ClimbLaws.{climbs_step, climbs_end}
 use Rattle.operand.proofs.inner.checks.ascends.Statement.{statement}
 use Rattle.operand.proofs.inner.checks.ascends.Tie as tie
 
@@ -53,7 +53,7 @@ loop-again c =
     let k : suc (l.i - 1) ≡ l.i = omega arith in
     let k2 : l.i + 1 - 1 ≡ l.i = omega arith in
     let step : climbs rows ≡ (l.fine && (ltb e f && climbs (drop l.i rows))) =
-    l.invariant.1 ∙ ap (λ (b : Bool). l.fine && b) (climbs-step rows (l.i - 1) (omega arith) ∙ rw k) in
+    l.invariant.1 ∙ ap (λ (b : Bool). l.fine && b) (climbs_step rows (l.i - 1) (omega arith) ∙ rw k) in
     let falls : f ≤ e → climbs rows ≡ false = λ h. step ∙ rw (le-ltb e f h) (and-false l.fine) in
     let rises : e < f → climbs rows ≡ (l.fine && climbs (drop l.i rows)) = λ h. step ∙ rw (lt-ltb e f h) in
     (search rules, ⊎_elim (λ w. rw w.1 (falls (omega (arith, w.0.taken)))) (λ w. rw (w.1, k2) (rises (omega (arith, w.0.left)))) c.if1.branch)
@@ -62,10 +62,10 @@ returns : tie.Need-returns invariant-loop decreases-loop
 returns c =
     let rows = c.before.before.args.rows.now in
     let l = c.before.loop in
-    sym (l.invariant.1 ∙ ap (λ (b : Bool). l.fine && b) (climbs-end rows (l.i - 1) (omega arith)) ∙ and-true l.fine)
+    sym (l.invariant.1 ∙ ap (λ (b : Bool). l.fine && b) (climbs_end rows (l.i - 1) (omega arith)) ∙ and-true l.fine)
 
-pub ascends-spec : {M : Type 1} → statement M
-ascends-spec =
+pub ascends_spec : {M : Type 1} → statement M
+ascends_spec =
     tie.close
     (tie.spec
     invariant-loop

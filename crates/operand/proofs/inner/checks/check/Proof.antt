@@ -4,7 +4,7 @@ use mathlib.Core.Path.{ap, ◌∙◌}
 use lib.ListN.{length}
 use borrow.Author.Rules.{rules}
 use Rattle.rows.specs.declared.Verdict.{Verdict}
-use Rattle.operand.specs.Counts.{checkedBy}
+use Rattle.operand.specs.Counts.{checked_by}
 use Rattle.operand.proofs.inner.checks.check.Statement.{statement}
 use Rattle.operand.proofs.inner.checks.check.Tie as tie
 
@@ -53,28 +53,28 @@ check-runs-requires c κs = search rules
 returns : tie.Need-returns
 returns c =
     let told = c.before.before.before in
-    rw told.form.given.1 (c.tell.ensures ∙ ap (λ (v : Verdict). checkedBy v told.form.given.0.0) c.before.check-length.ensures)
+    rw told.form.given.1 (c.tell.ensures ∙ ap (λ (v : Verdict). checked_by v told.form.given.0.0) c.before.check-length.ensures)
 
 returns-2 : tie.Need-returns-2
 returns-2 c =
     let told = c.before.before.before in
-    rw told.form2.given.1 (c.tell2.ensures ∙ ap (λ (v : Verdict). checkedBy v 0) c.before.check-length2.ensures)
+    rw told.form2.given.1 (c.tell2.ensures ∙ ap (λ (v : Verdict). checked_by v 0) c.before.check-length2.ensures)
 
 returns-3 : tie.Need-returns-3
 returns-3 c =
     let told = c.before.before.before in
-    rw told.form3.given.1 (c.tell3.ensures ∙ ap (λ (v : Verdict). checkedBy v told.form3.given.0.1.1.0) c.before.check-words.ensures)
+    rw told.form3.given.1 (c.tell3.ensures ∙ ap (λ (v : Verdict). checked_by v told.form3.given.0.1.1.0) c.before.check-words.ensures)
 
 returns-4 : tie.Need-returns-4
 returns-4 c =
     let told = c.before.before.before in
-    rw told.form4.given.1 (c.tell4.ensures ∙ ap (λ (v : Verdict). checkedBy v (length told.before.before.before.before.args.rows.now)) c.before.check-list.ensures)
+    rw told.form4.given.1 (c.tell4.ensures ∙ ap (λ (v : Verdict). checked_by v (length told.before.before.before.before.args.rows.now)) c.before.check-list.ensures)
 
 returns-5 : tie.Need-returns-5
 returns-5 c = rw c.before.before.form5.given.1 c.check-runs.ensures
 
-pub check-spec : {M : Type 1} → statement M
-check-spec =
+pub check_spec : {M : Type 1} → statement M
+check_spec =
     tie.close
     (tie.spec
     enum-known-form

@@ -5,8 +5,8 @@ use mathlib.Core.Logic.{inl, inr}
 use native.Mathlib.Omega.{arith}
 use Rattle.rows.specs.declared.Verdict.TheVariants.{Fine, Refused}
 use Rattle.rows.specs.Table.{refusal}
-use Rattle.rows.proofs.TableLaws.{first-is}
-use Rattle.rules.specs.Operand.{lengthChecks}
+use Rattle.rows.proofs.TableLaws.{first_is}
+use Rattle.rules.specs.Operand.{length_checks}
 use borrow.Author.Rules.{rules}
 use Rattle.operand.proofs.inner.checks.check_length.Statement.{statement}
 use Rattle.operand.proofs.inner.checks.check_length.Tie as tie
@@ -17,10 +17,10 @@ refuse-requires c κs = search rules
 returns : tie.Need-returns
 returns c =
     let a = c.before.before.args in
-    c.refuse.ensures ∙ sym (first-is (lengthChecks a.operand a.length) (Refused (refusal 1 a.operand)) (inr (λ h. omega arith, refl)))
+    c.refuse.ensures ∙ sym (first_is (length_checks a.operand a.length) (Refused (refusal 1 a.operand)) (inr (λ h. omega arith, refl)))
 
 returns-2 : tie.Need-returns-2
-returns-2 c = sym (first-is (lengthChecks c.before.args.operand c.before.args.length) Fine (inl (omega arith, refl)))
+returns-2 c = sym (first_is (length_checks c.before.args.operand c.before.args.length) Fine (inl (omega arith, refl)))
 
-pub check-length-spec : {M : Type 1} → statement M
-check-length-spec = tie.close (tie.spec refuse-requires returns returns-2)
+pub check_length_spec : {M : Type 1} → statement M
+check_length_spec = tie.close (tie.spec refuse-requires returns returns-2)

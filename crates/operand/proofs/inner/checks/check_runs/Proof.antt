@@ -10,12 +10,12 @@ use borrow.Author.Rules.{rules}
 use borrow.Author.Tests.{not-true, not-false}
 use Rattle.rows.specs.declared.Verdict.{Verdict}
 use Rattle.rows.specs.declared.Verdict.TheVariants.{Fine, Refused}
-use Rattle.rows.specs.Runs.{runLengths}
+use Rattle.rows.specs.Runs.{run_lengths}
 use Rattle.rows.specs.Table.{refusal}
-use Rattle.rows.proofs.RunLaws.{apart-wider}
-use Rattle.rows.proofs.TableLaws.{first-is, is_true, is_false}
-use Rattle.rules.specs.Operand.{runsFit, runsChecks}
-use Rattle.operand.specs.Counts.{checkedBy}
+use Rattle.rows.proofs.RunLaws.{apart_wider}
+use Rattle.rows.proofs.TableLaws.{first_is, is_true, is_false}
+use Rattle.rules.specs.Operand.{runs_fit, runs_checks}
+use Rattle.operand.specs.Counts.{checked_by}
 use Rattle.rules.proofs.OperandLaws.{apart}
 use Rattle.operand.proofs.inner.checks.check_runs.Statement.{statement}
 use Rattle.operand.proofs.inner.checks.check_runs.Tie as tie
@@ -34,10 +34,10 @@ module _ (c : tie.After-runs-fit) where
   abbrev ns : List ℕ
   ns = (begun c).args.runs.now
 
-  fit : c.Runs-Fit.result ≡ runsFit 0 len ns
+  fit : c.Runs-Fit.result ≡ runs_fit 0 len ns
   fit = c.Runs-Fit.ensures
 
-fitting : (c : tie.Else2) → runsFit 0 (len c.before) (ns c.before) ≡ true
+fitting : (c : tie.Else2) → runs_fit 0 (len c.before) (ns c.before) ≡ true
 fitting c = sym (fit c.before) ∙ not-false _ c.if2.false
 
 -- ---- the answers
@@ -50,8 +50,8 @@ tell-requires c κs = search rules
 returns : tie.Need-returns
 returns c =
     let a = c.before.before.before.before.args in
-    let line = first-is (runsChecks a.operand a.length a.runs.now) (Refused (refusal 1 a.operand)) (inr (λ h. omega arith, refl)) in
-    c.tell.ensures ∙ ap (λ (v : Verdict). checkedBy v 0) c.before.refuse.ensures ∙ sym (ap (λ (v : Verdict). checkedBy v (runLengths a.runs.now)) line)
+    let line = first_is (runs_checks a.operand a.length a.runs.now) (Refused (refusal 1 a.operand)) (inr (λ h. omega arith, refl)) in
+    c.tell.ensures ∙ ap (λ (v : Verdict). checked_by v 0) c.before.refuse.ensures ∙ sym (ap (λ (v : Verdict). checked_by v (run_lengths a.runs.now)) line)
 
 runs-fit-requires : tie.Need-runs-fit-requires
 runs-fit-requires c κs = search rules
@@ -67,13 +67,13 @@ returns-2 c =
     let t = c.before.before in
     let w = t.before in
     let unfit = is_false (sym (fit w) ∙ not-true _ t.if2.true) in
-    let line = first-is (runsChecks (k w) (len w) (ns w)) (Refused (refusal 14 (k w))) (inl (omega (arith, w.before.if1.false), inr (unfit, refl))) in
-    c.tell2.ensures ∙ ap (λ (v : Verdict). checkedBy v 0) c.before.refuse2.ensures ∙ sym (ap (λ (v : Verdict). checkedBy v (runLengths (ns w))) line)
+    let line = first_is (runs_checks (k w) (len w) (ns w)) (Refused (refusal 14 (k w))) (inl (omega (arith, w.before.if1.false), inr (unfit, refl))) in
+    c.tell2.ensures ∙ ap (λ (v : Verdict). checked_by v 0) c.before.refuse2.ensures ∙ sym (ap (λ (v : Verdict). checked_by v (run_lengths (ns w))) line)
 
 sum-runs-requires : tie.Need-sum-runs-requires
 sum-runs-requires c κs =
     let w = c.before in
-    apart-wider 0 0 (len w) 1048576 (ns w) (omega arith) (omega (arith, w.before.if1.false)) (apart 0 (len w) (ns w) (is_true (fitting c)))
+    apart_wider 0 0 (len w) 1048576 (ns w) (omega arith) (omega (arith, w.before.if1.false)) (apart 0 (len w) (ns w) (is_true (fitting c)))
 
 tell-requires-3 : tie.Need-tell-requires-3
 tell-requires-3 c κs = search rules
@@ -82,11 +82,11 @@ returns-3 : tie.Need-returns-3
 returns-3 c =
     let e = c.before.before in
     let w = e.before in
-    let line = first-is (runsChecks (k w) (len w) (ns w)) Fine (inl (omega (arith, w.before.if1.false), inl (is_true (fitting e), refl))) in
-    c.tell3.ensures ∙ ap₂ checkedBy (sym line) c.before.sum_runs.ensures
+    let line = first_is (runs_checks (k w) (len w) (ns w)) Fine (inl (omega (arith, w.before.if1.false), inl (is_true (fitting e), refl))) in
+    c.tell3.ensures ∙ ap₂ checked_by (sym line) c.before.sum_runs.ensures
 
-pub check-runs-spec : {M : Type 1} → statement M
-check-runs-spec =
+pub check_runs_spec : {M : Type 1} → statement M
+check_runs_spec =
     tie.close
     (tie.spec
     refuse-requires

@@ -4,7 +4,7 @@ use mathlib.Core.Path.{sym}
 use Prim.Native.Nat.{◌-◌}
 use native.Mathlib.Omega.{arith}
 use lib.ListN.{length}
-use Rattle.operand.proofs.ClimbLaws.{last-at, last_none}
+use Rattle.operand.proofs.ClimbLaws.{last_at, last_none}
 use borrow.Author.Rules.{rules}
 use Rattle.operand.proofs.inner.checks.last_below.Statement.{statement}
 use Rattle.operand.proofs.inner.checks.last_below.Tie as tie
@@ -25,9 +25,9 @@ cast-result : tie.Need-overflow-cast-result
 cast-result c = omega (arith, c.shared-slice-known.given (length c.before.before.args.rows.now - 1))
 
 returns-2 : tie.Need-returns-2
-returns-2 c = sym (last-at c.before.before.args.length c.before.before.args.rows.now (omega arith))
+returns-2 c = sym (last_at c.before.before.args.length c.before.before.args.rows.now (omega arith))
 
-pub last-below-spec : {M : Type 1} → statement M
-last-below-spec =
+pub last_below_spec : {M : Type 1} → statement M
+last_below_spec =
     tie.close
     (tie.spec returns sub-result mul-result shared-slice-read-result cast-result returns-2)

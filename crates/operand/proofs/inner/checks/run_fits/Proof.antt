@@ -20,5 +20,5 @@ returns-3 c =
     let a = c.before.before.args in
     rw (le-leb a.least a.first (omega arith), lt-ltb a.first a.past (omega arith))
 
-pub run-fits-spec : {M : Type 1} → statement M
-run-fits-spec = tie.close (tie.spec returns returns-2 returns-3)
+pub run_fits_spec : {M : Type 1} → statement M
+run_fits_spec = tie.close (tie.spec returns returns-2 returns-3)

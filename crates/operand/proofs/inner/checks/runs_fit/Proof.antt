@@ -6,15 +6,15 @@ use native.Mathlib.Omega.{arith}
 use borrow.Author.Rules.{rules}
 use borrow.Author.Tests.{not-true, not-false}
 use Rattle.rows.proofs.TableLaws.{is_true, is_false}
-use Rattle.rules.specs.Operand.{lastBelow}
-use Rattle.operand.proofs.WeighLaws.{odd-unfit, falling-unfit, last-decides}
+use Rattle.rules.specs.Operand.{last_below}
+use Rattle.operand.proofs.WeighLaws.{odd_unfit, falling_unfit, last_decides}
 use Rattle.operand.proofs.inner.checks.runs_fit.Statement.{statement}
 use Rattle.operand.proofs.inner.checks.runs_fit.Tie as tie
 
 returns : tie.Need-returns
 returns c =
     let a = c.before.before.args in
-    sym (odd-unfit a.length a.runs.now c.if1.true)
+    sym (odd_unfit a.length a.runs.now c.if1.true)
 
 ascends-requires : tie.Need-ascends-requires
 ascends-requires c κs = search rules
@@ -22,7 +22,7 @@ ascends-requires c κs = search rules
 returns-2 : tie.Need-returns-2
 returns-2 c =
     let a = c.before.before.before.before.args in
-    sym (falling-unfit a.length a.runs.now (is_false (sym c.before.ascends.ensures ∙ not-true _ c.if2.true)))
+    sym (falling_unfit a.length a.runs.now (is_false (sym c.before.ascends.ensures ∙ not-true _ c.if2.true)))
 
 add-last-below : tie.Need-overflow-add-last-below
 add-last-below c = search rules
@@ -37,8 +37,8 @@ returns-3 c =
     let a = even.before.before.args in
     let climbing = is_true (sym e.before.ascends.ensures ∙ not-false _ e.if2.false) in
     let next : a.length + 1 ≡ suc a.length = omega arith in
-    c.last-below.ensures ∙ ap (λ (n : ℕ). lastBelow n a.runs.now) next ∙ last-decides a.length a.runs.now (omega (arith, even.if1.false)) climbing
+    c.last-below.ensures ∙ ap (λ (n : ℕ). last_below n a.runs.now) next ∙ last_decides a.length a.runs.now (omega (arith, even.if1.false)) climbing
 
-pub runs-fit-spec : {M : Type 1} → statement M
-runs-fit-spec =
+pub runs_fit_spec : {M : Type 1} → statement M
+runs_fit_spec =
     tie.close (tie.spec returns ascends-requires returns-2 add-last-below last-below-requires returns-3)

@@ -1,8 +1,8 @@
 -- `operand::inner::chunks::chunk_of` meets its contract: each form's chunk is a part of its rows.
 -- By the chunk law of the form that the match tells; a list and runs are ruled out. Assumes nothing.
 use mathlib.Core.Path.{◌∙◌}
-use Rattle.rows.proofs.PartLaws.{view-chunk}
-use Rattle.rows.proofs.ChunkLaws.{all-chunk, none-chunk}
+use Rattle.rows.proofs.PartLaws.{view_chunk}
+use Rattle.rows.proofs.ChunkLaws.{all_chunk, none_chunk}
 use borrow.Author.Rules.{rules}
 use Rattle.operand.proofs.inner.chunks.chunk_of.Statement.{statement}
 use Rattle.operand.proofs.inner.chunks.chunk_of.Tie as tie
@@ -32,20 +32,20 @@ returns : tie.Need-returns
 returns c =
     let s = c.before.before.before.before in
     let e = c.before.enum_told.given.1 in
-    rw e (c.ones.ensures ∙ all-chunk s.args.row s.args.n c.before.enum_told.given.0.0 (rw e at s.requires.2))
+    rw e (c.ones.ensures ∙ all_chunk s.args.row s.args.n c.before.enum_told.given.0.0 (rw e at s.requires.2))
 
 returns-2 : tie.Need-returns-2
 returns-2 c =
     let s = c.before.before.before in
     let e = c.enum-told2.given.1 in
-    rw e (none-chunk s.args.row s.args.n c.enum-told2.given.0.0 (rw e at s.requires.2))
+    rw e (none_chunk s.args.row s.args.n c.enum-told2.given.0.0 (rw e at s.requires.2))
 
 returns-3 : tie.Need-returns-3
 returns-3 c =
     let s = c.before.before.before.before.before in
     let e = c.before.before.form.given.1 in
     let f = rw e at s.requires.0 in
-    rw e (c.chunk.ensures ∙ view-chunk _ s.args.row s.args.n _ s.args.words.now (rw e at s.requires.2) f.2)
+    rw e (c.chunk.ensures ∙ view_chunk _ s.args.row s.args.n _ s.args.words.now (rw e at s.requires.2) f.2)
 
 returns-4 : tie.Need-returns-4
 returns-4 c =
@@ -57,8 +57,8 @@ returns-5 c =
     let s = c.before.before.before in
     absurd (rw c.enum-told4.given.1 at s.requires.0)
 
-pub chunk-of-spec : {M : Type 1} → statement M
-chunk-of-spec =
+pub chunk_of_spec : {M : Type 1} → statement M
+chunk_of_spec =
     tie.close
     (tie.spec
     enum_told

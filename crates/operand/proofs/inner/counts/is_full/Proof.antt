@@ -26,5 +26,5 @@ returns-2 c =
     ap (eqb o.count) long
     ∙ sym (ap (λ (b : Bool). b && eqb o.count (length_of o.form)) (lt-ltb 0 (length_of o.form) (omega (arith, long, c.before.if1.false))))
 
-pub is-full-spec : {M : Type 1} → statement M
-is-full-spec = tie.close (tie.spec length-of-requires returns returns-2)
+pub is_full_spec : {M : Type 1} → statement M
+is_full_spec = tie.close (tie.spec length-of-requires returns returns-2)

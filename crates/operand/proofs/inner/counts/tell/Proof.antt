@@ -16,5 +16,5 @@ returns c = rw c.enum_told.given.1
 returns-2 : tie.Need-returns-2
 returns-2 c = rw c.before.verdict.given.1
 
-pub tell-spec : {M : Type 1} → statement M
-tell-spec = tie.close (tie.spec enum_told enum-known-verdict returns returns-2)
+pub tell_spec : {M : Type 1} → statement M
+tell_spec = tie.close (tie.spec enum_told enum-known-verdict returns returns-2)

@@ -34,8 +34,8 @@ loop-again c = tt
 returns-2 : tie.Need-returns-2 invariant-loop decreases-loop
 returns-2 c = search rules
 
-pub digits-value-spec : {M : Type 1} → statement M
-digits-value-spec =
+pub digits_value_spec : {M : Type 1} → statement M
+digits_value_spec =
     tie.close
     (tie.spec
     invariant-loop

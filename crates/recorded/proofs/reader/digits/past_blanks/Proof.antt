@@ -34,8 +34,8 @@ loop-again c = tt
 returns-2 : tie.Need-returns-2 invariant-loop decreases-loop
 returns-2 c = search rules
 
-pub past-blanks-spec : {M : Type 1} → statement M
-past-blanks-spec =
+pub past_blanks_spec : {M : Type 1} → statement M
+past_blanks_spec =
     tie.close
     (tie.spec
     invariant-loop

@@ -34,8 +34,8 @@ loop-again c = tt
 returns-2 : tie.Need-returns-2 invariant-loop decreases-loop
 returns-2 c = search rules
 
-pub past-digits-spec : {M : Type 1} → statement M
-past-digits-spec =
+pub past_digits_spec : {M : Type 1} → statement M
+past_digits_spec =
     tie.close
     (tie.spec
     invariant-loop

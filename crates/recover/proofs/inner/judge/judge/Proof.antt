@@ -8,9 +8,9 @@ use Rattle.rows.specs.declared.Verdict.TheVariants.{Fine, Refused}
 use Rattle.rows.specs.Table.{first}
 use Rattle.rules.specs.Operand.{Operand, lent}
 use Rattle.recover.specs.declared.inner.judge.Matched.{Matched}
-use Rattle.operand.specs.Counts.{checkedOf}
-use Rattle.recover.specs.Judged.{matchChecks, matchedOf, foundBy, foundOf}
-use Rattle.recover.proofs.JudgeLaws.{judged, match-fine, match-numbers, barred-told, found-told, all-refused, all-passed}
+use Rattle.operand.specs.Counts.{checked_of}
+use Rattle.recover.specs.Judged.{match_checks, matched_of, found_by, found_of}
+use Rattle.recover.proofs.JudgeLaws.{judged, match_fine, match_numbers, barred_told, found_told, all_refused, all_passed}
 use Rattle.recover.proofs.inner.judge.judge.Statement.{statement}
 use Rattle.recover.proofs.inner.judge.judge.Tie as tie
 
@@ -40,19 +40,19 @@ module _ (c : tie.After-judge-masks) where
   abbrev other : Operand
   other = lent s.args.k s.args.kwords.now s.args.krows.now
 
-  told : c.judge-masks.result ≡ matchedOf self other
+  told : c.judge-masks.result ≡ matched_of self other
   told = c.judge-masks.ensures
 
-  set_told : c.judge-masks.result.set ≡ (checkedOf 1 self).count
+  set_told : c.judge-masks.result.set ≡ (checked_of 1 self).count
   set_told = ap (λ (m : Matched). m.set) told
 
-  kept-told : c.judge-masks.result.kept ≡ (checkedOf 2 other).count
-  kept-told = ap (λ (m : Matched). m.kept) told
+  kept_told : c.judge-masks.result.kept ≡ (checked_of 2 other).count
+  kept_told = ap (λ (m : Matched). m.kept) told
 
-refuses : (c : tie.After-verdict) → first (matchChecks (self (barred c)) (other (barred c))) ≡ Refused c.verdict.given.0.0
+refuses : (c : tie.After-verdict) → first (match_checks (self (barred c)) (other (barred c))) ≡ Refused c.verdict.given.0.0
 refuses c = sym (ap (λ (m : Matched). m.verdict) (told (barred c))) ∙ c.verdict.given.1
 
-fine : (c : tie.After-enum-told) → first (matchChecks (self (passed c)) (other (passed c))) ≡ Fine
+fine : (c : tie.After-enum-told) → first (match_checks (self (passed c)) (other (passed c))) ≡ Fine
 fine c = sym (ap (λ (m : Matched). m.verdict) (told (passed c))) ∙ c.enum_told.given.1
 
 -- ---- the answers
@@ -69,27 +69,27 @@ enum_told c = search rules
 judge-inside-requires : tie.Need-judge-inside-requires
 judge-inside-requires c κs =
     let m = passed c in
-    let well = match-fine (self m) (other m) (fine c) in
+    let well = match_fine (self m) (other m) (fine c) in
     (well.0, well.1, well.2)
 
 returns : tie.Need-returns
 returns c =
     let v = c.before in
     let m = barred v in
-    ap₂ (λ (set kept : ℕ). judged (Refused v.verdict.given.0.0) (record { 0 = 0 }) set kept) (set_told m) (kept-told m)
-    ∙ barred-told (self m) (other m) _ v.verdict.given.0.0 (all-refused (self m) (other m) (s m).args.room _ (refuses v)) (match-numbers (self m) (other m) _ (refuses v))
+    ap₂ (λ (set kept : ℕ). judged (Refused v.verdict.given.0.0) (record { 0 = 0 }) set kept) (set_told m) (kept_told m)
+    ∙ barred_told (self m) (other m) _ v.verdict.given.0.0 (all_refused (self m) (other m) (s m).args.room _ (refuses v)) (match_numbers (self m) (other m) _ (refuses v))
 
 returns-2 : tie.Need-returns-2
 returns-2 c =
     let f = c.before in
     let t = f.before in
     let m = passed t in
-    let own = (match-fine (self m) (other m) (fine t)).3 in
+    let own = (match_fine (self m) (other m) (fine t)).3 in
     let found = f.judge-inside.result in
-    ap₂ (λ (set kept : ℕ). judged found.verdict found.outside set kept) (set_told m) (kept-told m)
-    ∙ found-told (self m) (other m) _ found
-    (f.judge-inside.ensures ∙ ap (λ (n : ℕ). foundOf (self m) (other m) n (s m).args.room) (set_told m ∙ own)
-    ∙ ap (λ (w : Verdict). foundBy w (self m) (other m)) (all-passed (self m) (other m) (s m).args.room (fine t)))
+    ap₂ (λ (set kept : ℕ). judged found.verdict found.outside set kept) (set_told m) (kept_told m)
+    ∙ found_told (self m) (other m) _ found
+    (f.judge-inside.ensures ∙ ap (λ (n : ℕ). found_of (self m) (other m) n (s m).args.room) (set_told m ∙ own)
+    ∙ ap (λ (w : Verdict). found_by w (self m) (other m)) (all_passed (self m) (other m) (s m).args.room (fine t)))
 
-pub judge-spec : {M : Type 1} → statement M
-judge-spec = tie.close (tie.spec judge-masks-requires enum-known-verdict enum_told judge-inside-requires returns returns-2)
+pub judge_spec : {M : Type 1} → statement M
+judge_spec = tie.close (tie.spec judge-masks-requires enum-known-verdict enum_told judge-inside-requires returns returns-2)

@@ -9,8 +9,8 @@ use borrow.Author.Rules.{rules}
 use Rattle.rows.specs.Lists.{select}
 use Rattle.rows.specs.Table.{first, need}
 use Rattle.rules.specs.Operand.{Operand, lent, length_of}
-use Rattle.rules.specs.Recover.{strays, roomChecks}
-use Rattle.recover.proofs.JudgeLaws.{stray-told, room-told}
+use Rattle.rules.specs.Recover.{strays, room_checks}
+use Rattle.recover.proofs.JudgeLaws.{stray_told, room_told}
 use Rattle.recover.proofs.inner.judge.judge_inside.Statement.{statement}
 use Rattle.recover.proofs.inner.judge.judge_inside.Tie as tie
 
@@ -38,8 +38,8 @@ module _ (c : tie.After-struct-known) where
   abbrev s : tie.Start
   s = start (sought c)
 
-  row : (sought c).first-outside.result.0 ≡ select (strays (self s) (other s)) 0
-  row = (sought c).first-outside.ensures
+  row : (sought c).first_outside.result.0 ≡ select (strays (self s) (other s)) 0
+  row = (sought c).first_outside.ensures
 
   long : c.before.length-of.result ≡ length_of s.args.s
   long = c.before.length-of.ensures
@@ -61,7 +61,7 @@ returns c =
     let b = s t in
     let p = b.pre in
     let far : select (strays (self b) (other b)) 0 ≢ length_of b.args.s = λ e. c.before.if1.true (row t ∙ e ∙ sym (long t)) in
-    stray-told (self b) (other b) p.2 p.0 p.1 b.args.bits b.args.room far _ c.refuse.ensures _ (row t)
+    stray_told (self b) (other b) p.2 p.0 p.1 b.args.bits b.args.room far _ c.refuse.ensures _ (row t)
 
 words-for-requires : tie.Need-words-for-requires
 words-for-requires c κs = search rules
@@ -74,13 +74,13 @@ returns-2 c =
     let t = c.before.before.before in
     let b = s t in
     let p = b.pre in
-    let at-end : select (strays (self b) (other b)) 0 ≡ length_of b.args.s = sym (row t) ∙ c.before.before.if1.false ∙ long t in
-    let told : c.has_room.result ≡ first (roomChecks b.args.bits b.args.room) =
+    let at_end : select (strays (self b) (other b)) 0 ≡ length_of b.args.s = sym (row t) ∙ c.before.before.if1.false ∙ long t in
+    let told : c.has_room.result ≡ first (room_checks b.args.bits b.args.room) =
     c.has_room.ensures ∙ ap (λ (n : ℕ). first (need (dec_le n b.args.room) 8 0 ∷ [])) c.before.words-for.ensures in
-    room-told (self b) (other b) p.2 p.0 p.1 b.args.bits b.args.room at-end _ told
+    room_told (self b) (other b) p.2 p.0 p.1 b.args.bits b.args.room at_end _ told
 
-pub judge-inside-spec : {M : Type 1} → statement M
-judge-inside-spec =
+pub judge_inside_spec : {M : Type 1} → statement M
+judge_inside_spec =
     tie.close
     (tie.spec
     first-outside-requires

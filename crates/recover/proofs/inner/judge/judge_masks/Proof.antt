@@ -6,13 +6,13 @@ use mathlib.Core.Path.{◌≡◌, ap, ap₂, ◌∙◌}
 use mathlib.Core.List.{[], ◌∷◌}
 use borrow.Author.Rules.{rules}
 use Rattle.rows.specs.declared.Verdict.{Verdict}
-use Rattle.rows.specs.Table.{first, need, ifFine}
+use Rattle.rows.specs.Table.{first, need, if_fine}
 use Rattle.rules.specs.Operand.{Operand, lent}
-use Rattle.rules.specs.Recover.{lengthsChecks}
+use Rattle.rules.specs.Recover.{lengths_checks}
 use Rattle.operand.specs.declared.inner.counts.Checked.{Checked}
-use Rattle.operand.specs.Counts.{checkedOf}
+use Rattle.operand.specs.Counts.{checked_of}
 use Rattle.recover.specs.declared.inner.judge.Matched.{Matched}
-use Rattle.recover.proofs.JudgeLaws.{match-verdict}
+use Rattle.recover.proofs.JudgeLaws.{match_verdict}
 use Rattle.recover.proofs.inner.judge.judge_masks.Statement.{statement}
 use Rattle.recover.proofs.inner.judge.judge_masks.Tie as tie
 
@@ -43,13 +43,13 @@ abbrev told : Checked → Checked → Verdict → Matched
 told d e v = record { verdict = v; set = d.count; kept = e.count }
 
 abbrev after : Checked → Checked → Verdict
-after d e = ifFine d.verdict e.verdict d.verdict
+after d e = if_fine d.verdict e.verdict d.verdict
 
 module _ (c : tie.After-equal) where
   abbrev here : tie.Start
   here = start (one (two c))
 
-  lengths : c.equal.result ≡ first (lengthsChecks (self here) (other here))
+  lengths : c.equal.result ≡ first (lengths_checks (self here) (other here))
   lengths =
       c.equal.ensures
       ∙ ap₂ (λ (x y : ℕ). first (need (ℕ_discrete x y) 7 0 ∷ [])) c.before.before.length-of.ensures c.before.length-of2.ensures
@@ -86,13 +86,13 @@ returns c =
     let s = self (here e) in
     let k = other (here e) in
     ap (told a.check.result b.check2.result)
-    (c.then2.ensures ∙ (λ i. ifFine (joined.then.ensures i) (lengths e i) (joined.then.ensures i)))
+    (c.then2.ensures ∙ (λ i. if_fine (joined.then.ensures i) (lengths e i) (joined.then.ensures i)))
     ∙ (λ i. told (a.check.ensures i) (b.check2.ensures i)
-    (ifFine (after (a.check.ensures i) (b.check2.ensures i)) (first (lengthsChecks s k)) (after (a.check.ensures i) (b.check2.ensures i))))
-    ∙ ap (told (checkedOf 1 s) (checkedOf 2 k)) (match-verdict s k)
+    (if_fine (after (a.check.ensures i) (b.check2.ensures i)) (first (lengths_checks s k)) (after (a.check.ensures i) (b.check2.ensures i))))
+    ∙ ap (told (checked_of 1 s) (checked_of 2 k)) (match_verdict s k)
 
-pub judge-masks-spec : {M : Type 1} → statement M
-judge-masks-spec =
+pub judge_masks_spec : {M : Type 1} → statement M
+judge_masks_spec =
     tie.close
     (tie.spec
     check-requires

@@ -7,13 +7,13 @@ use mathlib.Core.List.{List}
 use borrow.Author.Rules.{rules}
 use Rattle.rows.specs.Rows.{count, recover}
 use Rattle.rows.specs.Words.{view}
-use Rattle.rows.specs.Runs.{Apart, inRuns, runLengths}
+use Rattle.rows.specs.Runs.{Apart, in_runs, run_lengths}
 use Rattle.rows.specs.Laid.{laid}
 use Rattle.rows.specs.Asks.{InView, Room}
 use Rattle.rules.specs.Operand.{Operand, lent, rows_of, length_of, count_of}
-use Rattle.rules.proofs.OperandLaws.{accepted-count}
-use Rattle.operand.specs.Flat.{hasWords, hasRuns, start_of}
-use Rattle.operand.proofs.FlatLaws.{accepted-words, accepted-runs}
+use Rattle.rules.proofs.OperandLaws.{accepted_count}
+use Rattle.operand.specs.Flat.{has_words, has_runs, start_of}
+use Rattle.operand.proofs.FlatLaws.{accepted_words, accepted_runs}
 use Rattle.recover.proofs.inner.lay.lay_kept_words.Statement.{statement}
 use Rattle.recover.proofs.inner.lay.lay_kept_words.Tie as tie
 
@@ -53,14 +53,14 @@ module _ (c : tie.After-has-words) where
   long = (measured c).before.length-of.ensures
 
   his : InView (start_of s.args.k) (length_of s.args.k) s.args.kwords.now × (rows_of other ≡ view (start_of s.args.k) (length_of s.args.k) s.args.kwords.now)
-  his = accepted-words other s.pre.1 s.pre.0.kept
+  his = accepted_words other s.pre.1 s.pre.0.kept
 
-  other-rows : view from len s.args.kwords.now ≡ rows_of other
-  other-rows =
+  other_rows : view from len s.args.kwords.now ≡ rows_of other
+  other_rows =
       ap₂ (λ (x y : ℕ). view x y s.args.kwords.now) (measured c).start_of_lem.ensures (long ∙ sym s.pre.0.lengths) ∙ sym his.1
 
-  other-view : InView from len s.args.kwords.now
-  other-view =
+  other_view : InView from len s.args.kwords.now
+  other_view =
       subst (λ (p : ℕ × ℕ). InView p.0 p.1 s.args.kwords.now)
       (λ i. (sym (measured c).start_of_lem.ensures i, (s.pre.0.lengths ∙ sym long) i)) his.0
 
@@ -71,22 +71,22 @@ module _ (c : tie.After-start-of2) where
   t = c.before.before
 
   own : InView (start_of (s t).args.s.form) (length_of (s t).args.s.form) (s t).args.swords.now × (rows_of (self t) ≡ view (start_of (s t).args.s.form) (length_of (s t).args.s.form) (s t).args.swords.now)
-  own = accepted-words (self t) (sym t.has_words.ensures ∙ c.before.if1.true) (s t).pre.0.self
+  own = accepted_words (self t) (sym t.has_words.ensures ∙ c.before.if1.true) (s t).pre.0.self
 
-  own-rows : view c.start-of2.result (len t) (s t).args.swords.now ≡ rows_of (self t)
-  own-rows = ap₂ (λ (x y : ℕ). view x y (s t).args.swords.now) c.start-of2.ensures (long t) ∙ sym own.1
+  own_rows : view c.start-of2.result (len t) (s t).args.swords.now ≡ rows_of (self t)
+  own_rows = ap₂ (λ (x y : ℕ). view x y (s t).args.swords.now) c.start-of2.ensures (long t) ∙ sym own.1
 
   own_view : InView c.start-of2.result (len t) (s t).args.swords.now
   own_view =
       subst (λ (p : ℕ × ℕ). InView p.0 p.1 (s t).args.swords.now) (λ i. (sym c.start-of2.ensures i, sym (long t) i)) own.0
 
   counted : (s t).args.s.count ≡ count (view c.start-of2.result (len t) (s t).args.swords.now)
-  counted = (s t).pre.2 ∙ sym (ap count own-rows ∙ accepted-count (self t) (s t).pre.0.self)
+  counted = (s t).pre.2 ∙ sym (ap count own_rows ∙ accepted_count (self t) (s t).pre.0.self)
 
   room : Room (s t).args.at (count (view c.start-of2.result (len t) (s t).args.swords.now)) (s t).args.out.now
   room =
       subst (λ (n : ℕ). Room (s t).args.at n (s t).args.out.now)
-      (sym (ap count own-rows ∙ accepted-count (self t) (s t).pre.0.self)) (s t).pre.3
+      (sym (ap count own_rows ∙ accepted_count (self t) (s t).pre.0.self)) (s t).pre.3
 
 -- ---- self in runs
 
@@ -97,11 +97,11 @@ module _ (c : tie.Then2) where
   abbrev runs : List ℕ
   runs = (s u).args.srows.now
 
-  in-runs : Apart 0 (length_of (s u).args.s.form) runs × (rows_of (self u) ≡ inRuns (length_of (s u).args.s.form) runs) × (count_of (self u) ≡ runLengths runs)
-  in-runs = accepted-runs (self u) (sym c.before.has-runs.ensures ∙ c.if2.true) (s u).pre.0.self
+  in_runs_lem : Apart 0 (length_of (s u).args.s.form) runs × (rows_of (self u) ≡ in_runs (length_of (s u).args.s.form) runs) × (count_of (self u) ≡ run_lengths runs)
+  in_runs_lem = accepted_runs (self u) (sym c.before.has-runs.ensures ∙ c.if2.true) (s u).pre.0.self
 
-  runs-rows : inRuns (len u) runs ≡ rows_of (self u)
-  runs-rows = ap (λ (n : ℕ). inRuns n runs) (long u) ∙ sym in-runs.1
+  runs_rows : in_runs (len u) runs ≡ rows_of (self u)
+  runs_rows = ap (λ (n : ℕ). in_runs n runs) (long u) ∙ sym in_runs_lem.1
 
 -- ---- the answers
 
@@ -123,7 +123,7 @@ way-requires c κs = search rules
 recover-words-requires : tie.Need-recover-words-requires
 recover-words-requires c κs =
     let k = c.before.before in
-    (own_view k, other-view (t k), counted k, room k)
+    (own_view k, other_view (t k), counted k, room k)
 
 same_length : tie.Need-same-length
 same_length c = search rules
@@ -133,7 +133,7 @@ returns c =
     let w = c.before.before in
     let k = w.before.before.before in
     let a = (s (t k)).args in
-    w.recover-words.ensures ∙ ap₂ (λ (x y : List Bool). laid a.at (recover x y) a.out.now) (own-rows k) (other-rows (t k))
+    w.recover-words.ensures ∙ ap₂ (λ (x y : List Bool). laid a.at (recover x y) a.out.now) (own_rows k) (other_rows (t k))
 
 has-runs-requires : tie.Need-has-runs-requires
 has-runs-requires c κs = search rules
@@ -142,9 +142,9 @@ recover-under-runs-requires : tie.Need-recover-under-runs-requires
 recover-under-runs-requires c κs =
     let k = c.before in
     let b = s (u k) in (
-      subst (λ (n : ℕ). Apart 0 n (runs k)) (sym (long (u k))) (in-runs k).0,
-      other-view (u k),
-      subst (λ (n : ℕ). Room b.args.at n b.args.out.now) (in-runs k).2 b.pre.3,
+      subst (λ (n : ℕ). Apart 0 n (runs k)) (sym (long (u k))) (in_runs_lem k).0,
+      other_view (u k),
+      subst (λ (n : ℕ). Room b.args.at n b.args.out.now) (in_runs_lem k).2 b.pre.3,
     )
 
 same-length-2 : tie.Need-same-length-2
@@ -155,7 +155,7 @@ returns-2 c =
     let w = c.before.before in
     let k = w.before.before in
     let a = (s (u k)).args in
-    w.recover-under-runs.ensures ∙ ap₂ (λ (x y : List Bool). laid a.at (recover x y) a.out.now) (runs-rows k) (other-rows (u k))
+    w.recover-under-runs.ensures ∙ ap₂ (λ (x y : List Bool). laid a.at (recover x y) a.out.now) (runs_rows k) (other_rows (u k))
 
 recover-chunks-requires : tie.Need-recover-chunks-requires
 recover-chunks-requires c κs =
@@ -168,8 +168,8 @@ same-length-3 c = search rules
 returns-3 : tie.Need-returns-3
 returns-3 c = c.before.before.recover-chunks.ensures
 
-pub lay-kept-words-spec : {M : Type 1} → statement M
-lay-kept-words-spec =
+pub lay_kept_words_spec : {M : Type 1} → statement M
+lay_kept_words_spec =
     tie.close
     (tie.spec
     length-of-requires

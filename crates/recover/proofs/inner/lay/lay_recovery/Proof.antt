@@ -6,11 +6,11 @@ use mathlib.Core.Bool.{Bool, true}
 use mathlib.Core.List.{List}
 use borrow.Author.Rules.{rules}
 use Rattle.rows.specs.Rows.{count, recover, outside}
-use Rattle.rows.specs.Runs.{Apart, inRuns, runLengths}
+use Rattle.rows.specs.Runs.{Apart, in_runs, run_lengths}
 use Rattle.rows.specs.Laid.{laid}
 use Rattle.rules.specs.Operand.{Operand, lent, rows_of, length_of, count_of}
-use Rattle.operand.specs.Flat.{hasRuns}
-use Rattle.operand.proofs.FlatLaws.{accepted-runs}
+use Rattle.operand.specs.Flat.{has_runs}
+use Rattle.operand.proofs.FlatLaws.{accepted_runs}
 use Rattle.recover.proofs.inner.lay.lay_recovery.Statement.{statement}
 use Rattle.recover.proofs.inner.lay.lay_recovery.Tie as tie
 
@@ -40,12 +40,12 @@ module _ (c : tie.Then2) where
   abbrev runs : List ℕ
   runs = s.args.krows.now
 
-  in-runs : Apart 0 (length_of s.args.k) runs × (rows_of other ≡ inRuns (length_of s.args.k) runs) × (count_of other ≡ runLengths runs)
-  in-runs = accepted-runs other (sym c.before.has-runs.ensures ∙ c.if2.true) s.pre.0.kept
+  in_runs_lem : Apart 0 (length_of s.args.k) runs × (rows_of other ≡ in_runs (length_of s.args.k) runs) × (count_of other ≡ run_lengths runs)
+  in_runs_lem = accepted_runs other (sym c.before.has-runs.ensures ∙ c.if2.true) s.pre.0.kept
 
   -- of self's length
-  runs-rows : rows_of other ≡ inRuns (length_of s.args.s.form) runs
-  runs-rows = in-runs.1 ∙ ap (λ (n : ℕ). inRuns n runs) s.pre.0.lengths
+  runs_rows : rows_of other ≡ in_runs (length_of s.args.s.form) runs
+  runs_rows = in_runs_lem.1 ∙ ap (λ (n : ℕ). in_runs n runs) s.pre.0.lengths
 
 -- ---- the answers
 
@@ -73,8 +73,8 @@ recover-runs-requires c κs =
     let p = (s k).requires in (
       p.0.self,
       p.1,
-      subst (λ (n : ℕ). Apart 0 n (runs k)) p.0.lengths (in-runs k).0,
-      ap (λ (l : List Bool). count (outside (rows_of (self k)) l)) (sym (runs-rows k)) ∙ p.0.inside,
+      subst (λ (n : ℕ). Apart 0 n (runs k)) p.0.lengths (in_runs_lem k).0,
+      ap (λ (l : List Bool). count (outside (rows_of (self k)) l)) (sym (runs_rows k)) ∙ p.0.inside,
       p.2,
     )
 
@@ -86,7 +86,7 @@ returns-2 c =
     let w = c.before.before in
     let k = w.before.before in
     let a = (s k).args in
-    w.recover-runs.ensures ∙ ap (λ (l : List Bool). laid a.at (recover (rows_of (self k)) l) a.out.now) (sym (runs-rows k))
+    w.recover-runs.ensures ∙ ap (λ (l : List Bool). laid a.at (recover (rows_of (self k)) l) a.out.now) (sym (runs_rows k))
 
 recover-chunks-requires : tie.Need-recover-chunks-requires
 recover-chunks-requires c κs =
@@ -99,8 +99,8 @@ same-length-3 c = search rules
 returns-3 : tie.Need-returns-3
 returns-3 c = c.before.before.recover-chunks.ensures
 
-pub lay-recovery-spec : {M : Type 1} → statement M
-lay-recovery-spec =
+pub lay_recovery_spec : {M : Type 1} → statement M
+lay_recovery_spec =
     tie.close
     (tie.spec
     has-words-requires

@@ -8,16 +8,16 @@ use native.Mathlib.Omega.{arith}
 use lib.ListN.{length}
 use borrow.Author.Rules.{rules}
 use Rattle.rows.specs.Rows.{count}
-use Rattle.rows.specs.Laid.{laid, lastCleared, written}
+use Rattle.rows.specs.Laid.{laid, last_cleared, written}
 use Rattle.rows.proofs.LaidLaws.{below_all}
-use Rattle.rows.proofs.WrittenLaws.{laid-written}
+use Rattle.rows.proofs.WrittenLaws.{laid_written}
 use Rattle.rules.specs.declared.Answer.{Answer}
 use Rattle.rules.specs.declared.Recovered.{Recovered}
 use Rattle.rules.specs.Operand.{Operand, lent, count_of}
 use Rattle.rules.specs.Answer.{accepted}
 use Rattle.rules.specs.Recover.{recovery}
-use Rattle.rules.proofs.OperandLaws.{accepted-few}
-use Rattle.rules.proofs.Recoveries.{recovery-length, recovery-count}
+use Rattle.rules.proofs.OperandLaws.{accepted_few}
+use Rattle.rules.proofs.Recoveries.{recovery_length, recovery_count}
 use Rattle.recover.proofs.inner.whole.recover_within.Statement.{statement}
 use Rattle.recover.proofs.inner.whole.recover_within.Tie as tie
 
@@ -57,20 +57,20 @@ module _ (c : tie.After-slice-known) where
   out = s.args.out.now
 
   few : s.args.s.count ≤ 1048576
-  few = omega (arith, s.pre.1, accepted-few self s.pre.0.self)
+  few = omega (arith, s.pre.1, accepted_few self s.pre.0.self)
 
-  kept-few : s.args.k.count ≤ 1048576
-  kept-few = omega (arith, s.pre.2, accepted-few other s.pre.0.kept)
+  kept_few : s.args.k.count ≤ 1048576
+  kept_few = omega (arith, s.pre.2, accepted_few other s.pre.0.kept)
 
-  whole : laid 0 rows (lastCleared s.args.s.count out) ≡ written (count_of self) rows out
+  whole : laid 0 rows (last_cleared s.args.s.count out) ≡ written (count_of self) rows out
   whole =
-      ap (λ (n : ℕ). laid 0 rows (lastCleared n out)) s.pre.1
-      ∙ laid-written (count_of self) rows out (below_all (2 ^ 64) out (λ i. (c.slice-known.given i).fits)) (recovery-length self other s.pre.0) s.pre.3
+      ap (λ (n : ℕ). laid 0 rows (last_cleared n out)) s.pre.1
+      ∙ laid_written (count_of self) rows out (below_all (2 ^ 64) out (λ i. (c.slice-known.given i).fits)) (recovery_length self other s.pre.0) s.pre.3
 
   -- the second mask's count and self's are the result's count and length
-  answer-is : accepted s.args.k.count 0 s.args.s.count ≡ accepted (count rows) 0 (length rows)
-  answer-is =
-      ap₂ (λ (n len : ℕ). accepted n 0 len) (s.pre.2 ∙ sym (recovery-count self other s.pre.0)) (s.pre.1 ∙ sym (recovery-length self other s.pre.0))
+  answer_is : accepted s.args.k.count 0 s.args.s.count ≡ accepted (count rows) 0 (length rows)
+  answer_is =
+      ap₂ (λ (n len : ℕ). accepted n 0 len) (s.pre.2 ∙ sym (recovery_count self other s.pre.0)) (s.pre.1 ∙ sym (recovery_length self other s.pre.0))
 
 -- ---- the answers
 
@@ -83,12 +83,12 @@ lay-recovery-requires : tie.Need-lay-recovery-requires
 lay-recovery-requires c κs =
     let g = given c.before.before.before in
     let p = (s g).pre in
-    (p.0, p.1, (omega (arith, p.3), omega (arith, accepted-few (self g) p.0.self)))
+    (p.0, p.1, (omega (arith, p.3), omega (arith, accepted_few (self g) p.0.self)))
 
 accepted-requires : tie.Need-accepted-requires
 accepted-requires c κs =
     let g = given (cleared (laid_out c)) in
-    (kept-few g, few g)
+    (kept_few g, few g)
 
 tell-requires : tie.Need-tell-requires
 tell-requires c κs = search rules
@@ -101,15 +101,15 @@ returns c =
     let l = laid_out c.before.before in
     let k = cleared l in
     let g = given k in (
-      c.tell.ensures ∙ ap told (c.before.accepted.ensures ∙ answer-is g),
+      c.tell.ensures ∙ ap told (c.before.accepted.ensures ∙ answer_is g),
       l.lay-recovery.ensures ∙ ap (laid 0 (rows g)) k.clear-last.ensures ∙ whole g,
     )
   where
     told : Answer → Recovered
     told a = record { answer = a; outside = record { 0 = 0 } }
 
-pub recover-within-spec : {M : Type 1} → statement M
-recover-within-spec =
+pub recover_within_spec : {M : Type 1} → statement M
+recover_within_spec =
     tie.close
     (tie.spec
     clear-last-requires

@@ -3,7 +3,7 @@
 use mathlib.Core.Path.{sym, ◌∙◌}
 use native.Mathlib.Decide.{ℕ_discrete}
 use native.Mathlib.Omega.{arith}
-use Rattle.rows.proofs.TableLaws.{alone-fine, alone-refused}
+use Rattle.rows.proofs.TableLaws.{alone_fine, alone_refused}
 use borrow.Author.Rules.{rules}
 use Rattle.rows.proofs.inner.verdicts.equal.Statement.{statement}
 use Rattle.rows.proofs.inner.verdicts.equal.Tie as tie
@@ -14,10 +14,10 @@ refuse-requires c κs = search rules
 returns : tie.Need-returns
 returns c =
     let a = c.before.before.args in
-    c.refuse.ensures ∙ sym (alone-refused (ℕ_discrete a.a a.b) 7 0 (λ h. omega arith))
+    c.refuse.ensures ∙ sym (alone_refused (ℕ_discrete a.a a.b) 7 0 (λ h. omega arith))
 
 returns-2 : tie.Need-returns-2
-returns-2 c = sym (alone-fine (ℕ_discrete c.before.args.a c.before.args.b) 7 0 (omega arith))
+returns-2 c = sym (alone_fine (ℕ_discrete c.before.args.a c.before.args.b) 7 0 (omega arith))
 
-pub equal-spec : {M : Type 1} → statement M
-equal-spec = tie.close (tie.spec refuse-requires returns returns-2)
+pub equal_spec : {M : Type 1} → statement M
+equal_spec = tie.close (tie.spec refuse-requires returns returns-2)
