@@ -11,12 +11,12 @@ use Rattle.rows.proofs.inner.verdicts.equal.Tie as tie
 refuse-requires : tie.Need-refuse-requires
 refuse-requires c κs = search rules
 
-returns : tie.Need-returns
+returns : tie.Need-returns-then-a-b
 returns c =
     let a = c.before.before.args in
     c.refuse.ensures ∙ sym (alone_refused (ℕ_discrete a.a a.b) 7 0 (λ h. omega arith))
 
-returns-2 : tie.Need-returns-2
+returns-2 : tie.Need-returns
 returns-2 c = sym (alone_fine (ℕ_discrete c.before.args.a c.before.args.b) 7 0 (omega arith))
 
 pub equal_spec : {M : Type 1} → statement M
