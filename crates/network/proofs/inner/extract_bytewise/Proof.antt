@@ -9,14 +9,14 @@ use Rattle.network.proofs.inner.extract_bytewise.Statement.{statement}
 use Rattle.network.proofs.inner.extract_bytewise.Tie as tie
 
 -- ---- the places
-abbrev compressed : tie.After-pack → tie.After-compress
+abbrev compressed : tie.After-pack → tie.After-compress-p
 compressed c = c.before.before
 
 abbrev start : tie.After-pack → tie.Start
 start c = (compressed c).before
 
 -- ---- the answers
-compress-requires : tie.Need-compress-requires
+compress-requires : tie.Need-compress-p-requires
 compress-requires c κs = search rules
 
 pack-requires : tie.Need-pack-requires
@@ -36,7 +36,7 @@ returns c =
     let m : ℕ = (start q).args.mask in
     let fits = (start q).ranges in
     c.join.ensures
-    ∙ ap₂ (joined 64 8) (q.pack.ensures ∙ ap (λ (l : List ℕ). move_to 64 l 3 (bit_and s m)) (compressed q).compress.ensures.1) c.before.below.ensures
+    ∙ ap₂ (joined 64 8) (q.pack.ensures ∙ ap (λ (l : List ℕ). move_to 64 l 3 (bit_and s m)) (compressed q).compress-p.ensures.1) c.before.below.ensures
     ∙ bytewise_back s m fits.source.fits fits.mask.fits
 
 pub extract_bytewise_spec : {M : Type 1} → statement M

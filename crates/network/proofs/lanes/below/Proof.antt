@@ -11,12 +11,12 @@ counts-requires c κs = search rules
 bytes-requires : tie.Need-bytes-requires
 bytes-requires c κs = search rules
 
-wrapping-mul-requires : tie.Need-wrapping-mul-requires
+wrapping-mul-requires : tie.Need-wrapping_mul-requires
 wrapping-mul-requires c κs = search rules
 
 returns : tie.Need-returns
 returns c =
-    ap (λ (n : ℕ). (n * 256) % 2 ^ 64) (c.wrapping-mul.ensures ∙ ap₂ (λ (m n : ℕ). (m * n) % 2 ^ 64) c.before.before.counts.ensures (c.before.bytes.ensures ∙ in_each_lem 1))
+    ap (λ (n : ℕ). (n * 256) % 2 ^ 64) (c.wrapping_mul.ensures ∙ ap₂ (λ (m n : ℕ). (m * n) % 2 ^ 64) c.before.before.counts.ensures (c.before.bytes.ensures ∙ in_each_lem 1))
     ∙ below_is c.before.before.before.args.mask
 
 pub below_spec : {M : Type 1} → statement M

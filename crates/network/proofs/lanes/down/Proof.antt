@@ -7,13 +7,13 @@ use Rattle.network.proofs.ProductLaws.{in_each_lem}
 use Rattle.network.proofs.lanes.down.Statement.{statement}
 use Rattle.network.proofs.lanes.down.Tie as tie
 
-shr-result : tie.Need-overflow-shr-result
+shr-result : tie.Need-overflow_shr-result
 shr-result c = search rules
 
-cast-bytes : tie.Need-overflow-cast-bytes
+cast-bytes : tie.Need-overflow_cast-k
 cast-bytes c = search rules
 
-shr-bytes : tie.Need-overflow-shr-bytes
+shr-bytes : tie.Need-overflow_shr-k
 shr-bytes c = search rules
 
 bytes-requires : tie.Need-bytes-requires

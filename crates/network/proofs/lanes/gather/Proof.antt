@@ -7,49 +7,49 @@ use Rattle.network.proofs.GatherLaws.{gathered_lt, gathered_top}
 use Rattle.network.proofs.lanes.gather.Statement.{statement}
 use Rattle.network.proofs.lanes.gather.Tie as tie
 
-abbrev invariant-loop : tie.invariant-loop
+abbrev invariant-loop : tie.invariant-loop-byte
 invariant-loop source from result₀ byte₀ result byte = (byte ≤ 8) × (result ≡ gathered byte source from)
 
-abbrev decreases-loop : tie.decreases-loop
+abbrev decreases-loop : tie.decreases-loop-byte
 decreases-loop source from result₀ byte₀ result byte = 8 - byte
 
-loop-holds : tie.Need-loop-init invariant-loop decreases-loop
+loop-holds : tie.Need-loop-byte-init invariant-loop decreases-loop
 unfolding gathered
 loop-holds c = (omega arith, refl)
 
-mul_at : tie.Need-overflow-mul-at invariant-loop decreases-loop
+mul_at : tie.Need-overflow_mul-at invariant-loop decreases-loop
 mul_at c = omega arith
 
-cast-at : tie.Need-overflow-cast-at invariant-loop decreases-loop
+cast-at : tie.Need-overflow_cast-at invariant-loop decreases-loop
 cast-at c = omega arith
 
-shr_at : tie.Need-overflow-shr-at invariant-loop decreases-loop
+shr_at : tie.Need-overflow_shr-at invariant-loop decreases-loop
 shr_at c = omega arith
 
-shr-result : tie.Need-overflow-shr-result invariant-loop decreases-loop
+shr-result : tie.Need-overflow_shr-result invariant-loop decreases-loop
 shr-result c =
-    let j : ℕ = c.before.loop.byte in
+    let j : ℕ = c.before.loop-byte.byte in
     let f : ℕ = c.before.before.args.from in
     omega (arith, c.before.before.requires j, and_mask (f / 2 ^ (8 * j)) 8)
 
-mul-result : tie.Need-overflow-mul-result invariant-loop decreases-loop
+mul-result : tie.Need-overflow_mul-result invariant-loop decreases-loop
 mul-result c = omega arith
 
-cast-result : tie.Need-overflow-cast-result invariant-loop decreases-loop
+cast-result : tie.Need-overflow_cast-result invariant-loop decreases-loop
 cast-result c = omega arith
 
-shl-result : tie.Need-overflow-shl-result invariant-loop decreases-loop
+shl-result : tie.Need-overflow_shl-result invariant-loop decreases-loop
 shl-result c = omega arith
 
-add-byte : tie.Need-overflow-add-byte invariant-loop decreases-loop
+add-byte : tie.Need-overflow_step-byte invariant-loop decreases-loop
 add-byte c = omega arith
 
-loop-less : tie.Need-loop-smaller invariant-loop decreases-loop
+loop-less : tie.Need-loop-byte-smaller invariant-loop decreases-loop
 loop-less c = omega arith
 
-loop-again : tie.Need-loop-preserved invariant-loop decreases-loop
+loop-again : tie.Need-loop-byte-preserved invariant-loop decreases-loop
 loop-again c =
-    let at = c.before.loop in
+    let at = c.before.loop-byte in
     let j : ℕ = at.byte in
     let s : ℕ = c.before.before.args.source in
     let f : ℕ = c.before.before.args.from in
@@ -63,7 +63,7 @@ loop-again c =
 
 returns : tie.Need-returns invariant-loop decreases-loop
 returns c =
-    let at = c.before.loop in
+    let at = c.before.loop-byte in
     let e : at.byte ≡ 8 = omega arith in
     at.invariant.1 ∙ ap (λ (n : ℕ). gathered n c.before.before.args.source c.before.before.args.from) e
 

@@ -6,50 +6,50 @@ use Rattle.network.specs.Lanes.{joined}
 use Rattle.network.proofs.lanes.join.Statement.{statement}
 use Rattle.network.proofs.lanes.join.Tie as tie
 
-abbrev invariant-loop : tie.invariant-loop
+abbrev invariant-loop : tie.invariant-loop-byte
 invariant-loop packed to result₀ byte₀ result byte = (byte ≤ 8) × (result ≡ joined 64 byte packed to)
 
-abbrev decreases-loop : tie.decreases-loop
+abbrev decreases-loop : tie.decreases-loop-byte
 decreases-loop packed to result₀ byte₀ result byte = 8 - byte
 
-loop-holds : tie.Need-loop-init invariant-loop decreases-loop
+loop-holds : tie.Need-loop-byte-init invariant-loop decreases-loop
 unfolding joined
 loop-holds c = (omega arith, refl)
 
-mul_at : tie.Need-overflow-mul-at invariant-loop decreases-loop
+mul_at : tie.Need-overflow_mul-at invariant-loop decreases-loop
 mul_at c = omega arith
 
-cast-at : tie.Need-overflow-cast-at invariant-loop decreases-loop
+cast-at : tie.Need-overflow_cast-at invariant-loop decreases-loop
 cast-at c = omega arith
 
-shr_at : tie.Need-overflow-shr-at invariant-loop decreases-loop
+shr_at : tie.Need-overflow_shr-at invariant-loop decreases-loop
 shr_at c = omega arith
 
-mul-result : tie.Need-overflow-mul-result invariant-loop decreases-loop
+mul-result : tie.Need-overflow_mul-result invariant-loop decreases-loop
 mul-result c = omega arith
 
-cast-result : tie.Need-overflow-cast-result invariant-loop decreases-loop
+cast-result : tie.Need-overflow_cast-result invariant-loop decreases-loop
 cast-result c = omega arith
 
-shr-result : tie.Need-overflow-shr-result invariant-loop decreases-loop
+shr-result : tie.Need-overflow_shr-result invariant-loop decreases-loop
 shr-result c = omega arith
 
-shl-result : tie.Need-overflow-shl-result invariant-loop decreases-loop
+shl-result : tie.Need-overflow_shl-result invariant-loop decreases-loop
 shl-result c =
-    let j : ℕ = c.before.loop.byte in
+    let j : ℕ = c.before.loop-byte.byte in
     let t : ℕ = c.before.before.args.to in
     omega (arith, c.before.before.requires j, and_mask (t / 2 ^ (8 * j)) 8)
 
-add-byte : tie.Need-overflow-add-byte invariant-loop decreases-loop
+add-byte : tie.Need-overflow_step-byte invariant-loop decreases-loop
 add-byte c = omega arith
 
-loop-less : tie.Need-loop-smaller invariant-loop decreases-loop
+loop-less : tie.Need-loop-byte-smaller invariant-loop decreases-loop
 loop-less c = omega arith
 
-loop-again : tie.Need-loop-preserved invariant-loop decreases-loop
+loop-again : tie.Need-loop-byte-preserved invariant-loop decreases-loop
 unfolding joined
 loop-again c =
-    let at = c.before.loop in
+    let at = c.before.loop-byte in
     let j : ℕ = at.byte in
     let p : ℕ = c.before.before.args.packed in
     let t : ℕ = c.before.before.args.to in (
@@ -61,7 +61,7 @@ loop-again c =
 
 returns : tie.Need-returns invariant-loop decreases-loop
 returns c =
-    let at = c.before.loop in
+    let at = c.before.loop-byte in
     let e : at.byte ≡ 8 = omega arith in
     at.invariant.1 ∙ ap (λ (n : ℕ). joined 64 n c.before.before.args.packed c.before.before.args.to) e
 

@@ -12,13 +12,13 @@ small k (inl e) = omega arith
 small k (inr (inl e)) = omega arith
 small k (inr (inr e)) = omega arith
 
-parity-requires : tie.Need-parity-requires
+parity-requires : tie.Need-parity-p-requires
 parity-requires c κs = search rules
 
-down-requires : tie.Need-down-requires
+down-requires : tie.Need-down-landed-requires
 down-requires c κs = small c.before.args.shift c.before.requires
 
-down-requires-2 : tie.Need-down-requires-2
+down-requires-2 : tie.Need-down-requires
 down-requires-2 c κs = small c.before.before.args.shift c.before.before.requires
 
 returns : tie.Need-returns
@@ -29,10 +29,10 @@ returns c =
     let k : ℕ = start.args.shift in
     let hz : z < 2 ^ 64 = start.ranges.zeros.fits in
     let hq : q < 2 ^ 64 = start.ranges.packed.fits in
-    let p : c.before.before.parity.result ≡ each (parity8 k) 8 z = c.before.before.parity.ensures in
-    let l : c.before.down.result ≡ each2 (landed8 k) 8 z q =
-    c.before.down.ensures ∙ ap (λ (n : ℕ). each (down8 k) 8 (bit_and q n)) p ∙ landed_is k z q hz hq in (
-      ap (bit_xor (bit_and z (2 ^ 64 - 1 - c.before.before.parity.result))) c.down2.ensures
+    let p : c.before.before.parity-p.result ≡ each (parity8 k) 8 z = c.before.before.parity-p.ensures in
+    let l : c.before.down-landed.result ≡ each2 (landed8 k) 8 z q =
+    c.before.down-landed.ensures ∙ ap (λ (n : ℕ). each (down8 k) 8 (bit_and q n)) p ∙ landed_is k z q hz hq in (
+      ap (bit_xor (bit_and z (2 ^ 64 - 1 - c.before.before.parity-p.result))) c.down.ensures
           ∙ ap (λ (n : ℕ). bit_xor (bit_and z (2 ^ 64 - 1 - n)) (each (down8 k) 8 (bit_and z (2 ^ 64 - 1 - n)))) p ∙ zeros_is k z q hz hq,
       ap₂ (λ (m n : ℕ). bit_xor q (bit_xor (bit_and q m) n)) p l ∙ packed_is k z q hz hq,
       l,

@@ -7,43 +7,43 @@ use Rattle.network.proofs.NetworkLaws.{shift_is, shift_small}
 use Rattle.network.proofs.lanes.spread.Statement.{statement}
 use Rattle.network.proofs.lanes.spread.Tie as tie
 
-abbrev invariant-loop : tie.invariant-loop
+abbrev invariant-loop : tie.invariant-loop-i
 invariant-loop low landed result₀ i₀ result i = (i ≤ 3) × (undo_from 64 landed i result ≡ undo_from 64 landed 3 low)
 
-abbrev decreases-loop : tie.decreases-loop
+abbrev decreases-loop : tie.decreases-loop-i
 decreases-loop low landed result₀ i₀ result i = i
 
-loop-holds : tie.Need-loop-init invariant-loop decreases-loop
+loop-holds : tie.Need-loop-i-init invariant-loop decreases-loop
 loop-holds c = (omega arith, refl)
 
-sub-i : tie.Need-overflow-sub-i invariant-loop decreases-loop
+sub-i : tie.Need-overflow_sub-i invariant-loop decreases-loop
 sub-i c = omega arith
 
-mul-l : tie.Need-overflow-mul-l invariant-loop decreases-loop
+mul-l : tie.Need-offset_bounds-landed-i invariant-loop decreases-loop
 mul-l c = omega arith
 
-array-read-l : tie.Need-array-read-l invariant-loop decreases-loop
+array-read-l : tie.Need-bounds-landed-i invariant-loop decreases-loop
 array-read-l c = omega arith
 
-cast-result : tie.Need-overflow-cast-result invariant-loop decreases-loop
+cast-result : tie.Need-overflow_cast-result invariant-loop decreases-loop
 cast-result c = omega arith
 
-shl-result : tie.Need-overflow-shl-result invariant-loop decreases-loop
+shl-result : tie.Need-overflow_shl-result invariant-loop decreases-loop
 shl-result c = omega arith
 
-cast-result-2 : tie.Need-overflow-cast-result-2 invariant-loop decreases-loop
-cast-result-2 c = record { fits = shift_small (c.before.loop.i - 1) (omega arith) 64 (lit< tt) }
+cast-result-2 : tie.Need-overflow_cast-result-in-loop-i invariant-loop decreases-loop
+cast-result-2 c = record { fits = shift_small (c.before.loop-i.i - 1) (omega arith) 64 (lit< tt) }
 
-shl-result-2 : tie.Need-overflow-shl-result-2 invariant-loop decreases-loop
-shl-result-2 c = shift_small (c.before.loop.i - 1) (omega arith) 6 (lit< tt)
+shl-result-2 : tie.Need-overflow_shl-result-in-loop-i invariant-loop decreases-loop
+shl-result-2 c = shift_small (c.before.loop-i.i - 1) (omega arith) 6 (lit< tt)
 
-loop-less : tie.Need-loop-smaller invariant-loop decreases-loop
+loop-less : tie.Need-loop-i-smaller invariant-loop decreases-loop
 loop-less c = omega arith
 
-loop-again : tie.Need-loop-preserved invariant-loop decreases-loop
+loop-again : tie.Need-loop-i-preserved invariant-loop decreases-loop
 unfolding undo_from
 loop-again c =
-    let at = c.before.loop in
+    let at = c.before.loop-i in
     let j : ℕ = at.i - 1 in
     let l : List ℕ = c.before.before.args.t2 in
     let e : at.i ≡ suc j = omega arith in (
@@ -55,7 +55,7 @@ loop-again c =
 returns : tie.Need-returns invariant-loop decreases-loop
 unfolding undo_from
 returns c =
-    let at = c.before.loop in
+    let at = c.before.loop-i in
     let e : at.i ≡ 0 = omega arith in
     ap (λ (n : ℕ). undo_from 64 c.before.before.args.t2 n at.result) (sym e) ∙ at.invariant.1
 

@@ -7,13 +7,13 @@ use Rattle.network.proofs.ProductLaws.{in_each_lem}
 use Rattle.network.proofs.lanes.up.Statement.{statement}
 use Rattle.network.proofs.lanes.up.Tie as tie
 
-shl-result : tie.Need-overflow-shl-result
+shl-result : tie.Need-overflow_shl-result
 shl-result c = search rules
 
-cast-bytes : tie.Need-overflow-cast-bytes
+cast-bytes : tie.Need-overflow_cast-k
 cast-bytes c = search rules
 
-shl-bytes : tie.Need-overflow-shl-bytes
+shl-bytes : tie.Need-overflow_shl-k
 shl-bytes c = search rules
 
 bytes-requires : tie.Need-bytes-requires

@@ -4,7 +4,7 @@ use Rattle.network.proofs.ProductLaws.{in_each_lem}
 use Rattle.network.proofs.num.bytes.Statement.{statement}
 use Rattle.network.proofs.num.bytes.Tie as tie
 
-mul-result : tie.Need-overflow-mul-result
+mul-result : tie.Need-overflow_mul-result
 mul-result c = search rules
 
 returns : tie.Need-returns

@@ -16,29 +16,29 @@ use Rattle.turns.proofs.TurnedLaws.{Counted, counted_none, carry_small, view_wor
 use Rattle.turns.proofs.inner.count_turns.Statement.{statement}
 use Rattle.turns.proofs.inner.count_turns.Tie as tie
 
-abbrev invariant-loop : tie.invariant-loop
+abbrev invariant-loop : tie.invariant-loop-row
 invariant-loop words start len sum₀ carry₀ row₀ sum carry row = (row ≤ len) × Counted (view start len words) row sum carry
 
-abbrev decreases-loop : tie.decreases-loop
+abbrev decreases-loop : tie.decreases-loop-row
 decreases-loop words start len sum₀ carry₀ row₀ sum carry row = len - row
 
 -- ---- the places, each from the one after it
 
-abbrev start : tie.At-loop invariant-loop decreases-loop → tie.Start invariant-loop decreases-loop
+abbrev start : tie.At-loop-row invariant-loop decreases-loop → tie.Start invariant-loop decreases-loop
 start c = c.before.before
 
-abbrev head : tie.After-chunk-len invariant-loop decreases-loop → tie.At-loop invariant-loop decreases-loop
+abbrev head : tie.After-chunk_len-n invariant-loop decreases-loop → tie.At-loop-row invariant-loop decreases-loop
 head c = c.before.before
 
-abbrev sized : tie.After-chunk invariant-loop decreases-loop → tie.After-chunk-len invariant-loop decreases-loop
+abbrev sized : tie.After-chunk-here invariant-loop decreases-loop → tie.After-chunk_len-n invariant-loop decreases-loop
 sized c = c.before
 
-abbrev read : tie.After-edge-word invariant-loop decreases-loop → tie.After-chunk invariant-loop decreases-loop
+abbrev read : tie.After-edge_word invariant-loop decreases-loop → tie.After-chunk-here invariant-loop decreases-loop
 read c = c.before
 
 -- ---- the rows, and what is known of them
 
-module _ (c : tie.At-loop invariant-loop decreases-loop) where
+module _ (c : tie.At-loop-row invariant-loop decreases-loop) where
   abbrev rows : List Bool
   rows = view (start c).args.start (start c).args.len (start c).args.words.now
 
@@ -46,33 +46,33 @@ module _ (c : tie.At-loop invariant-loop decreases-loop) where
   long = view_length (start c).args.start (start c).args.len (start c).args.words.now (start c).requires.2
 
   -- no more numbers than rows
-  few : c.loop.sum ≤ c.loop.row
-  few = omega (arith, c.loop.invariant.1.passed, count_take_le c.loop.row (edges false rows))
+  few : c.loop-row.sum ≤ c.loop-row.row
+  few = omega (arith, c.loop-row.invariant.1.passed, count_take_le c.loop-row.row (edges false rows))
 
 -- a turn's rows, and the word of them
-module _ (c : tie.After-chunk-len invariant-loop decreases-loop) where
+module _ (c : tie.After-chunk_len-n invariant-loop decreases-loop) where
   abbrev row : ℕ
-  row = (head c).loop.row
+  row = (head c).loop-row.row
 
   abbrev n : ℕ
-  n = c.chunk-len.result
+  n = c.chunk_len-n.result
 
   some : 0 < n
-  some = omega (arith, c.chunk-len.ensures)
+  some = omega (arith, c.chunk_len-n.ensures)
 
   room : row + n ≤ length (rows (head c))
-  room = omega (arith, long (head c), c.chunk-len.ensures)
+  room = omega (arith, long (head c), c.chunk_len-n.ensures)
 
-word : (c : tie.After-chunk invariant-loop decreases-loop) → c.chunk.result ≡ word_of (take (n (sized c)) (drop (row (sized c)) (rows (head (sized c)))))
+word : (c : tie.After-chunk-here invariant-loop decreases-loop) → c.chunk-here.result ≡ word_of (take (n (sized c)) (drop (row (sized c)) (rows (head (sized c)))))
 word c =
     let t = sized c in
     let a = (start (head t)).args in
-    view_word a.start (row t) (n t) a.len c.chunk.result a.words.now (omega (arith, room t, long (head t))) (start (head t)).pre.2
-    c.chunk.ensures
+    view_word a.start (row t) (n t) a.len c.chunk-here.result a.words.now (omega (arith, room t, long (head t))) (start (head t)).requires.2
+    c.chunk-here.ensures
 
 -- the turn counted
-module _ (c : tie.After-edge-word invariant-loop decreases-loop) where
-  abbrev here : tie.At-loop invariant-loop decreases-loop
+module _ (c : tie.After-edge_word invariant-loop decreases-loop) where
+  abbrev here : tie.At-loop-row invariant-loop decreases-loop
   here = head (sized (read c))
 
   abbrev next : ℕ
@@ -81,64 +81,64 @@ module _ (c : tie.After-edge-word invariant-loop decreases-loop) where
   abbrev found : ℕ
   found = ones c.edge_word.result
 
-  counted : Counted (rows here) next (here.loop.sum + found) ((read c).chunk.result / 2 ^ (n (sized (read c)) - 1))
+  counted : Counted (rows here) next (here.loop-row.sum + found) ((read c).chunk-here.result / 2 ^ (n (sized (read c)) - 1))
   counted =
       let t = sized (read c) in
-      let l = here.loop in
-      let x : ℕ = (read c).chunk.result in
-      counted_next (rows here) (row t) (n t) l.sum l.carry x l.inv.1 (some t) (room t) (word (read c)) found
-      (found_ones (rows here) (row t) (n t) l.sum l.carry x l.inv.1 (some t) (room t) (word (read c)) c.edge_word.result c.edge_word.ensures)
+      let l = here.loop-row in
+      let x : ℕ = (read c).chunk-here.result in
+      counted_next (rows here) (row t) (n t) l.sum l.carry x l.invariant.1 (some t) (room t) (word (read c)) found
+      (found_ones (rows here) (row t) (n t) l.sum l.carry x l.invariant.1 (some t) (room t) (word (read c)) c.edge_word.result c.edge_word.ensures)
 
-  few_more : here.loop.sum + found ≤ next
+  few_more : here.loop-row.sum + found ≤ next
   few_more = omega (arith, counted.passed, count_take_le next (edges false (rows here)))
 
 -- ---- the answers
 
-loop-holds : tie.Need-loop-init invariant-loop decreases-loop
+loop-holds : tie.Need-loop-row-init invariant-loop decreases-loop
 loop-holds c = (omega arith, counted_none _)
 
-chunk-len-requires : tie.Need-chunk-len-requires invariant-loop decreases-loop
+chunk-len-requires : tie.Need-chunk_len-n-requires invariant-loop decreases-loop
 chunk-len-requires c κs = omega arith
 
-chunk-requires : tie.Need-chunk-requires invariant-loop decreases-loop
-chunk-requires c κs = (some c, omega (arith, c.chunk-len.ensures))
+chunk-requires : tie.Need-chunk-here-requires invariant-loop decreases-loop
+chunk-requires c κs = (some c, omega (arith, c.chunk_len-n.ensures))
 
-edge-word-requires : tie.Need-edge-word-requires invariant-loop decreases-loop
+edge-word-requires : tie.Need-edge_word-requires invariant-loop decreases-loop
 edge-word-requires c κs =
     let t = sized c in
-    let l = (head t).loop in
-    ((some t, omega (arith, t.chunk-len.ensures)), carry_small (rows (head t)) l.row l.sum l.carry l.inv.1)
+    let l = (head t).loop-row in
+    ((some t, omega (arith, t.chunk_len-n.ensures)), carry_small (rows (head t)) l.row l.sum l.carry l.invariant.1)
 
-cast-found : tie.Need-overflow-cast-found invariant-loop decreases-loop
+cast-found : tie.Need-overflow_cast-found invariant-loop decreases-loop
 cast-found c = omega (arith, few_more c)
 
-add-sum : tie.Need-overflow-add-sum invariant-loop decreases-loop
+add-sum : tie.Need-overflow_add-sum invariant-loop decreases-loop
 add-sum c = omega (arith, few_more c, room (sized (read c)), long (here c))
 
-sub-carry : tie.Need-overflow-sub-carry invariant-loop decreases-loop
+sub-carry : tie.Need-overflow_sub-carry invariant-loop decreases-loop
 sub-carry c = omega (arith, some (sized (read c)))
 
-shr-carry : tie.Need-overflow-shr-carry invariant-loop decreases-loop
-shr-carry c = omega (arith, (sized (read c)).chunk-len.ensures)
+shr-carry : tie.Need-overflow_shr-carry invariant-loop decreases-loop
+shr-carry c = omega (arith, (sized (read c)).chunk_len-n.ensures)
 
-add_row : tie.Need-overflow-add-row invariant-loop decreases-loop
+add_row : tie.Need-overflow_add-row invariant-loop decreases-loop
 add_row c = omega (arith, room (sized (read c)), long (here c))
 
-loop-less : tie.Need-loop-smaller invariant-loop decreases-loop
+loop-less : tie.Need-loop-row-smaller invariant-loop decreases-loop
 loop-less c = omega (arith, some (sized (read c)))
 
-loop-again : tie.Need-loop-preserved invariant-loop decreases-loop
+loop-again : tie.Need-loop-row-preserved invariant-loop decreases-loop
 loop-again c = (omega (arith, room (sized (read c)), long (here c)), counted c)
 
-add-result : tie.Need-overflow-add-result invariant-loop decreases-loop
+add-result : tie.Need-overflow_add-result invariant-loop decreases-loop
 add-result c =
     let h = c.before in
-    omega (arith, few h, carry_small (rows h) h.loop.row h.loop.sum h.loop.carry h.loop.invariant.1)
+    omega (arith, few h, carry_small (rows h) h.loop-row.row h.loop-row.sum h.loop-row.carry h.loop-row.invariant.1)
 
 returns : tie.Need-returns invariant-loop decreases-loop
 returns c =
     let h = c.before in
-    counted_all (rows h) h.loop.row h.loop.sum h.loop.carry h.loop.invariant.1 (omega (arith, long h))
+    counted_all (rows h) h.loop-row.row h.loop-row.sum h.loop-row.carry h.loop-row.invariant.1 (omega (arith, long h))
 
 pub count_turns_spec : {M : Type 1} → statement M
 count_turns_spec =

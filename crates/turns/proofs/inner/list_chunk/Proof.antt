@@ -20,39 +20,39 @@ use borrow.Author.Rules.{rules}
 use Rattle.turns.proofs.inner.list_chunk.Statement.{statement}
 use Rattle.turns.proofs.inner.list_chunk.Tie as tie
 
-abbrev invariant-loop : tie.invariant-loop
+abbrev invariant-loop : tie.invariant-loop-rest
 invariant-loop chunk base k out₀ rest₀ p₀ out rest p =
     (rest < 2 ^ 64) × (length out ≡ length out₀) × (p + count (bits_of 64 rest) ≡ k + count (bits_of 64 chunk))
     × (splice p out (set_rows base (bits_of 64 rest)) ≡ splice k out₀ (set_rows base (bits_of 64 chunk)))
 
-abbrev decreases-loop : tie.decreases-loop
+abbrev decreases-loop : tie.decreases-loop-rest
 decreases-loop chunk base k out₀ rest₀ p₀ out rest p = count (bits_of 64 rest)
 
-loop-holds : tie.Need-loop-init invariant-loop decreases-loop
+loop-holds : tie.Need-loop-rest-init invariant-loop decreases-loop
 loop-holds c = (c.ranges.chunk.fits, refl, refl, refl)
 
-add-out : tie.Need-overflow-add-out invariant-loop decreases-loop
-add-out c = omega (arith, trailing_le 64 c.before.loop.rest)
+add-out : tie.Need-overflow_add-out invariant-loop decreases-loop
+add-out c = omega (arith, trailing_le 64 c.before.loop-rest.rest)
 
-mul-out : tie.Need-overflow-mul-out invariant-loop decreases-loop
-mul-out c = omega (arith, count_low 64 c.before.loop.rest (omega arith) c.before.loop.invariant.0)
+mul-out : tie.Need-offset_bounds-out-p invariant-loop decreases-loop
+mul-out c = omega (arith, count_low 64 c.before.loop-rest.rest (omega arith) c.before.loop-rest.invariant.0)
 
-slice-write-out : tie.Need-slice-write-out invariant-loop decreases-loop
-slice-write-out c = omega (arith, count_low 64 c.before.loop.rest (omega arith) c.before.loop.invariant.0)
+slice-write-out : tie.Need-bounds-out-p invariant-loop decreases-loop
+slice-write-out c = omega (arith, count_low 64 c.before.loop-rest.rest (omega arith) c.before.loop-rest.invariant.0)
 
-sub-rest : tie.Need-overflow-sub-rest invariant-loop decreases-loop
+sub-rest : tie.Need-overflow_sub-rest invariant-loop decreases-loop
 sub-rest c = search rules
 
-add-p : tie.Need-overflow-add-p invariant-loop decreases-loop
-add-p c = omega (arith, count_low 64 c.before.loop.rest (omega arith) c.before.loop.invariant.0)
+add-p : tie.Need-overflow_add-p invariant-loop decreases-loop
+add-p c = omega (arith, count_low 64 c.before.loop-rest.rest (omega arith) c.before.loop-rest.invariant.0)
 
-loop-less : tie.Need-loop-smaller invariant-loop decreases-loop
-loop-less c = omega (arith, count_low 64 c.before.loop.rest (omega arith) c.before.loop.invariant.0)
+loop-less : tie.Need-loop-rest-smaller invariant-loop decreases-loop
+loop-less c = omega (arith, count_low 64 c.before.loop-rest.rest (omega arith) c.before.loop-rest.invariant.0)
 
-loop-again : tie.Need-loop-preserved invariant-loop decreases-loop
+loop-again : tie.Need-loop-rest-preserved invariant-loop decreases-loop
 loop-again c =
     let a = c.before.before.args in
-    let l = c.before.loop in
+    let l = c.before.loop-rest in
     let pos : 0 < l.rest = omega arith in
     let less = count_low 64 l.rest pos l.invariant.0 in (
       omega (arith, and_le_l l.rest (l.rest - 1)),
@@ -61,14 +61,14 @@ loop-again c =
       rw (add-one l.p) (bit_turn 64 a.base l.rest l.p l.out pos l.invariant.0 (omega arith) ∙ l.invariant.3),
     )
 
-same_length : tie.Need-same-length invariant-loop decreases-loop
+same_length : tie.Need-shape_of-out invariant-loop decreases-loop
 same_length c = search rules
 
 returns : tie.Need-returns invariant-loop decreases-loop
 returns c =
     let a = c.before.before.args in
-    let l = c.before.loop in
-    let z : set_rows a.base (bits_of 64 l.rest) ≡ [] = ap (λ (x : ℕ). set_rows a.base (bits_of 64 x)) c.loop-test.false ∙ rows_zero a.base 64 in
+    let l = c.before.loop-rest in
+    let z : set_rows a.base (bits_of 64 l.rest) ≡ [] = ap (λ (x : ℕ). set_rows a.base (bits_of 64 x)) c.loop-rest-test.false ∙ rows_zero a.base 64 in
     let n : count (bits_of 64 l.rest) ≡ 0 = sym (rows_count a.base (bits_of 64 l.rest)) ∙ ap length z in
     (omega arith, sym (splice_nil l.p l.out) ∙ ap (splice l.p l.out) (sym z) ∙ l.invariant.3)
 

@@ -13,11 +13,11 @@ use borrow.Author.Rules.{rules}
 use Rattle.turns.proofs.inner.sum_block.Statement.{statement}
 use Rattle.turns.proofs.inner.sum_block.Tie as tie
 
-abbrev invariant-loop : tie.invariant-loop
+abbrev invariant-loop : tie.invariant-loop-i
 invariant-loop runs half one₀ other₀ i₀ one other i =
     (half ≡ length runs / 2) × (i ≤ half) × (i % 2 ≡ 0) × Adding runs 0 i one × Adding runs half i other
 
-abbrev decreases-loop : tie.decreases-loop
+abbrev decreases-loop : tie.decreases-loop-i
 decreases-loop runs half one₀ other₀ i₀ one other i = half - i
 
 -- on numbers: of an even number before an even half there are two more to it
@@ -30,30 +30,30 @@ two_more len i h k l =
 
 -- ---- the places, each from the one after it
 
-abbrev start : tie.At-loop invariant-loop decreases-loop → tie.Start invariant-loop decreases-loop
+abbrev start : tie.At-loop-i invariant-loop decreases-loop → tie.Start invariant-loop decreases-loop
 start c = c.before.before
 
-abbrev head : tie.In-loop invariant-loop decreases-loop → tie.At-loop invariant-loop decreases-loop
+abbrev head : tie.In-loop-i invariant-loop decreases-loop → tie.At-loop-i invariant-loop decreases-loop
 head c = c.before
 
-abbrev first : tie.After-shared-slice-known3 invariant-loop decreases-loop → tie.In-loop invariant-loop decreases-loop
+abbrev first : tie.After-shared_slice_known-in-loop-i-2-1 invariant-loop decreases-loop → tie.In-loop-i invariant-loop decreases-loop
 first c = c.before.before
 
-abbrev turn : tie.After-packed invariant-loop decreases-loop → tie.In-loop invariant-loop decreases-loop
+abbrev turn : tie.After-packed-one invariant-loop decreases-loop → tie.In-loop-i invariant-loop decreases-loop
 turn c = first c.before
 
-abbrev second : tie.After-shared-slice-known4 invariant-loop decreases-loop → tie.In-loop invariant-loop decreases-loop
+abbrev second : tie.After-shared_slice_known-in-loop-i-3-1 invariant-loop decreases-loop → tie.In-loop-i invariant-loop decreases-loop
 second c = turn c.before
 
-abbrev one-packed : tie.After-packed2 invariant-loop decreases-loop → tie.After-packed invariant-loop decreases-loop
+abbrev one-packed : tie.After-packed-other invariant-loop decreases-loop → tie.After-packed-one invariant-loop decreases-loop
 one-packed c = c.before.before.before
 
-abbrev last : tie.After-loop invariant-loop decreases-loop → tie.At-loop invariant-loop decreases-loop
+abbrev last : tie.After-loop-i invariant-loop decreases-loop → tie.At-loop-i invariant-loop decreases-loop
 last c = c.before
 
 -- ---- a turn's two runs
 
-module _ (c : tie.In-loop invariant-loop decreases-loop) where
+module _ (c : tie.In-loop-i invariant-loop decreases-loop) where
   abbrev s : tie.Start invariant-loop decreases-loop
   s = start (head c)
 
@@ -64,109 +64,109 @@ module _ (c : tie.In-loop invariant-loop decreases-loop) where
   half = length runs / 2
 
   abbrev i : ℕ
-  i = (head c).loop.i
+  i = (head c).loop-i.i
 
   -- both are within
   within : (i < half) × (half + i + 1 < length runs) × (i + 2 ≤ half) × (i + 2 ≤ 4096)
   within =
-      let l = (head c).loop.invariant in
-      let p = s.pre in
+      let l = (head c).loop-i.invariant in
+      let p = s.requires in
       let inside : i < half = omega (arith, l.0) in
       let two = two_more (length runs) i p.0 l.2 inside in
       (inside, omega (arith, two), two, omega (arith, two, p.1))
 
-  run : NextRun (head c).loop.invariant.3.from 1048576 i runs
-  run = adding_next runs 0 i (head c).loop.one (head c).loop.invariant.3 i (omega arith) (omega (arith, within))
+  run : NextRun (head c).loop-i.invariant.3.from 1048576 i runs
+  run = adding_next runs 0 i (head c).loop-i.one (head c).loop-i.invariant.3 i (omega arith) (omega (arith, within))
 
-more : (c : tie.After-packed invariant-loop decreases-loop) → Adding (runs (turn c)) 0 (i (turn c) + 2) ((head (turn c)).loop.one + c.packed.result)
+more : (c : tie.After-packed-one invariant-loop decreases-loop) → Adding (runs (turn c)) 0 (i (turn c) + 2) ((head (turn c)).loop-i.one + c.packed-one.result)
 more c =
     let t = turn c in
-    adding_run (runs t) 0 (i t) (head t).loop.one (head t).loop.inv.3 (i t) (omega arith) (omega (arith, within t)) c.packed.result c.packed.ensures
+    adding_run (runs t) 0 (i t) (head t).loop-i.one (head t).loop-i.invariant.3 (i t) (omega arith) (omega (arith, within t)) c.packed-one.result c.packed-one.ensures
 
-module _ (c : tie.After-packed2 invariant-loop decreases-loop) where
-  abbrev here : tie.In-loop invariant-loop decreases-loop
+module _ (c : tie.After-packed-other invariant-loop decreases-loop) where
+  abbrev here : tie.In-loop-i invariant-loop decreases-loop
   here = turn (one-packed c)
 
-  other_more : Adding (runs here) (half here) (i here + 2) ((head here).loop.other + c.packed2.result)
+  other_more : Adding (runs here) (half here) (i here + 2) ((head here).loop-i.other + c.packed-other.result)
   other_more =
-      adding_run (runs here) (half here) (i here) (head here).loop.other (head here).loop.inv.4 (half here + i here) (omega arith)
-      (omega (arith, within here)) c.packed2.result c.packed2.ensures
+      adding_run (runs here) (half here) (i here) (head here).loop-i.other (head here).loop-i.invariant.4 (half here + i here) (omega arith)
+      (omega (arith, within here)) c.packed-other.result c.packed-other.ensures
 
 -- ---- the answers
 
-loop-holds : tie.Need-loop-init invariant-loop decreases-loop
+loop-holds : tie.Need-loop-i-init invariant-loop decreases-loop
 loop-holds c =
     let e = c.before in
     let runs = e.args.runs.now in
     (refl, omega arith, omega arith, adding_none runs 0 (omega arith) e.requires.2, adding_none runs (length runs / 2) (omega (arith, e.requires.0)) e.requires.2)
 
-mul-packed : tie.Need-overflow-mul-packed invariant-loop decreases-loop
+mul-packed : tie.Need-offset_bounds-runs-i invariant-loop decreases-loop
 mul-packed c = omega (arith, within c)
 
-shared-slice-read-packed : tie.Need-shared-slice-read-packed invariant-loop decreases-loop
+shared-slice-read-packed : tie.Need-bounds-runs-i invariant-loop decreases-loop
 shared-slice-read-packed c = omega (arith, within c.before)
 
-add-packed : tie.Need-overflow-add-packed invariant-loop decreases-loop
+add-packed : tie.Need-overflow_add-i invariant-loop decreases-loop
 add-packed c = omega (arith, within c.before)
 
-mul-packed-2 : tie.Need-overflow-mul-packed-2 invariant-loop decreases-loop
+mul-packed-2 : tie.Need-offset_bounds-runs-i-in-loop-i invariant-loop decreases-loop
 mul-packed-2 c = omega (arith, within c.before)
 
-shared-slice-read-packed-2 : tie.Need-shared-slice-read-packed-2 invariant-loop decreases-loop
+shared-slice-read-packed-2 : tie.Need-bounds-runs-i-in-loop-i invariant-loop decreases-loop
 shared-slice-read-packed-2 c = omega (arith, within (first c))
 
-packed-requires : tie.Need-packed-requires invariant-loop decreases-loop
+packed-requires : tie.Need-packed-one-requires invariant-loop decreases-loop
 packed-requires c κs = search rules
 
-add-one : tie.Need-overflow-add-one invariant-loop decreases-loop
+add-one : tie.Need-overflow_add-one invariant-loop decreases-loop
 add-one c =
     let t = turn c in
-    omega (arith, adding_fits (runs t) 0 (i t + 2) ((head t).loop.one + c.packed.result) (more c) (within t).3)
+    omega (arith, adding_fits (runs t) 0 (i t + 2) ((head t).loop-i.one + c.packed-one.result) (more c) (within t).3)
 
-add-packed-2 : tie.Need-overflow-add-packed-2 invariant-loop decreases-loop
+add-packed-2 : tie.Need-overflow_add-half invariant-loop decreases-loop
 add-packed-2 c = omega (arith, within (turn c))
 
-mul-packed-3 : tie.Need-overflow-mul-packed-3 invariant-loop decreases-loop
+mul-packed-3 : tie.Need-offset_bounds-runs-half invariant-loop decreases-loop
 mul-packed-3 c = omega (arith, within (turn c))
 
-shared-slice-read-packed-3 : tie.Need-shared-slice-read-packed-3 invariant-loop decreases-loop
+shared-slice-read-packed-3 : tie.Need-bounds-runs-half invariant-loop decreases-loop
 shared-slice-read-packed-3 c = omega (arith, within (second c))
 
-add-packed-3 : tie.Need-overflow-add-packed-3 invariant-loop decreases-loop
+add-packed-3 : tie.Need-overflow_add-half-in-loop-i invariant-loop decreases-loop
 add-packed-3 c = omega (arith, within (second c))
 
-add-packed-4 : tie.Need-overflow-add-packed-4 invariant-loop decreases-loop
+add-packed-4 : tie.Need-overflow_add-half-in-loop-i-2 invariant-loop decreases-loop
 add-packed-4 c = omega (arith, within (second c))
 
-mul-packed-4 : tie.Need-overflow-mul-packed-4 invariant-loop decreases-loop
+mul-packed-4 : tie.Need-offset_bounds-runs-half-in-loop-i invariant-loop decreases-loop
 mul-packed-4 c = omega (arith, within (second c))
 
-shared-slice-read-packed-4 : tie.Need-shared-slice-read-packed-4 invariant-loop decreases-loop
+shared-slice-read-packed-4 : tie.Need-bounds-runs-half-in-loop-i invariant-loop decreases-loop
 shared-slice-read-packed-4 c = omega (arith, within (second c.before))
 
-packed-requires-2 : tie.Need-packed-requires-2 invariant-loop decreases-loop
+packed-requires-2 : tie.Need-packed-other-requires invariant-loop decreases-loop
 packed-requires-2 c κs = search rules
 
-add-other : tie.Need-overflow-add-other invariant-loop decreases-loop
+add-other : tie.Need-overflow_add-other invariant-loop decreases-loop
 add-other c =
     let t = here c in
-    omega (arith, adding_fits (runs t) (half t) (i t + 2) ((head t).loop.other + c.packed2.result) (other_more c) (within t).3)
+    omega (arith, adding_fits (runs t) (half t) (i t + 2) ((head t).loop-i.other + c.packed-other.result) (other_more c) (within t).3)
 
-add-i : tie.Need-overflow-add-i invariant-loop decreases-loop
+add-i : tie.Need-overflow_add-i-in-loop-i invariant-loop decreases-loop
 add-i c = omega (arith, within (here c))
 
-loop-less : tie.Need-loop-smaller invariant-loop decreases-loop
+loop-less : tie.Need-loop-i-smaller invariant-loop decreases-loop
 loop-less c = omega (arith, within (here c))
 
-loop-again : tie.Need-loop-preserved invariant-loop decreases-loop
+loop-again : tie.Need-loop-i-preserved invariant-loop decreases-loop
 loop-again c =
     let t = here c in
-    ((head t).loop.inv.0, omega (arith, within t), omega (arith, (head t).loop.inv.2), more (one-packed c), other_more c)
+    ((head t).loop-i.invariant.0, omega (arith, within t), omega (arith, (head t).loop-i.invariant.2), more (one-packed c), other_more c)
 
 -- ---- all added
 
-module _ (c : tie.After-loop invariant-loop decreases-loop) where
-  abbrev h : tie.At-loop invariant-loop decreases-loop
+module _ (c : tie.After-loop-i invariant-loop decreases-loop) where
+  abbrev h : tie.At-loop-i invariant-loop decreases-loop
   h = last c
 
   abbrev block : List ℕ
@@ -175,22 +175,22 @@ module _ (c : tie.After-loop invariant-loop decreases-loop) where
   abbrev middle : ℕ
   middle = length block / 2
 
-  done : (h.loop.i ≡ middle) × (middle ≤ 4096) × (middle % 2 ≡ 0) × (length block ≡ middle + middle)
+  done : (h.loop-i.i ≡ middle) × (middle ≤ 4096) × (middle % 2 ≡ 0) × (length block ≡ middle + middle)
   done =
-      let p = (start h).pre in
-      (omega (arith, h.loop.inv.0, h.loop.inv.1), omega (arith, p.1), omega (arith, p.0), omega (arith, p.0))
+      let p = (start h).requires in
+      (omega (arith, h.loop-i.invariant.0, h.loop-i.invariant.1), omega (arith, p.1), omega (arith, p.0), omega (arith, p.0))
 
-  one_all : Exceeds block 0 middle h.loop.one
+  one_all : Exceeds block 0 middle h.loop-i.one
   one_all =
-      adding_all block 0 h.loop.i h.loop.one h.loop.inv.3 middle (omega (arith, done)) (omega (arith, done))
-      (lengths_less middle block done.2 (start h).pre.2)
+      adding_all block 0 h.loop-i.i h.loop-i.one h.loop-i.invariant.3 middle (omega (arith, done)) (omega (arith, done))
+      (lengths_less middle block done.2 (start h).requires.2)
 
   none : run_lengths (drop (length block) block) ≡ 0
   none = lengths_none (length block) block (omega arith)
 
-  other_all : Exceeds block middle (length block) h.loop.other
+  other_all : Exceeds block middle (length block) h.loop-i.other
   other_all =
-      adding_all block middle h.loop.i h.loop.other h.loop.inv.4 (length block) (omega (arith, done)) (omega (arith, done))
+      adding_all block middle h.loop-i.i h.loop-i.other h.loop-i.invariant.4 (length block) (omega (arith, done)) (omega (arith, done))
       (omega (arith, none))
 
 excess-requires : tie.Need-excess-requires invariant-loop decreases-loop
@@ -199,15 +199,15 @@ excess-requires c κs = (one_all c).0
 excess-requires-2 : tie.Need-excess-requires-2 invariant-loop decreases-loop
 excess-requires-2 c κs = (other_all c.before).0
 
-both : (c : tie.After-excess2 invariant-loop decreases-loop) → c.before.excess.result + c.excess2.result ≡ run_lengths (block c.before.before)
+both : (c : tie.After-excess-2 invariant-loop decreases-loop) → c.before.excess.result + c.excess-2.result ≡ run_lengths (block c.before.before)
 both c =
     let l = c.before.before in
-    omega (arith, c.before.excess.ensures, (one_all l).1, c.excess2.ensures, (other_all l).1, none l)
+    omega (arith, c.before.excess.ensures, (one_all l).1, c.excess-2.ensures, (other_all l).1, none l)
 
-add-result : tie.Need-overflow-add-result invariant-loop decreases-loop
+add-result : tie.Need-overflow_add-result invariant-loop decreases-loop
 add-result c =
     let l = c.before.before in
-    omega (arith, both c, runs_few 0 1048576 (block l) (start (h l)).pre.2 (omega arith))
+    omega (arith, both c, runs_few 0 1048576 (block l) (start (h l)).requires.2 (omega arith))
 
 returns : tie.Need-returns invariant-loop decreases-loop
 returns c = both c

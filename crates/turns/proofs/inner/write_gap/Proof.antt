@@ -12,39 +12,39 @@ use Rattle.turns.proofs.ListTurnLaws.{between_none, between_two, two_written}
 use Rattle.turns.proofs.inner.write_gap.Statement.{statement}
 use Rattle.turns.proofs.inner.write_gap.Tie as tie
 
-two : (c : tie.Else1) → between c.before.args.past c.before.args.row ≡ c.before.args.past ∷ c.before.args.row ∷ []
-two c = between_two c.before.args.past c.before.args.row c.if1.false
+two : (c : tie.Else-row-past) → between c.before.args.past c.before.args.row ≡ c.before.args.past ∷ c.before.args.row ∷ []
+two c = between_two c.before.args.past c.before.args.row c.if-row-past.false
 
-returns : tie.Need-returns
+returns : tie.Need-returns-then-row-past
 returns c =
     let a = c.before.args in
-    let none = between_none a.past a.row c.if1.true in
+    let none = between_none a.past a.row c.if-row-past.true in
     (omega (arith, ap length none), sym (ap (splice a.k a.out.now) none ∙ splice_nil a.k a.out.now))
 
-mul-out : tie.Need-overflow-mul-out
+mul-out : tie.Need-offset_bounds-out-k
 mul-out c = search rules
 
-slice-write-out : tie.Need-slice-write-out
+slice-write-out : tie.Need-bounds-out-k
 slice-write-out c = omega (arith, ap length (two c))
 
-add-out : tie.Need-overflow-add-out
+add-out : tie.Need-overflow_add-out
 add-out c = search rules
 
-mul-out-2 : tie.Need-overflow-mul-out-2
+mul-out-2 : tie.Need-offset_bounds-out-k-2
 mul-out-2 c = search rules
 
-slice-write-out-2 : tie.Need-slice-write-out-2
+slice-write-out-2 : tie.Need-bounds-out-k-2
 slice-write-out-2 c =
     let a = c.before.args in
     omega (arith, ap length (two c), length-set a.out.now a.k a.past)
 
-add-result : tie.Need-overflow-add-result
+add-result : tie.Need-overflow_add-result
 add-result c = search rules
 
-same_length : tie.Need-same-length
+same_length : tie.Need-shape_of-out
 same_length c = search rules
 
-returns-2 : tie.Need-returns-2
+returns-2 : tie.Need-returns
 returns-2 c =
     let a = c.before.args in (
       omega (arith, ap length (two c)),
