@@ -5,7 +5,7 @@
 use rows::{Rank, Refusal, Row, Way};
 
 // The form of an operand. Words and rows are lent beside it, and a slice that the form does not use is ignored.
-#[derive(Drop)]
+#[derive(Clone, Copy)]
 pub enum Form {
     All {
         length: u64,
@@ -29,7 +29,7 @@ pub enum Form {
 
 // A run of rows: its first row, and the row past its last.
 #[repr(C)]
-#[derive(Drop)]
+#[derive(Clone, Copy)]
 pub struct Run {
     pub first: u32,
     pub past: u32,
