@@ -5,7 +5,7 @@ ghost use Rattle.rows.specs.Runs.{in_runs, Apart};
 ghost use Rattle.rows.specs.Laid.{laid};
 ghost use Rattle.rows.specs.Asks.{Room};
 ghost use Rattle.rules.specs.Operand.{lent, rows_of, length_of, count_of, counts_as_list, Accepted};
-ghost use Rattle.rules.specs.Compose.{Paired, result};
+ghost use Rattle.rules.specs.Compose.{Paired, result as composition};
 ghost use Rattle.by_route.specs.Fits.{Fits, InWords, keeps_runs};
 
 use super::lists::{keep_in_list, lay_at_ranks, lay_if_set};
@@ -30,7 +30,7 @@ fn compose_at(
 )
     requires { Paired (lent s swords.now srows.now) (lent r rwords.now rrows.now) × Fits route (lent s swords.now srows.now) (lent r rwords.now rrows.now)
         × Room at (length_of s) out.old × (keeps_runs route r ≡ false) }
-    ensures* { λ _. ⌜ out.new ≡ laid at (result (lent s swords.now srows.now) (lent r rwords.now rrows.now)) out.old ⌝ }
+    ensures { out.new ≡ laid at (composition (lent s swords.now srows.now) (lent r rwords.now rrows.now)) out.old }
 {
     let len = length_of(s);
     let start = start_of(s);
@@ -51,7 +51,7 @@ fn compose_at(
 
 // The rank mask is runs that are to be kept, on routes 4 to 8: where self or the rank mask is full or empty there is less to do.
 fn keeps_runs(route: Route, r: Form) -> bool
-    ensures* { λ b. ⌜ b ≡ keeps_runs route r ⌝ }
+    ensures { result ≡ keeps_runs route r }
 {
     match route {
         Route::RankMask => false,
@@ -77,7 +77,7 @@ fn keep_ranks(
 )
     requires { Accepted (lent s swords.now srows.now) × (count ≡ count_of (lent s swords.now srows.now)) × ((counts_as_list s ≡ true) ⊎ InWords (lent s swords.now srows.now))
         × Apart 0 (count_of (lent s swords.now srows.now)) rruns.now × Room at (length_of s) out.old }
-    ensures* { λ _. ⌜ out.new ≡ laid at (compose (rows_of (lent s swords.now srows.now)) (in_runs (count_of (lent s swords.now srows.now)) rruns.now)) out.old ⌝ }
+    ensures { out.new ≡ laid at (compose (rows_of (lent s swords.now srows.now)) (in_runs (count_of (lent s swords.now srows.now)) rruns.now)) out.old }
 {
     if counts_as_list(s) {
         keep_in_list(s, count, srows, rruns, at, out);
@@ -100,7 +100,7 @@ pub fn lay_by_route(
 )
     requires { Paired (lent s swords.now srows.now) (lent r rwords.now rrows.now) × Fits route (lent s swords.now srows.now) (lent r rwords.now rrows.now)
         × Room at (length_of s) out.old }
-    ensures* { λ _. ⌜ out.new ≡ laid at (result (lent s swords.now srows.now) (lent r rwords.now rrows.now)) out.old ⌝ }
+    ensures { out.new ≡ laid at (composition (lent s swords.now srows.now) (lent r rwords.now rrows.now)) out.old }
 {
     if keeps_runs(route, r) {
         keep_ranks(s, length_of(r), swords, srows, rrows, at, out);

@@ -6,7 +6,7 @@ ghost use Rattle.rows.specs.Laid.{laid};
 ghost use Rattle.rows.specs.Asks.{Room};
 ghost use Rattle.rules.specs.declared.Route.TheVariants.{MaskDriven};
 ghost use Rattle.rules.specs.Operand.{lent, rows_of, length_of, count_of, Accepted};
-ghost use Rattle.rules.specs.Compose.{Paired, result};
+ghost use Rattle.rules.specs.Compose.{Paired, result as composition};
 ghost use Rattle.operand.specs.Flat.{has_runs};
 ghost use Rattle.by_route.specs.Fits.{Fits, InWords};
 
@@ -28,7 +28,7 @@ pub fn lay_mask_driven(
 )
     requires { Paired (lent s swords.now srows.now) (lent r rwords.now rrows.now) × Fits MaskDriven (lent s swords.now srows.now) (lent r rwords.now rrows.now)
         × Room at (length_of s) out.old × (has_runs r ≡ false) }
-    ensures* { λ _. ⌜ out.new ≡ laid at (result (lent s swords.now srows.now) (lent r rwords.now rrows.now)) out.old ⌝ }
+    ensures { out.new ≡ laid at (composition (lent s swords.now srows.now) (lent r rwords.now rrows.now)) out.old }
 {
     let len = length_of(s);
     let start = start_of(s);
@@ -59,7 +59,7 @@ pub fn keep_in_words(
 )
     requires { Accepted (lent s swords.now srows.now) × InWords (lent s swords.now srows.now)
         × Apart 0 (count_of (lent s swords.now srows.now)) rruns.now × Room at (length_of s) out.old }
-    ensures* { λ _. ⌜ out.new ≡ laid at (compose (rows_of (lent s swords.now srows.now)) (in_runs (count_of (lent s swords.now srows.now)) rruns.now)) out.old ⌝ }
+    ensures { out.new ≡ laid at (compose (rows_of (lent s swords.now srows.now)) (in_runs (count_of (lent s swords.now srows.now)) rruns.now)) out.old }
 {
     keep_words(swords, start_of(s), length_of(s), rruns, at, out);
 }

@@ -5,7 +5,7 @@ ghost use Rattle.rows.specs.Laid.{words_for, written};
 ghost use Rattle.rules.specs.Operand.{lent, length_of};
 ghost use Rattle.rules.specs.Answer.{answered};
 ghost use Rattle.operand.specs.Counts.{Counts};
-ghost use Rattle.rules.specs.Compose.{Paired, result, routed, composed, composed_out};
+ghost use Rattle.rules.specs.Compose.{Paired, result as composition, routed, composed, composed_out};
 
 use super::judge::judge;
 use super::lay::lay_composition;
@@ -29,8 +29,8 @@ fn compose_accepted(
 ) -> Answer
     requires { Paired (lent s.form swords.now srows.now) (lent r.form rwords.now rrows.now)
         × Counts s swords.now srows.now × Counts r rwords.now rrows.now × (words_for (length_of s.form) ≤ length out.old) }
-    ensures* { λ a. ⌜ (a ≡ answered Fine (result (lent s.form swords.now srows.now) (lent r.form rwords.now rrows.now)) (routed factors (lent s.form swords.now srows.now) (lent r.form rwords.now rrows.now)))
-        × (out.new ≡ written (length_of s.form) (result (lent s.form swords.now srows.now) (lent r.form rwords.now rrows.now)) out.old) ⌝ }
+    ensures { (result ≡ answered Fine (composition (lent s.form swords.now srows.now) (lent r.form rwords.now rrows.now)) (routed factors (lent s.form swords.now srows.now) (lent r.form rwords.now rrows.now)))
+        × (out.new ≡ written (length_of s.form) (composition (lent s.form swords.now srows.now) (lent r.form rwords.now rrows.now)) out.old) }
 {
     let form = s.form;
     clear_last(out, length_of(form));
@@ -48,8 +48,8 @@ pub fn compose_with(
     rrows: &[u32],
     out: &mut [u64],
 ) -> Answer
-    ensures* { λ a. ⌜ (a ≡ composed factors (lent s swords.now srows.now) (lent r rwords.now rrows.now) out.old)
-        × (out.new ≡ composed_out (lent s swords.now srows.now) (lent r rwords.now rrows.now) out.old) ⌝ }
+    ensures { (result ≡ composed factors (lent s swords.now srows.now) (lent r rwords.now rrows.now) out.old)
+        × (out.new ≡ composed_out (lent s swords.now srows.now) (lent r rwords.now rrows.now) out.old) }
 {
     let judged = judge(s, swords, srows, r, rwords, rrows, out.len() as u64);
     let verdict = judged.verdict;

@@ -5,7 +5,7 @@ ghost use Rattle.rows.specs.Laid.{laid};
 ghost use Rattle.rows.specs.Asks.{Room};
 ghost use Rattle.rules.specs.Operand.{lent, length_of};
 ghost use Rattle.rules.specs.Answer.{answered};
-ghost use Rattle.rules.specs.Compose.{Paired, result, routed};
+ghost use Rattle.rules.specs.Compose.{Paired, result as composition, routed};
 ghost use Rattle.operand.specs.Counts.{Counts};
 
 use by_route::inner::lay_by_route;
@@ -30,8 +30,8 @@ pub fn lay_composition(
 ) -> Answer
     requires { Paired (lent s.form swords.now srows.now) (lent r.form rwords.now rrows.now)
         × Counts s swords.now srows.now × Counts r rwords.now rrows.now × Room at (length_of s.form) out.old }
-    ensures* { λ a. ⌜ (a ≡ answered Fine (result (lent s.form swords.now srows.now) (lent r.form rwords.now rrows.now)) (routed factors (lent s.form swords.now srows.now) (lent r.form rwords.now rrows.now)))
-        × (out.new ≡ laid at (result (lent s.form swords.now srows.now) (lent r.form rwords.now rrows.now)) out.old) ⌝ }
+    ensures { (result ≡ answered Fine (composition (lent s.form swords.now srows.now) (lent r.form rwords.now rrows.now)) (routed factors (lent s.form swords.now srows.now) (lent r.form rwords.now rrows.now)))
+        × (out.new ≡ laid at (composition (lent s.form swords.now srows.now) (lent r.form rwords.now rrows.now)) out.old) }
 {
     let own = s.form;
     let ranked = r.form;
