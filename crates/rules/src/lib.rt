@@ -29,7 +29,7 @@ pub enum Form {
 
 // A run of rows: its first row, and the row past its last.
 #[repr(C)]
-#[derive(Drop)]
+#[derive(Clone, Copy)]
 pub struct Run {
     pub first: u32,
     pub past: u32,
