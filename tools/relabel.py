@@ -36,7 +36,8 @@ def turn(text, it, say):
     steps = {}
     for p in it["places"]:
         old, new = p[2]
-        if old:
+        # (what is known of a variable, as `out-1` of `out`, has the name of the variable itself)
+        if old and new != old + "-1":
             steps.setdefault(norm(old), set()).add(new)
     loops = {norm(l[0][0]): l[0][1] for l in it["loops"]}
 
