@@ -18,7 +18,8 @@ NAME = r'[^\s(){}.;,@"«»`]+'
 
 
 def norm(x):
-    return x.replace("_", "-")
+    """Old names had a dash where Rust has an underscore, and a count with no dash."""
+    return re.sub(r"-(\d+)$", r"\1", x.replace("_", "-"))
 
 
 def turn(text, it, say):
@@ -70,12 +71,26 @@ def turn(text, it, say):
             return m[0]
         return "." + next(iter(new))
 
+    # what a `&mut` holds after a call goes by the parameter's name, and no longer by its place
+    callees = {p[2][1]: it["params"].get(p[3]) for p in it["places"] if p[3]}
+
+    def after(m):
+        params = callees.get(m[1])
+        n = m[2].count(".1")
+        return f".{m[1]}.new.{params[n]}" if params and n < len(params) else m[0]
+
+    # what a slice holds goes by the slice's own name
+    own = set(re.findall(r"\.args\.(\w+)-1\b", text))
+
     lines = []
     for line in text.split("\n"):
         if re.match(r"\s*(--|use |pub use )", line):
             lines.append(line)
             continue
         line = re.sub(rf"(?<=[\w)'])\.({NAME})", step, line) if "Need-" not in line or " = " in line else line
+        line = re.sub(rf"\.({NAME})\.new((?:\.1)*)\.0(?![\w-])", after, line)
+        line = re.sub(r"\.(\w+)-1(?![\w-])", lambda m: "." + m[1] if m[1] in own else m[0], line)
+        line = re.sub(r"\.type-inv\b", ".type_inv", line)
         line = re.sub(r"\.inv\b(?!-)", ".invariant", line)
         line = re.sub(r"\.pre\b(?!-)", ".requires", line)
         lines.append(line)
