@@ -36,7 +36,8 @@ def turn(text, it, say):
     steps = {}
     for p in it["places"]:
         old, new = p[2]
-        if old:
+        # (what is known of a variable, as `out-1` of `out`, has the name of the variable itself)
+        if old and new != old + "-1":
             steps.setdefault(norm(old), set()).add(new)
     loops = {norm(l[0][0]): l[0][1] for l in it["loops"]}
 
@@ -80,16 +81,16 @@ def turn(text, it, say):
         return f".{m[1]}.new.{params[n]}" if params and n < len(params) else m[0]
 
     # what a slice holds goes by the slice's own name
-    own = set(re.findall(r"\.args\.(\w+)-1\b", text))
+    own = set(re.findall(r"\.args\.(\w+?)-?1\b", text))
 
     lines = []
     for line in text.split("\n"):
         if re.match(r"\s*(--|use |pub use )", line):
             lines.append(line)
             continue
-        line = re.sub(rf"(?<=[\w)'])\.({NAME})", step, line) if "Need-" not in line or " = " in line else line
+        line = re.sub(rf"(?<=[\w)'])(?<!\.args)(?<!\.ranges)\.({NAME})", step, line) if "Need-" not in line or " = " in line else line
         line = re.sub(rf"\.({NAME})\.new((?:\.1)*)\.0(?![\w-])", after, line)
-        line = re.sub(r"\.(\w+)-1(?![\w-])", lambda m: "." + m[1] if m[1] in own else m[0], line)
+        line = re.sub(r"\.(\w+?)-?1(?![\w-])", lambda m: "." + m[1] if m[1] in own else m[0], line)
         line = re.sub(r"\.type-inv\b", ".type_inv", line)
         line = re.sub(r"\.inv\b(?!-)", ".invariant", line)
         line = re.sub(r"\.pre\b(?!-)", ".requires", line)
