@@ -16,24 +16,22 @@ CODE = """\
 // Written by scripts/places.py. A constant table of 2,048 entries, 256 bytes by 8 ranks: at a byte and a rank, the place of the byte's set bit of
 // that rank, and 8 where there is none. A line has the entries of one byte, rank 0 rightmost. It is a match and no array, since an array that is
 // constant is made anew in the memory of each call; of a match the compiler makes a table.
-ghost use mathlib.Core.Path.{{_≡_}};
-ghost use Prim.Native.Nat.{{_<_}};
-ghost use lib.ListN.{{getD}};
-ghost use Rattle·places·specs.specs.Keys.{{NoneBelow}};
-ghost use Rattle·places·specs.specs.Places.{{places}};
+ghost use Rattle.std.specs.Prelude.{{◌≡◌, ◌<◌, get_or}};
+ghost use Rattle.places.specs.Keys.{{NoneBelow}};
+ghost use Rattle.places.specs.Places.{{places}};
 
 // There is no other byte: this is never called.
 fn no_other(byte: u32) -> u64
-    requires {{ ⌜ (byte < 256) × NoneBelow 256 byte ⌝ }}
-    ensures {{ λ r. ⌜ r ≡ getD places byte 0 ⌝ }}
+    requires {{ (byte < 256) × NoneBelow 256 byte }}
+    ensures {{ result ≡ get_or places byte 0 }}
 {{
     0
 }}
 
 // The eight entries of a byte: in byte r of the answer, the place of the set bit of rank r.
 pub fn places_of(byte: u32) -> u64
-    requires {{ ⌜ byte < 256 ⌝ }}
-    ensures {{ λ r. ⌜ r ≡ getD places byte 0 ⌝ }}
+    requires {{ byte < 256 }}
+    ensures {{ result ≡ get_or places byte 0 }}
 {{
     match byte {{
 {lines}
@@ -46,8 +44,7 @@ LIST = """\
 -- Written by scripts/places.py. The table as the code has it, a number for each byte: in byte r of the number the place of the byte's set bit of
 -- rank r, and 8 where there is none. That it is so is shown in `proofs/TableLaw`.
 -- Assumes nothing.
-use Prim.Native.Nat.{{ℕ}}
-use mathlib.Core.List.{{List, [], _∷_}}
+use Rattle.std.specs.Prelude.{{ℕ, List, [], ◌∷◌}}
 
 abbrev pub places : List ℕ
 places =

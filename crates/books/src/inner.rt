@@ -64,7 +64,7 @@ pub fn rank_bits(ranks: &[u64], from: u64, rank: Rank) -> u64
 }
 
 // The bits of one chunk, gathered, and the number after them, or the one that the walk has come to.
-#[derive(Drop)]
+#[derive(Clone, Copy)]
 pub struct Gathered {
     pub bits: u64,
     pub next: usize,

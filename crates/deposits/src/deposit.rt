@@ -74,7 +74,7 @@ pub fn read_chunks(
 }
 
 // Where the walk over a rank list stands: a rank, and the first entry that is not below it.
-#[derive(Drop)]
+#[derive(Clone, Copy)]
 pub struct Reached {
     pub rank: Rank,
     pub next: usize,

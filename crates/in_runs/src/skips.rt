@@ -17,7 +17,7 @@ use rows::Row;
 use rules::Form;
 
 // How many set rows were passed over, and the number that the walk has come to.
-#[derive(Drop)]
+#[derive(Clone, Copy)]
 pub struct Skipped {
     pub set: u64,
     pub next: usize,

@@ -16,7 +16,7 @@ use rows::{Rank, Row};
 use word::inner::deposit_portable;
 
 // What is kept of one chunk, how many rows it has set and how many of them are kept, and the run that the walk has come to.
-#[derive(Drop)]
+#[derive(Clone, Copy)]
 pub struct Kept {
     pub bits: u64,
     pub set: u64,
@@ -25,7 +25,7 @@ pub struct Kept {
 }
 
 // Where a walk over self and the runs of ranks stands: the next rank, the run, and how many of the ranks before it are kept.
-#[derive(Drop)]
+#[derive(Clone, Copy)]
 pub struct Walk {
     pub rank: Rank,
     pub next: usize,

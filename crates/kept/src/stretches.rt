@@ -6,7 +6,7 @@ ghost use Rattle.kept.specs.Alike.{all_or_none};
 use rows::Rank;
 
 // So many ranks, and whether all of them are kept or none.
-#[derive(Drop)]
+#[derive(Clone, Copy)]
 pub struct Stretch {
     pub most: u64,
     pub set: bool,

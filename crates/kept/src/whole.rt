@@ -14,7 +14,7 @@ use lent::inner::whole_word;
 use rows::Rank;
 
 // How many words were stored, and how many rows they have set.
-#[derive(Drop)]
+#[derive(Clone, Copy)]
 pub struct Passed {
     pub words: usize,
     pub set: u64,

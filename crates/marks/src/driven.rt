@@ -14,7 +14,7 @@ use rows::{Rank, Row};
 use word::inner::select_bit_position;
 
 // A place in the walk over self: the first row not passed, a chunk's first, and its rank, the set rows before it.
-#[derive(Drop)]
+#[derive(Clone, Copy)]
 pub struct Place {
     pub done: Row,
     pub passed: Rank,

@@ -1,6 +1,6 @@
 -- The byte network gives the published PDEP: each stage undone acts on each byte by itself, and a byte is the computed test.
 -- The bytes together are the deposit by the split law, a byte at a time. Assumes nothing.
-use Rattle.std.proofs.Common.{◌≡◌, ℕ, zero, suc, ◌+◌, ◌-◌, ◌*◌, ◌/◌, ◌%◌, ◌^◌, ◌<◌, ◌⊎◌, [], ◌∷◌, sym, refl, ap, ◌∙◌, subst, ap₂, ⊎_elim, lt_of_lt_of_le, lt_of_le_of_lt, add-zero, mod-eq_of_lt, mul-lt-mul_of_pos_right, div-one, one-add, arith, pow_pos, pow_mono, pow-add}
+use Rattle.std.proofs.Common.{◌≡◌, ℕ, zero, suc, ◌+◌, ◌-◌, ◌*◌, ◌/◌, ◌%◌, ◌^◌, ◌<◌, [], ◌∷◌, sym, refl, ap, ◌∙◌, subst, ap₂, ⊎_elim, lt_of_lt_of_le, lt_of_le_of_lt, add-zero, mod-eq_of_lt, mul-lt-mul_of_pos_right, div-one, one-add, arith, pow_pos, pow_mono, pow-add}
 use lib.Pow.{mod-mod-pow}
 use lib.Bits.{bit_and, bit_or, and_le_r, or_lt}
 use lib.Count.{ones}

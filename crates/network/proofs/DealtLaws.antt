@@ -1,6 +1,6 @@
 -- PDEP digit by digit: one set digit of the mask at a time, a run of digits at a time; and it is the published PDEP.
 -- By recursion over the width; the published loop comes in by the law that it is composition. Assumes nothing.
-use Rattle.std.proofs.Common.{◌≡◌, ℕ, zero, suc, ◌+◌, ◌-◌, ◌*◌, ◌/◌, ◌%◌, ◌^◌, ◌<◌, ◌≤◌, max, Bool, ◌⊎◌, List, ◌∷◌, sym, refl, ap, ◌∙◌, ap₂, ⊎_elim, add-zero, mul_assoc, suc-add, pow-suc, zero-add, zero-mul, div-one, one-add, arith, pow_pos, shr-shr}
+use Rattle.std.proofs.Common.{◌≡◌, ℕ, zero, suc, ◌+◌, ◌-◌, ◌*◌, ◌/◌, ◌%◌, ◌^◌, ◌<◌, ◌≤◌, max, Bool, List, ◌∷◌, sym, refl, ap, ◌∙◌, ap₂, ⊎_elim, add-zero, mul_assoc, suc-add, pow-suc, zero-add, zero-mul, div-one, one-add, arith, pow_pos, shr-shr}
 use native.Mathlib.Nat.{max-zero, mod-one}
 use lib.Arith.{bin_ind}
 use lib.Bits.{bit_and, bit_or, or_step, or_zero_r}

@@ -1,6 +1,6 @@
 -- The source bits of each byte: the set bits below it by one product, and the 8 digits of the source from there on.
 -- By recursion over the bytes; no sum passes a byte. Assumes nothing.
-use Rattle.std.proofs.Common.{◌≡◌, ℕ, zero, suc, ◌+◌, ◌-◌, ◌*◌, ◌/◌, ◌%◌, ◌^◌, ◌<◌, ◌≤◌, sym, refl, ap, ◌∙◌, subst, ap₂, mul_assoc, add-mul, pow-suc, mul-one, mul-suc, mul-add, mul_right_comm, div-one, arith, pow-add, shr-shr}
+use Rattle.std.proofs.Common.{◌≡◌, ℕ, zero, suc, ◌+◌, ◌*◌, ◌/◌, ◌%◌, ◌^◌, ◌<◌, ◌≤◌, sym, refl, ap, ◌∙◌, subst, ap₂, mul_assoc, add-mul, pow-suc, mul-one, mul-suc, mul-add, mul_right_comm, div-one, arith, pow-add, shr-shr}
 use native.Mathlib.Nat.{mod-one, zero-div, add-mul-mod_self_right}
 use lib.Arith.{mod-mul}
 use lib.Count.{ones, ones-le}

@@ -1,6 +1,6 @@
 -- The lowest set digit of a word: by the word and its negative, and the word without it.
 -- By recursion over the width, on the lowest digit. Assumes nothing.
-use Rattle.std.proofs.Common.{◌≡◌, ℕ, zero, suc, ◌+◌, ◌-◌, ◌*◌, ◌/◌, ◌%◌, ◌^◌, ◌<◌, ◌⊎◌, refl, ap, ⊎_elim, eq-zero-or-pos, pow-suc, arith}
+use Rattle.std.proofs.Common.{◌≡◌, ℕ, zero, suc, ◌+◌, ◌-◌, ◌*◌, ◌/◌, ◌%◌, ◌^◌, ◌<◌, refl, ap, ⊎_elim, eq-zero-or-pos, pow-suc, arith}
 use lib.Bits.{bit_and, bit_xor, and_self, xor_zero_r}
 use lib.Count.{ones, ones_step}
 use Rattle.network.specs.Lowest.{lowest_set, without_lowest}

@@ -5,21 +5,21 @@ ghost use Rattle.outside.specs.First.{First, Reach};
 ghost use Rattle.outside.specs.Spans.{spans, Come, Stands};
 
 // A span: its first row, and the row past its last.
-#[derive(Drop)]
+#[derive(Clone, Copy)]
 pub struct Span {
     pub first: u64,
     pub past: u64,
 }
 
 // The span at which a walk stands, and its number.
-#[derive(Drop)]
+#[derive(Clone, Copy)]
 pub struct Place {
     pub next: usize,
     pub span: Span,
 }
 
 // The row to which a walk has come, and the number of its span.
-#[derive(Drop)]
+#[derive(Clone, Copy)]
 pub struct Walk {
     pub next: usize,
     pub row: u64,

@@ -1,10 +1,6 @@
 -- A number that is none of those below k is not below k.
 -- By recursion over k. Assumes nothing.
-use mathlib.Core.Path.{◌≡◌}
-use mathlib.Core.Logic.{⊎_elim}
-use Prim.Native.Nat.{ℕ, zero, suc, ◌≤◌, ◌<◌}
-use native.Mathlib.Nat.{eq-or-lt_of_le}
-use native.Mathlib.Omega.{arith}
+use Rattle.std.proofs.Common.{◌≡◌, ℕ, zero, suc, ◌<◌, ◌≤◌, ⊎_elim, eq-or-lt_of_le, arith}
 use Rattle.places.specs.Keys.{NoneBelow}
 
 pub none_below : (k n : ℕ) → NoneBelow k n → k ≤ n

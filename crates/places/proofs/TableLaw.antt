@@ -1,11 +1,7 @@
 -- The table's rule: at a byte and a rank stands the place of the byte's set bit of that rank, and 8 where there is none.
 -- By one test that antt computes over the 2,048 entries, and one law that carries it to each. Assumes nothing.
-use mathlib.Core.Path.{◌≡◌, ap₂, ◌∙◌, sym}
-use mathlib.Core.Bool.{Bool}
-use Prim.Native.Nat.{ℕ, ◌+◌, ◌*◌, ◌/◌, ◌%◌, ◌^◌, ◌<◌}
-use native.Mathlib.Omega.{arith}
+use Rattle.std.proofs.Common.{◌≡◌, ℕ, ◌+◌, ◌*◌, ◌/◌, ◌%◌, ◌^◌, ◌<◌, Bool, get_or, sym, ◌∙◌, ap₂, arith}
 use lib.Dec.{T, eqb, eqb→eq}
-use lib.ListN.{get_or}
 use Rattle.rows.specs.Word.{bits_of}
 use Rattle.rows.specs.Lists.{select}
 use Rattle.rows.proofs.EveryBelow.{all_below, at_below}

@@ -1,7 +1,7 @@
 -- What pins a density, whatever `density_of` is defined by: it is a value of the format, none is nearer to the quotient of count and length,
 -- it is that quotient where the format has it, and densities stand in the order of their quotients. By the kit's laws on rounding.
 -- Assumes nothing.
-use Prim.Native.Nat.{ℕ, ◌-◌, ◌*◌, ◌^◌, ◌≤◌, ◌<◌}
+use Prim.Native.Nat.{ℕ, ◌*◌, ◌^◌, ◌≤◌, ◌<◌}
 use native.Mathlib.Nat.{mul_assoc, mul_comm, mul_right_comm, zero-mul, mul-le-mul_right, le_of_mul-le-mul_right, le_of_eq, le_trans}
 use native.Mathlib.Decide.{ℕ_discrete}
 use native.Mathlib.Omega.{arith}

@@ -14,14 +14,12 @@ use lib.Seq.{take_at, drop_at}
 use Rattle.rows.specs.declared.Verdict.{Verdict}
 use Rattle.rows.specs.declared.Verdict.TheVariants.{Fine}
 use Rattle.rows.specs.Rows.{count}
-use Rattle.rows.specs.Words.{bits_of_all}
 use Rattle.rows.specs.Lists.{Ascending, set_rows}
 use Rattle.rows.specs.Runs.{Apart, runs_of, runs_in}
 use Rattle.rows.specs.Laid.{words_for, written}
 use Rattle.rows.specs.Table.{first, if_fine}
 use Rattle.rows.proofs.ListLaws.{rows_count, rows_ascending, listed_rows}
 use Rattle.rows.proofs.RunLaws.{runs_apart, runs_back, runs_even, rows_back}
-use Rattle.rows.proofs.WrittenLaws.{written_rows, written_length}
 use Rattle.rules.specs.declared.Answer.{Answer}
 use Rattle.rules.specs.declared.Form.TheVariants.{Words, List as Listed, Runs}
 use Rattle.rules.specs.Operand.{Operand, lent, climbs, last_below, runs_fit, rows_of, length_of, count_of, Accepted}

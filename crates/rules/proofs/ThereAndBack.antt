@@ -2,7 +2,7 @@
 -- mask, and recovering from what was composed gives the rank mask. By `compose_recover`, `recover_compose` and the law of words written.
 -- Assumes nothing.
 use Prim.Native.Nat.{ℕ, ◌≤◌}
-use mathlib.Core.Path.{◌≡◌, refl, sym, ap, subst, ◌∙◌}
+use mathlib.Core.Path.{◌≡◌, refl, sym, ap, ◌∙◌}
 use mathlib.Core.Bool.{Bool}
 use mathlib.Core.List.{List, []}
 use lib.ListN.{length, take}
@@ -23,9 +23,9 @@ use Rattle.rules.specs.Compose.{Paired, compose_checks, result, routed, composed
 use Rattle.rules.specs.Recover.{Within, recover_checks, recovery, recovered, recovered_out}
 use Rattle.rules.proofs.OperandLaws.{accepted_length, accepted_count, accepted_few, accepted_limit}
 use Rattle.rules.proofs.Writes.{written_back}
-use Rattle.rules.proofs.ComposeLaws.{ranks_length, result_length, result_count}
+use Rattle.rules.proofs.ComposeLaws.{ranks_length, result_length}
 use Rattle.rules.proofs.Compositions.{compose_fine, Accepts as Composes}
-use Rattle.rules.proofs.Recoveries.{lengths_same, recovery_length, recovery_count, recover_fine, Accepts as Recovers}
+use Rattle.rules.proofs.Recoveries.{lengths_same, recovery_length, recover_fine, Accepts as Recovers}
 
 -- an operation is accepted, and what it tells and leaves is the mask m: its length, its rows and its count
 pub record Gives (m : Operand) (len : ℕ) (a : Answer) (left : List ℕ) : Type 0 where

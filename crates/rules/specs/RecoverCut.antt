@@ -6,7 +6,7 @@ use Rattle.std.specs.Prelude.{ℕ, ◌≡◌, List, [], ◌∷◌, take, drop}
 use Rattle.rows.specs.Rows.{count}
 use Rattle.rows.specs.Words.{bits_of_all}
 use Rattle.rules.specs.declared.Answer.{Answer}
-use Rattle.rules.specs.Operand.{Operand, length_of, rows_of, in_words, Accepted}
+use Rattle.rules.specs.Operand.{length_of, rows_of, in_words, Accepted}
 use Rattle.rules.specs.Recover.{recovered, recovered_out}
 use Rattle.rules.specs.RecoverStream.{Masks, masks_of, long, set, state_of, fresh, Run, run}
 use Rattle.rules.specs.Demand3.{joined, AllAccepted, taken, summed}

@@ -5,7 +5,7 @@
 use rows::{Rank, Refusal, Row, Way};
 
 // The form of an operand. Words and rows are lent beside it, and a slice that the form does not use is ignored.
-#[derive(Drop)]
+#[derive(Clone, Copy)]
 pub enum Form {
     All {
         length: u64,
@@ -29,14 +29,14 @@ pub enum Form {
 
 // A run of rows: its first row, and the row past its last.
 #[repr(C)]
-#[derive(Drop)]
+#[derive(Clone, Copy)]
 pub struct Run {
     pub first: u32,
     pub past: u32,
 }
 
 // What every operation returns of its result: the count of its set rows, the route, 0 outside composition, and the density.
-#[derive(Drop)]
+#[derive(Clone, Copy)]
 pub struct Summary {
     pub count: u64,
     pub route: u8,
@@ -44,28 +44,28 @@ pub struct Summary {
 }
 
 // An answer: a refusal, or its place empty, and the summary.
-#[derive(Drop)]
+#[derive(Clone, Copy)]
 pub struct Answer {
     pub refusal: Refusal,
     pub summary: Summary,
 }
 
 // What the writer of runs gives: its answer, and how many runs it wrote.
-#[derive(Drop)]
+#[derive(Clone, Copy)]
 pub struct Written {
     pub answer: Answer,
     pub runs: u64,
 }
 
 // What the counts are multiplied by before they are held against the lengths: 16 for the loop form, 32 for mask-driven.
-#[derive(Drop)]
+#[derive(Clone, Copy)]
 pub struct Factors {
     pub sparse: u32,
     pub driven: u32,
 }
 
 // The ways of the route table, as its last column names them.
-#[derive(Drop)]
+#[derive(Clone, Copy)]
 pub enum Route {
     RankMask,
     SelfMask,
@@ -78,7 +78,7 @@ pub enum Route {
 }
 
 // The set operations. Not is of the first operand.
-#[derive(Drop)]
+#[derive(Clone, Copy)]
 pub enum Operation {
     And,
     Or,
@@ -88,7 +88,7 @@ pub enum Operation {
 
 // A stream's state: the rows fed, the ranks fed, which are the set rows among them, and how many rows were kept. The rows fed are the
 // next piece's first row, and the ranks fed its first rank; kept is a count and stands for neither.
-#[derive(Drop)]
+#[derive(Clone, Copy)]
 pub struct State {
     pub done: Row,
     pub ranks: Rank,
@@ -96,14 +96,14 @@ pub struct State {
 }
 
 // What a feed gives: its answer, and the state to hand to the next feed.
-#[derive(Drop)]
+#[derive(Clone, Copy)]
 pub struct Fed {
     pub answer: Answer,
     pub state: State,
 }
 
 // What a recovery gives: its answer, and with 17 the first row outside self, which is 0 in every other answer.
-#[derive(Drop)]
+#[derive(Clone, Copy)]
 pub struct Recovered {
     pub answer: Answer,
     pub outside: Row,
@@ -111,7 +111,7 @@ pub struct Recovered {
 
 // A recovery stream's state: the rows fed, the ranks fed, which are self's set rows among them, and how many of these were kept. The ranks fed are
 // the next piece's first bit in the output; done is where it begins in both masks.
-#[derive(Drop)]
+#[derive(Clone, Copy)]
 pub struct RecoveryState {
     pub done: Row,
     pub ranks: Rank,
@@ -119,7 +119,7 @@ pub struct RecoveryState {
 }
 
 // What a feed of recovery gives: its answer, with 17 the first row outside self, counted in the piece, and the state to hand to the next feed.
-#[derive(Drop)]
+#[derive(Clone, Copy)]
 pub struct RecoveryFed {
     pub answer: Answer,
     pub outside: Row,

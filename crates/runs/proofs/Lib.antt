@@ -3,15 +3,3 @@ pub mod RecordsLaws
 pub mod SweepLaws
 pub mod SearchLaws
 pub mod FoundLaws
-pub mod Kit
-pub mod Again
-pub mod Walk
-pub mod Values
-pub mod Each
-pub mod Plainly
-pub mod Passing
-pub mod Acting
-pub mod Reading
-pub mod Filling
-pub mod Storing
-pub mod Drafting

@@ -11,7 +11,7 @@ use lent::inner::{chunk, chunk_len, ones};
 use rules::{Form, Run};
 
 // A run that was found, and where to go on: a row of words, an entry of a list, a number of runs.
-#[derive(Drop)]
+#[derive(Clone, Copy)]
 pub struct Found {
     pub first: u32,
     pub past: u32,
@@ -19,7 +19,7 @@ pub struct Found {
 }
 
 // A search that goes on: the form, where it stands, and the run that it found last.
-#[derive(Drop)]
+#[derive(Clone, Copy)]
 pub struct Cursor {
     pub form: Form,
     pub at: u64,

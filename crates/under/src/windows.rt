@@ -38,7 +38,7 @@ fn mark_part(first: Rank, past: Rank, from: Rank, n: u64, at: u64, row: Row, out
 }
 
 // Which run of ranks the walk has come to, and how many rows were marked.
-#[derive(Drop)]
+#[derive(Clone, Copy)]
 pub struct Marked {
     pub next: usize,
     pub set: u64,

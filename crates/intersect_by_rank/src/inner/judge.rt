@@ -12,7 +12,7 @@ use rows::inner::verdicts::{equal, has_room, then};
 use rules::Form;
 
 // What the checks of two operands tell: the verdict and, where an operand's own needs are met, the count of self and that of the rank mask.
-#[derive(Drop)]
+#[derive(Clone, Copy)]
 pub struct Judged {
     pub verdict: Verdict,
     pub rows: u64,

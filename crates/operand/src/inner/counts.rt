@@ -8,14 +8,14 @@ use rows::Verdict;
 use rules::Form;
 
 // A form with its count.
-#[derive(Drop)]
+#[derive(Clone, Copy)]
 pub struct Counted {
     pub form: Form,
     pub count: u64,
 }
 
 // What the checks of an operand tell: their verdict and, where every need is met, its count.
-#[derive(Drop)]
+#[derive(Clone, Copy)]
 pub struct Checked {
     pub verdict: Verdict,
     pub count: u64,

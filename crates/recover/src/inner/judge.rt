@@ -13,7 +13,7 @@ use rows::{Row, Verdict};
 use rules::Form;
 
 // What the checks of two masks of rows tell: the verdict and, where an operand's own needs are met, how many rows self has set, and how many are kept.
-#[derive(Drop)]
+#[derive(Clone, Copy)]
 pub struct Matched {
     pub verdict: Verdict,
     pub set: u64,
@@ -45,7 +45,7 @@ pub fn judge_masks(
 }
 
 // A verdict, and the row that is told beside it.
-#[derive(Drop)]
+#[derive(Clone, Copy)]
 pub struct Found {
     pub verdict: Verdict,
     pub outside: Row,
@@ -79,7 +79,7 @@ pub fn judge_inside(
 }
 
 // What the checks of a recovery tell.
-#[derive(Drop)]
+#[derive(Clone, Copy)]
 pub struct Judged {
     pub verdict: Verdict,
     pub outside: Row,

@@ -10,7 +10,7 @@ use borrow.Author.Rules.{rules}
 use Rattle.books.proofs.inner.rank_bits.Statement.{statement}
 use Rattle.books.proofs.inner.rank_bits.Tie as tie
 
-add_at : tie.Need-overflow-add-at
+add_at : tie.Need-overflow_add-at
 add_at c = search rules
 
 read-requires : tie.Need-read-requires

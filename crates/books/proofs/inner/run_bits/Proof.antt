@@ -12,106 +12,106 @@ use Rattle.books.proofs.RunBitLaws.{Gathering, gathering_none, gathering_next, g
 use Rattle.books.proofs.inner.run_bits.Statement.{statement}
 use Rattle.books.proofs.inner.run_bits.Tie as tie
 
-abbrev invariant-loop : tie.invariant-loop
+abbrev invariant-loop : tie.invariant-loop-i
 invariant-loop runs next base n end bits₀ i₀ bits i =
     Gathering runs base n i bits × (next + ended_before (base + n) (drop next runs) ≡ i + ended_before (base + n) (drop i runs))
 
-abbrev decreases-loop : tie.decreases-loop
+abbrev decreases-loop : tie.decreases-loop-i
 decreases-loop runs next base n end bits₀ i₀ bits i = length runs - i
 
 -- ---- the places, each from the one after it
 
-abbrev entry : tie.At-loop invariant-loop decreases-loop → tie.Start invariant-loop decreases-loop
+abbrev entry : tie.At-loop-i invariant-loop decreases-loop → tie.Start invariant-loop decreases-loop
 entry c = c.before.before
 
-abbrev head : tie.In-loop invariant-loop decreases-loop → tie.At-loop invariant-loop decreases-loop
+abbrev head : tie.In-loop-i invariant-loop decreases-loop → tie.At-loop-i invariant-loop decreases-loop
 head c = c.before
 
-abbrev both : tie.After-shared-slice-known3 invariant-loop decreases-loop → tie.In-loop invariant-loop decreases-loop
+abbrev both : tie.After-shared_slice_known-in-loop-i-2-1 invariant-loop decreases-loop → tie.In-loop-i invariant-loop decreases-loop
 both c = c.before.before
 
-abbrev turn : tie.After-bits-in-run invariant-loop decreases-loop → tie.In-loop invariant-loop decreases-loop
+abbrev turn : tie.After-bits_in_run-bits invariant-loop decreases-loop → tie.In-loop-i invariant-loop decreases-loop
 turn c = both c.before
 
 -- ---- a turn's run
 
-module _ (c : tie.In-loop invariant-loop decreases-loop) where
+module _ (c : tie.In-loop-i invariant-loop decreases-loop) where
   abbrev s : tie.Start invariant-loop decreases-loop
   s = entry (head c)
 
   abbrev runs : List ℕ
   runs = s.args.runs.now
 
-  next : NextRun (head c).loop.invariant.0.from 1048576 (head c).loop.i runs
+  next : NextRun (head c).loop-i.invariant.0.from 1048576 (head c).loop-i.i runs
   next =
-      let l = (head c).loop in
-      gathering_next runs s.args.base s.args.n l.i l.bits l.inv.0 (omega arith)
+      let l = (head c).loop-i in
+      gathering_next runs s.args.base s.args.n l.i l.bits l.invariant.0 (omega arith)
 
 -- ---- the answers
 
-add-end : tie.Need-overflow-add-end invariant-loop decreases-loop
+add-end : tie.Need-overflow_add-end invariant-loop decreases-loop
 add-end c = omega (arith, c.before.requires.1)
 
-loop-holds : tie.Need-loop-init invariant-loop decreases-loop
+loop-holds : tie.Need-loop-i-init invariant-loop decreases-loop
 loop-holds c =
     let a = c.before.args in
     (gathering_none a.runs.now a.base a.n a.next c.before.requires.2, refl)
 
-mul-first : tie.Need-overflow-mul-first invariant-loop decreases-loop
+mul-first : tie.Need-offset_bounds-runs-i invariant-loop decreases-loop
 mul-first c = omega arith
 
-shared-slice-read-first : tie.Need-shared-slice-read-first invariant-loop decreases-loop
+shared-slice-read-first : tie.Need-bounds-runs-i invariant-loop decreases-loop
 shared-slice-read-first c = omega arith
 
-cast-first : tie.Need-overflow-cast-first invariant-loop decreases-loop
-cast-first c = omega (arith, c.shared-slice-known2.given (head c.before).loop.i)
+cast-first : tie.Need-overflow_cast-first invariant-loop decreases-loop
+cast-first c = omega (arith, c.shared_slice_known-in-loop-i-1.given (head c.before).loop-i.i)
 
-add-past : tie.Need-overflow-add-past invariant-loop decreases-loop
+add-past : tie.Need-overflow_add-past invariant-loop decreases-loop
 add-past c = omega (arith, (next c.before).pair)
 
-mul-past : tie.Need-overflow-mul-past invariant-loop decreases-loop
+mul-past : tie.Need-offset_bounds-runs-i-in-loop-i invariant-loop decreases-loop
 mul-past c = omega (arith, (next c.before).pair)
 
-shared-slice-read-past : tie.Need-shared-slice-read-past invariant-loop decreases-loop
-shared-slice-read-past c = (next (both c)).pair
+shared-slice-read-past : tie.Need-bounds-runs-i-in-loop-i invariant-loop decreases-loop
+shared-slice-read-past c = (next c.before.before).pair
 
-cast-past : tie.Need-overflow-cast-past invariant-loop decreases-loop
-cast-past c = omega (arith, c.shared-slice-known3.given ((head (both c)).loop.i + 1))
+cast-past : tie.Need-overflow_cast-past invariant-loop decreases-loop
+cast-past c = omega (arith, c.shared_slice_known-in-loop-i-2-1.given ((head (both c)).loop-i.i + 1))
 
-bits-in-run-requires : tie.Need-bits-in-run-requires invariant-loop decreases-loop
-bits-in-run-requires c κs = ((s (both c)).pre.0, (s (both c)).pre.1)
+bits-in-run-requires : tie.Need-bits_in_run-bits-requires invariant-loop decreases-loop
+bits-in-run-requires c κs = ((s (both c)).requires.0, (s (both c)).requires.1)
 
-returns : tie.Need-returns invariant-loop decreases-loop
+returns : tie.Need-returns-then-end-past invariant-loop decreases-loop
 returns c =
     let m = c.before in
     let t = turn m in
-    let l = (head t).loop in
+    let l = (head t).loop-i in
     let a = (s t).args in
-    let g = gathering_stop (runs t) a.base a.n l.i l.bits l.inv.0 (omega arith) m.bits-in-run.result m.bits-in-run.ensures c.if1.true in
+    let g = gathering_stop (runs t) a.base a.n l.i l.bits l.invariant.0 (omega arith) m.bits_in_run-bits.result m.bits_in_run-bits.ensures c.if-end-past.true in
     let e : ℕ = a.base + a.n in
-    (g.0, g.1, sym (l.inv.1 ∙ ended_here e l.inv.0.from 1048576 l.i (runs t) (next t) c.if1.true))
+    (g.0, g.1, sym (l.invariant.1 ∙ ended_here e l.invariant.0.from 1048576 l.i (runs t) (next t) c.if-end-past.true))
 
-add-i : tie.Need-overflow-add-i invariant-loop decreases-loop
+add-i : tie.Need-overflow_add-i invariant-loop decreases-loop
 add-i c = omega (arith, (next (turn c.before)).pair)
 
-loop-less : tie.Need-loop-smaller invariant-loop decreases-loop
+loop-less : tie.Need-loop-i-smaller invariant-loop decreases-loop
 loop-less c = omega (arith, (next (turn c.before)).pair)
 
-loop-again : tie.Need-loop-preserved invariant-loop decreases-loop
+loop-again : tie.Need-loop-i-preserved invariant-loop decreases-loop
 loop-again c =
     let m = c.before in
     let t = turn m in
-    let l = (head t).loop in
+    let l = (head t).loop-i in
     let a = (s t).args in
     let e : ℕ = a.base + a.n in (
-      gathering_run (runs t) a.base a.n l.i l.bits l.inv.0 (omega arith) m.bits-in-run.result m.bits-in-run.ensures (omega arith),
-      l.inv.1 ∙ ended_on e l.inv.0.from 1048576 l.i (runs t) (next t) (omega arith),
+      gathering_run (runs t) a.base a.n l.i l.bits l.invariant.0 (omega arith) m.bits_in_run-bits.result m.bits_in_run-bits.ensures (omega arith),
+      l.invariant.1 ∙ ended_on e l.invariant.0.from 1048576 l.i (runs t) (next t) (omega arith),
     )
 
-returns-2 : tie.Need-returns-2 invariant-loop decreases-loop
+returns-2 : tie.Need-returns invariant-loop decreases-loop
 returns-2 c =
     let h = c.before in
-    let l = h.loop in
+    let l = h.loop-i in
     let a = (entry h).args in
     let g = gathering_end a.runs.now a.base a.n l.i l.bits l.invariant.0 (omega arith) in
     (g.0, g.1, sym (l.invariant.1 ∙ ended_none (a.base + a.n) 0 0 l.i a.runs.now (omega arith)))

@@ -9,22 +9,22 @@ use Rattle.rows.specs.Laid.{last_cleared}
 use Rattle.laid.proofs.inner.clear_last.Statement.{statement}
 use Rattle.laid.proofs.inner.clear_last.Tie as tie
 
-returns : tie.Need-returns
+returns : tie.Need-returns-then-bits-eq0
 returns c = search rules
 
-sub-last : tie.Need-overflow-sub-last
+sub-last : tie.Need-overflow_sub-last
 sub-last c = search rules
 
-mul-out : tie.Need-overflow-mul-out
+mul-out : tie.Need-offset_bounds-out-last
 mul-out c = search rules
 
-slice-write-out : tie.Need-slice-write-out
+slice-write-out : tie.Need-bounds-out-last
 slice-write-out c = search rules
 
-same_length : tie.Need-same-length
+same_length : tie.Need-shape_of-out
 same_length c = search rules
 
-returns-2 : tie.Need-returns-2
+returns-2 : tie.Need-returns
 returns-2 c =
     let a = c.before.args in
     let out = a.out.now in

@@ -12,40 +12,40 @@ use Rattle.rows.proofs.SpliceLaws.{splice_nil, splice_turn}
 use Rattle.laid.proofs.inner.copy_words.Statement.{statement}
 use Rattle.laid.proofs.inner.copy_words.Tie as tie
 
-abbrev invariant-loop : tie.invariant-loop
+abbrev invariant-loop : tie.invariant-loop-i
 invariant-loop words first n out₀ i₀ out i = (i ≤ n) × (length out ≡ length out₀) × (out ≡ splice first out₀ (take i words))
 
-abbrev decreases-loop : tie.decreases-loop
+abbrev decreases-loop : tie.decreases-loop-i
 decreases-loop words first n out₀ i₀ out i = n - i
 
-loop-holds : tie.Need-loop-init invariant-loop decreases-loop
+loop-holds : tie.Need-loop-i-init invariant-loop decreases-loop
 loop-holds c = (omega arith, refl, sym (splice_nil c.args.first c.args.out.now))
 
-mul-out : tie.Need-overflow-mul-out invariant-loop decreases-loop
+mul-out : tie.Need-offset_bounds-words-i invariant-loop decreases-loop
 mul-out c = search rules
 
-shared-slice-read-out : tie.Need-shared-slice-read-out invariant-loop decreases-loop
+shared-slice-read-out : tie.Need-bounds-words-i invariant-loop decreases-loop
 shared-slice-read-out c = search rules
 
-add-out : tie.Need-overflow-add-out invariant-loop decreases-loop
+add-out : tie.Need-overflow_add-out invariant-loop decreases-loop
 add-out c = search rules
 
-mul-out-2 : tie.Need-overflow-mul-out-2 invariant-loop decreases-loop
+mul-out-2 : tie.Need-offset_bounds-out-first invariant-loop decreases-loop
 mul-out-2 c = search rules
 
-slice-write-out : tie.Need-slice-write-out invariant-loop decreases-loop
+slice-write-out : tie.Need-bounds-out-first invariant-loop decreases-loop
 slice-write-out c = search rules
 
-add-i : tie.Need-overflow-add-i invariant-loop decreases-loop
+add-i : tie.Need-overflow_add-i invariant-loop decreases-loop
 add-i c = search rules
 
-loop-less : tie.Need-loop-smaller invariant-loop decreases-loop
+loop-less : tie.Need-loop-i-smaller invariant-loop decreases-loop
 loop-less c = search rules
 
-loop-again : tie.Need-loop-preserved invariant-loop decreases-loop
+loop-again : tie.Need-loop-i-preserved invariant-loop decreases-loop
 loop-again c =
     let a = c.before.before.before.args in
-    let l = c.before.before.loop in
+    let l = c.before.before.loop-i in
     let w = get_or a.words.now l.i 0 in
     let at : ℕ = a.first + l.i in (
       omega arith,
@@ -53,14 +53,14 @@ loop-again c =
       rw (add-one l.i) (ap (λ (o : List ℕ). set o at w) l.invariant.2 ∙ splice_turn a.first a.out.now a.words.now l.i 0 (omega arith)),
     )
 
-same_length : tie.Need-same-length invariant-loop decreases-loop
+same_length : tie.Need-shape_of-out invariant-loop decreases-loop
 same_length c = search rules
 
 returns : tie.Need-returns invariant-loop decreases-loop
 returns c =
     let a = c.before.before.args in
-    let all : c.before.loop.i ≡ a.n = omega arith in
-    c.before.loop.invariant.2 ∙ ap (λ (k : ℕ). splice a.first a.out.now (take k a.words.now)) all
+    let all : c.before.loop-i.i ≡ a.n = omega arith in
+    c.before.loop-i.invariant.2 ∙ ap (λ (k : ℕ). splice a.first a.out.now (take k a.words.now)) all
 
 pub copy_words_spec : {M : Type 1} → statement M
 copy_words_spec =

@@ -12,40 +12,40 @@ use Rattle.laid.proofs.SameLaws.{Filled, filled_none, filled_word}
 use Rattle.laid.proofs.inner.fill_many.Statement.{statement}
 use Rattle.laid.proofs.inner.fill_many.Tie as tie
 
-abbrev invariant-loop : tie.invariant-loop
+abbrev invariant-loop : tie.invariant-loop-i
 invariant-loop out₀ first end i₀ out i = (first ≤ i) × (i ≤ end) × Filled true first i out₀ out
 
-abbrev decreases-loop : tie.decreases-loop
+abbrev decreases-loop : tie.decreases-loop-i
 decreases-loop out₀ first end i₀ out i = end - i
 
-loop-holds : tie.Need-loop-init invariant-loop decreases-loop
+loop-holds : tie.Need-loop-i-init invariant-loop decreases-loop
 loop-holds c = (omega arith, omega arith, filled_none true c.args.first c.args.out.now c.requires.2)
 
-mul-out : tie.Need-overflow-mul-out invariant-loop decreases-loop
+mul-out : tie.Need-offset_bounds-out-i invariant-loop decreases-loop
 mul-out c = search rules
 
-slice-write-out : tie.Need-slice-write-out invariant-loop decreases-loop
-slice-write-out c = omega (arith, c.before.loop.invariant.2.long)
+slice-write-out : tie.Need-bounds-out-i invariant-loop decreases-loop
+slice-write-out c = omega (arith, c.before.loop-i.invariant.2.long)
 
-add-i : tie.Need-overflow-add-i invariant-loop decreases-loop
+add-i : tie.Need-overflow_add-i invariant-loop decreases-loop
 add-i c = search rules
 
-loop-less : tie.Need-loop-smaller invariant-loop decreases-loop
+loop-less : tie.Need-loop-i-smaller invariant-loop decreases-loop
 loop-less c = search rules
 
-loop-again : tie.Need-loop-preserved invariant-loop decreases-loop
+loop-again : tie.Need-loop-i-preserved invariant-loop decreases-loop
 loop-again c =
     let a = c.before.before.args in
-    let l = c.before.loop in
+    let l = c.before.loop-i in
     (omega arith, omega arith, filled_word true (2 ^ 64 - 1) a.first l.i a.out.now l.out (omega arith) (ones_bits 64) (omega arith) l.invariant.2)
 
-same_length : tie.Need-same-length invariant-loop decreases-loop
+same_length : tie.Need-shape_of-out invariant-loop decreases-loop
 same_length c = search rules
 
 returns : tie.Need-returns invariant-loop decreases-loop
 returns c =
     let a = c.before.before.args in
-    let l = c.before.loop in
+    let l = c.before.loop-i in
     let all : l.i ≡ a.end = omega arith in
     l.invariant.2.filled ∙ ap (λ (x : ℕ). laid (a.first * 64) (replicate ((x - a.first) * 64) true) a.out.now) all
 

@@ -12,36 +12,36 @@ use Rattle.laid.proofs.inner.lay_some.Tie as tie
 
 -- ---- the places, each from the one after it
 
-abbrev start : tie.After-put-arg → tie.Start
+abbrev start : tie.After-put-arg-1 → tie.Start
 start c = c.before.before.before
 
-abbrev asked : tie.After-put → tie.After-put-arg
+abbrev asked : tie.After-put → tie.After-put-arg-1
 asked c = c.before.before
 
 -- ---- the answers
 
-returns : tie.Need-returns
+returns : tie.Need-returns-then-n-eq0
 returns c =
     let a = c.before.before.args in
     let out = a.out.now in
-    let none : a.n ≡ 0 = c.if1.true in
-    rw none (sym (laid_nil 64 a.at out (below_all (2 ^ 64) out (λ i. (c.before.slice-known.given i).fits))))
+    let none : a.n ≡ 0 = c.if-n-eq0.true in
+    rw none (sym (laid_nil 64 a.at out (below_all (2 ^ 64) out (λ i. (c.before.slice_known-1.given i).fits))))
 
-same-word-requires : tie.Need-same-word-requires
+same-word-requires : tie.Need-same_word-requires
 same-word-requires c κs = search rules
 
 put-requires : tie.Need-put-requires
 put-requires c κs = search rules
 
-same_length : tie.Need-same-length
+same_length : tie.Need-shape_of-out
 same_length c = search rules
 
-returns-2 : tie.Need-returns-2
+returns-2 : tie.Need-returns
 returns-2 c =
     let put = c.before.before in
     let s = start (asked put) in
     let a = s.args in
-    put.put.ensures ∙ ap (λ (z : List Bool). laid a.at z a.out.now) (put.before.same_word.ensures a.n s.pre.0)
+    put.put.ensures ∙ ap (λ (z : List Bool). laid a.at z a.out.now) (put.before.same_word.ensures a.n s.requires.0)
 
 pub lay_some_spec : {M : Type 1} → statement M
 lay_some_spec = tie.close (tie.spec returns same-word-requires put-requires same_length returns-2)

@@ -2,7 +2,7 @@
 -- spreads them. Assumes nothing.
 use Rattle.std.proofs.Common.{◌≡◌, ℕ, ◌*◌, ◌/◌, ◌%◌, ◌^◌, ◌<◌, List, sym, ap, ◌∙◌, subst, ap₂, arith, rules}
 use lib.Bits.{bit_and}
-use Rattle.network.specs.Lanes.{before, gathered, undo_from}
+use Rattle.network.specs.Lanes.{gathered, undo_from}
 use Rattle.network.proofs.GatherLaws.{before_small, lows}
 use Rattle.network.proofs.Bytewise.{low_is, bytewise}
 use Rattle.network.proofs.inner.deposit_bytewise.Statement.{statement}

@@ -1,5 +1,5 @@
 -- `network::lanes::compress` meets its contract. The invariant: the stages so far, byte by byte. Assumes nothing.
-use Rattle.std.proofs.Common.{◌≡◌, ℕ, ◌-◌, ◌*◌, ◌%◌, ◌^◌, ◌<◌, ◌≤◌, ◌⊎◌, List, [], ◌∷◌, length, get_or, set, sym, refl, ap, ◌∙◌, subst, ap₂, ⊎_elim, le_of_suc-le-suc, eq-or-lt_of_le, add-one, arith, length-set, get_or-set_other, get_or-set_same}
+use Rattle.std.proofs.Common.{◌≡◌, ℕ, ◌-◌, ◌*◌, ◌%◌, ◌^◌, ◌<◌, ◌≤◌, List, [], ◌∷◌, length, get_or, set, sym, refl, ap, ◌∙◌, subst, ap₂, ⊎_elim, le_of_suc-le-suc, eq-or-lt_of_le, add-one, arith, length-set, get_or-set_other, get_or-set_same}
 use Rattle.network.specs.Lanes.{each, each2, zeros_at, packed_at, landed_at, zeros8, packed8, landed8}
 use Rattle.network.proofs.NetworkLaws.{Length, zeros_next, packed_next, landed_next, zeros_start, packed_start, shift_is, shift_length}
 use Rattle.network.proofs.lanes.compress.Statement.{statement}

@@ -1,5 +1,4 @@
 -- `network::lanes::gather` meets its contract. The invariant: the bytes so far. Assumes nothing.
-use denote.Ref.{shr_at}
 use Rattle.std.proofs.Common.{◌≡◌, ℕ, ◌-◌, ◌*◌, ◌/◌, ◌%◌, ◌^◌, ◌<◌, ◌≤◌, sym, refl, ap, ◌∙◌, ap₂, add-one, arith, shl_exact}
 use lib.Bits.{bit_and, bit_or, and_mask, or_shifted_r}
 use Rattle.network.specs.Lanes.{gathered}
@@ -17,14 +16,14 @@ loop-holds : tie.Need-loop-byte-init invariant-loop decreases-loop
 unfolding gathered
 loop-holds c = (omega arith, refl)
 
-mul_at : tie.Need-overflow_mul-at invariant-loop decreases-loop
-mul_at c = omega arith
+mul-at : tie.Need-overflow_mul-at invariant-loop decreases-loop
+mul-at c = omega arith
 
 cast-at : tie.Need-overflow_cast-at invariant-loop decreases-loop
 cast-at c = omega arith
 
-shr_at : tie.Need-overflow_shr-at invariant-loop decreases-loop
-shr_at c = omega arith
+shr-at : tie.Need-overflow_shr-at invariant-loop decreases-loop
+shr-at c = omega arith
 
 shr-result : tie.Need-overflow_shr-result invariant-loop decreases-loop
 shr-result c =
@@ -74,9 +73,9 @@ gather_spec =
     invariant-loop
     decreases-loop
     loop-holds
-    mul_at
+    mul-at
     cast-at
-    shr_at
+    shr-at
     shr-result
     mul-result
     cast-result

@@ -1,5 +1,4 @@
 -- `network::lanes::join` meets its contract. The invariant: the bytes so far. Assumes nothing.
-use denote.Ref.{shr_at}
 use Rattle.std.proofs.Common.{◌≡◌, ℕ, ◌-◌, ◌*◌, ◌/◌, ◌%◌, ◌^◌, ◌≤◌, sym, refl, ap, ◌∙◌, ap₂, add-one, arith}
 use lib.Bits.{bit_or, and_mask}
 use Rattle.network.specs.Lanes.{joined}
@@ -16,14 +15,14 @@ loop-holds : tie.Need-loop-byte-init invariant-loop decreases-loop
 unfolding joined
 loop-holds c = (omega arith, refl)
 
-mul_at : tie.Need-overflow_mul-at invariant-loop decreases-loop
-mul_at c = omega arith
+mul-at : tie.Need-overflow_mul-at invariant-loop decreases-loop
+mul-at c = omega arith
 
 cast-at : tie.Need-overflow_cast-at invariant-loop decreases-loop
 cast-at c = omega arith
 
-shr_at : tie.Need-overflow_shr-at invariant-loop decreases-loop
-shr_at c = omega arith
+shr-at : tie.Need-overflow_shr-at invariant-loop decreases-loop
+shr-at c = omega arith
 
 mul-result : tie.Need-overflow_mul-result invariant-loop decreases-loop
 mul-result c = omega arith
@@ -72,9 +71,9 @@ join_spec =
     invariant-loop
     decreases-loop
     loop-holds
-    mul_at
+    mul-at
     cast-at
-    shr_at
+    shr-at
     mul-result
     cast-result
     shr-result

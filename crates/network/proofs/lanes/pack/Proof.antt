@@ -50,7 +50,7 @@ unfolding move_to
 loop-again c =
     let at = c.before.loop-i in
     let i : ℕ = at.i in
-    let l : List ℕ = c.before.before.args.t2 in
+    let l : List ℕ = c.before.before.args.landed in
     let b : ℕ = c.before.before.args.bits in (
       omega arith,
       ap (λ (k : ℕ). move 64 k (get_or l i 0) at.result) (shift_is i (omega arith)) ∙ ap (move 64 (2 ^ i) (get_or l i 0)) at.invariant.1
@@ -61,7 +61,7 @@ returns : tie.Need-returns invariant-loop decreases-loop
 returns c =
     let at = c.before.loop-i in
     let e : at.i ≡ 3 = omega arith in
-    at.invariant.1 ∙ ap (λ (n : ℕ). move_to 64 c.before.before.args.t2 n c.before.before.args.bits) e
+    at.invariant.1 ∙ ap (λ (n : ℕ). move_to 64 c.before.before.args.landed n c.before.before.args.bits) e
 
 pub pack_spec : {M : Type 1} → statement M
 pack_spec =

@@ -45,7 +45,7 @@ unfolding undo_from
 loop-again c =
     let at = c.before.loop-i in
     let j : ℕ = at.i - 1 in
-    let l : List ℕ = c.before.before.args.t2 in
+    let l : List ℕ = c.before.before.args.landed in
     let e : at.i ≡ suc j = omega arith in (
       omega arith,
       ap (λ (s : ℕ). undo_from 64 l j (bit_or (bit_and at.result (2 ^ 64 - 1 - get_or l j 0)) ((bit_and at.result (get_or l j 0) * 2 ^ s) % 2 ^ 64))) (shift_is j (omega arith))
@@ -57,7 +57,7 @@ unfolding undo_from
 returns c =
     let at = c.before.loop-i in
     let e : at.i ≡ 0 = omega arith in
-    ap (λ (n : ℕ). undo_from 64 c.before.before.args.t2 n at.result) (sym e) ∙ at.invariant.1
+    ap (λ (n : ℕ). undo_from 64 c.before.before.args.landed n at.result) (sym e) ∙ at.invariant.1
 
 pub spread_spec : {M : Type 1} → statement M
 spread_spec =

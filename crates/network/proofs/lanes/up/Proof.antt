@@ -1,6 +1,6 @@
 -- `network::lanes::up` meets its contract: what a shift brings in from the byte below, the mask takes off.
 -- By the law of masked shifts, over the number of bytes. Assumes nothing.
-use Rattle.std.proofs.Common.{ℕ, ◌-◌, ◌*◌, ◌%◌, ◌^◌, ap, ◌∙◌, rules}
+use Rattle.std.proofs.Common.{ℕ, ◌*◌, ◌%◌, ◌^◌, ap, ◌∙◌, rules}
 use lib.Bits.{bit_and}
 use Rattle.network.proofs.NetworkLaws.{up_is}
 use Rattle.network.proofs.ProductLaws.{in_each_lem}

@@ -1,6 +1,6 @@
 -- `places::table::no_other` meets its contract: there is no number below 256 that is none of those below 256.
 -- Assumes nothing.
-use native.Mathlib.Omega.{arith}
+use Rattle.std.proofs.Common.{arith}
 use Rattle.places.proofs.KeyLaws.{none_below}
 use Rattle.places.proofs.table.no_other.Statement.{statement}
 use Rattle.places.proofs.table.no_other.Tie as tie

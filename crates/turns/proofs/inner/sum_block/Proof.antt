@@ -113,7 +113,7 @@ mul-packed-2 : tie.Need-offset_bounds-runs-i-in-loop-i invariant-loop decreases-
 mul-packed-2 c = omega (arith, within c.before)
 
 shared-slice-read-packed-2 : tie.Need-bounds-runs-i-in-loop-i invariant-loop decreases-loop
-shared-slice-read-packed-2 c = omega (arith, within (first c))
+shared-slice-read-packed-2 c = omega (arith, within c.before.before)
 
 packed-requires : tie.Need-packed-one-requires invariant-loop decreases-loop
 packed-requires c κs = search rules
@@ -130,7 +130,7 @@ mul-packed-3 : tie.Need-offset_bounds-runs-half invariant-loop decreases-loop
 mul-packed-3 c = omega (arith, within (turn c))
 
 shared-slice-read-packed-3 : tie.Need-bounds-runs-half invariant-loop decreases-loop
-shared-slice-read-packed-3 c = omega (arith, within (second c))
+shared-slice-read-packed-3 c = omega (arith, within (turn c.before))
 
 add-packed-3 : tie.Need-overflow_add-half-in-loop-i invariant-loop decreases-loop
 add-packed-3 c = omega (arith, within (second c))

@@ -175,7 +175,7 @@ mul-past : tie.Need-offset_bounds-runs-paired-2 invariant-loop decreases-loop
 mul-past c = omega (arith, (single c.before).pair)
 
 shared-slice-read-past : tie.Need-bounds-runs-paired-2 invariant-loop decreases-loop
-shared-slice-read-past c = (single (read c)).pair
+shared-slice-read-past c = (single c.before.before).pair
 
 sub-result : tie.Need-overflow_sub-result invariant-loop decreases-loop
 sub-result c = omega (arith, (single (read c)).some)

@@ -56,7 +56,7 @@ module _ (c : tie.Start invariant-loop decreases-loop) where
   few : length (list_turns list) ≤ 2097152
   few = omega (arith, turns_few list, c.requires.0, list_short c.args.len list c.requires.1)
 
-  room : length (list_turns list) ≤ length c.args.out-1.now
+  room : length (list_turns list) ≤ length c.args.out.now
   room = omega (arith, c.requires.2, ap length all)
 
   below : (i : ℕ) → i < length list → get_or list i 0 < 1048576
@@ -73,7 +73,7 @@ module _ (c : tie.Else-rows-eq0 invariant-loop decreases-loop) where
   turned : length (list_turns (list (start c))) ≡ 1 + length (gaps (first + 1) (drop 1 (list (start c))))
   turned = omega (arith, ap length (turns_first (list (start c)) some))
 
-  one : 0 < length (start c).args.out-1.now
+  one : 0 < length (start c).args.out.now
   one = omega (arith, room (start c), turned)
 
 -- a turn: its entry, and what is left once it is passed
@@ -92,15 +92,15 @@ module _ (c : tie.After-shared_slice_known-in-loop-i-1 invariant-loop decreases-
       let l = (head c).loop-i in
       omega (arith, l.invariant.2, count_next l.k l.past l.i (list at) (omega arith))
 
-  kept : length (head c).loop-i.out-1 ≡ length at.args.out-1.now
-  kept = (head c).loop-i.invariant.1 ∙ length-set at.args.out-1.now 0 (first (begun (head c)))
+  kept : length (head c).loop-i.out ≡ length at.args.out.now
+  kept = (head c).loop-i.invariant.1 ∙ length-set at.args.out.now 0 (first (begun (head c)))
 
 -- ---- the answers
 
 returns : tie.Need-returns-then-rows-eq0 invariant-loop decreases-loop
 returns c =
     let s = c.before.before.before in
-    let out = s.args.out-1.now in
+    let out = s.args.out.now in
     sym (ap (splice 0 out) (all s ∙ turns_none (list s) c.if-rows-eq0.true) ∙ splice_nil 0 out)
 
 shared-slice-read-first : tie.Need-bounds-rows-0 invariant-loop decreases-loop
@@ -143,17 +143,17 @@ module _ (c : tie.After-write_gap-k invariant-loop decreases-loop) where
   here = head (turn c)
 
   abbrev after : List ℕ
-  after = c.write_gap-k.new.1.1.1.0
+  after = c.write_gap-k.new.out
 
   again : splice c.write_gap-k.result after (left (turn c))
-      ≡ splice here.loop-i.k here.loop-i.out-1 (gaps here.loop-i.past (drop here.loop-i.i (list (at (turn c)))))
+      ≡ splice here.loop-i.k here.loop-i.out (gaps here.loop-i.past (drop here.loop-i.i (list (at (turn c)))))
   again =
       let l = here.loop-i in
       ap₂ (λ (j : ℕ) (o : List ℕ). splice j o (left (turn c))) c.write_gap-k.ensures.0 c.write_gap-k.ensures.1
-      ∙ gap_written l.k l.past l.i (list (at (turn c))) l.out-1 (omega arith)
+      ∙ gap_written l.k l.past l.i (list (at (turn c))) l.out (omega arith)
 
-  length_kept : length after ≡ length here.loop-i.out-1
-  length_kept = ap length c.write_gap-k.ensures.1 ∙ splice_length here.loop-i.k here.loop-i.out-1 (between here.loop-i.past (entry (turn c)))
+  length_kept : length after ≡ length here.loop-i.out
+  length_kept = ap length c.write_gap-k.ensures.1 ∙ splice_length here.loop-i.k here.loop-i.out (between here.loop-i.past (entry (turn c)))
 
 loop-again : tie.Need-loop-i-preserved invariant-loop decreases-loop
 loop-again c =
@@ -166,12 +166,12 @@ module _ (c : tie.After-loop-i invariant-loop decreases-loop) where
   abbrev base : tie.Start invariant-loop decreases-loop
   base = start (begun (last c))
 
-  at_end : (last c).loop-i.k < length (last c).loop-i.out-1
+  at_end : (last c).loop-i.k < length (last c).loop-i.out
   at_end =
       let l = (last c).loop-i in
       let b = begun (last c) in
       omega
-      (arith, l.invariant.1, l.invariant.2, ap length (gaps_end l.past l.i (list base) (omega arith)), room base, length-set base.args.out-1.now 0 (first b))
+      (arith, l.invariant.1, l.invariant.2, ap length (gaps_end l.past l.i (list base) (omega arith)), room base, length-set base.args.out.now 0 (first b))
 
 mul-out : tie.Need-offset_bounds-out-k invariant-loop decreases-loop
 mul-out c = omega (arith, few (base c), (last c).loop-i.invariant.2)
@@ -182,14 +182,14 @@ slice-write-out-2 c = at_end c
 same_length : tie.Need-shape_of-out invariant-loop decreases-loop
 same_length c =
     let l = (last c).loop-i in
-    length-set l.out-1 l.k l.past ∙ l.invariant.1 ∙ length-set (base c).args.out-1.now 0 (first (begun (last c)))
+    length-set l.out l.k l.past ∙ l.invariant.1 ∙ length-set (base c).args.out.now 0 (first (begun (last c)))
 
 returns-2 : tie.Need-returns invariant-loop decreases-loop
 returns-2 c =
     let l = (last c).loop-i in
     let b = begun (last c) in
-    let out = (base c).args.out-1.now in
-    end_written l.k l.past l.i (list (base c)) l.out-1 (omega arith)
+    let out = (base c).args.out.now in
+    end_written l.k l.past l.i (list (base c)) l.out (omega arith)
     ∙ l.invariant.3
     ∙ first_written (list (base c)) out (some b) (one b)
     ∙ ap (splice 0 out) (sym (all (base c)))

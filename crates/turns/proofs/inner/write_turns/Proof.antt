@@ -59,13 +59,13 @@ module _ (c : tie.At-loop-row invariant-loop decreases-loop) where
   rows = view (start c).args.start (start c).args.len (start c).args.words.now
 
   abbrev first : List ℕ
-  first = (start c).args.out-1.now
+  first = (start c).args.out.now
 
   long : length rows ≡ (start c).args.len
   long = view_length (start c).args.start (start c).args.len (start c).args.words.now (start c).requires.0.2
 
-  kept : length c.loop-row.out-1 ≡ length first
-  kept = written_kept rows first c.loop-row.row c.loop-row.k c.loop-row.carry c.loop-row.out-1 c.loop-row.invariant.1
+  kept : length c.loop-row.out ≡ length first
+  kept = written_kept rows first c.loop-row.row c.loop-row.k c.loop-row.carry c.loop-row.out c.loop-row.invariant.1
 
 -- a turn's rows, and the word of them
 module _ (c : tie.After-chunk_len-n invariant-loop decreases-loop) where
@@ -106,7 +106,7 @@ module _ (c : tie.After-edge_word-found invariant-loop decreases-loop) where
   more =
       let t = sized (read c) in
       let l = here.loop-row in
-      next_counted (rows here) (first here) (row t) (n t) l.k l.carry (chunk (read c)) c.edge_word-found.result l.out-1 l.invariant.1
+      next_counted (rows here) (first here) (row t) (n t) l.k l.carry (chunk (read c)) c.edge_word-found.result l.out l.invariant.1
       (some t) (short t) (room t) (word (read c)) c.edge_word-found.ensures
 
   fits : here.loop-row.k + numbers ≤ length (first here)
@@ -117,7 +117,7 @@ module _ (c : tie.After-list_chunk-k invariant-loop decreases-loop) where
   at = here (found c)
 
   abbrev after : List ℕ
-  after = c.list_chunk-k.new.1.1.1.0
+  after = c.list_chunk-k.new.out
 
   again : Written (rows at) (first at) (row (sized (read (found c))) + n (sized (read (found c)))) c.list_chunk-k.result
       (chunk (read (found c)) / 2 ^ (n (sized (read (found c))) - 1)) after
@@ -125,7 +125,7 @@ module _ (c : tie.After-list_chunk-k invariant-loop decreases-loop) where
       let e = found c in
       let t = sized (read e) in
       let l = at.loop-row in
-      written_next (rows at) (first at) (row t) (n t) l.k l.carry (chunk (read e)) e.edge_word-found.result l.out-1 l.invariant.1
+      written_next (rows at) (first at) (row t) (n t) l.k l.carry (chunk (read e)) e.edge_word-found.result l.out l.invariant.1
       (some t) (short t) (room t) (word (read e)) e.edge_word-found.ensures
       c.list_chunk-k.result after c.list_chunk-k.ensures.0 c.list_chunk-k.ensures.1
 
@@ -183,7 +183,7 @@ write-end-requires c κs =
     let end : l.row ≡ (start h).args.len = omega (arith, long h, passed c.before) in
     omega (
       arith,
-      end_room (rows h) (first h) l.row l.k l.carry l.out-1 l.invariant.1 (passed c.before),
+      end_room (rows h) (first h) l.row l.k l.carry l.out l.invariant.1 (passed c.before),
       ap (λ (r : ℕ). length (turns (is_one l.carry) r [])) end,
       kept h,
       (start h).requires.1,
@@ -193,7 +193,7 @@ same_length : tie.Need-shape_of-out invariant-loop decreases-loop
 same_length c =
     let w = ended c in
     let h = last w.before in
-    ap length w.write_end.ensures ∙ splice_length h.loop-row.k h.loop-row.out-1 (turns (is_one h.loop-row.carry) (start h).args.len []) ∙ kept h
+    ap length w.write_end.ensures ∙ splice_length h.loop-row.k h.loop-row.out (turns (is_one h.loop-row.carry) (start h).args.len []) ∙ kept h
 
 returns : tie.Need-returns invariant-loop decreases-loop
 returns c =
@@ -203,8 +203,8 @@ returns c =
     let l = h.loop-row in
     let end : (start h).args.len ≡ l.row = omega (arith, long h, passed p) in
     w.write_end.ensures
-    ∙ ap (λ (r : ℕ). splice l.k l.out-1 (turns (is_one l.carry) r [])) end
-    ∙ written_all (rows h) (first h) l.row l.k l.carry l.out-1 l.invariant.1 (passed p)
+    ∙ ap (λ (r : ℕ). splice l.k l.out (turns (is_one l.carry) r [])) end
+    ∙ written_all (rows h) (first h) l.row l.k l.carry l.out l.invariant.1 (passed p)
 
 pub write_turns_spec : {M : Type 1} → statement M
 write_turns_spec =

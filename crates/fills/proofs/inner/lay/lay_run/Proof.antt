@@ -16,33 +16,33 @@ use Rattle.fills.proofs.inner.lay.lay_run.Tie as tie
 abbrev start : tie.After-clear → tie.Start
 start c = c.before.before.before
 
-abbrev cleared : tie.After-fill-arg → tie.After-clear
+abbrev cleared : tie.After-fill-arg-1 → tie.After-clear
 cleared c = c.before.before.before
 
-abbrev filled : tie.After-slice-known3 → tie.After-fill
+abbrev filled : tie.After-slice_known-3-1 → tie.After-fill
 filled c = c.before.before
 
 -- ---- the answers
 
-add-clear : tie.Need-overflow-add-clear
+add-clear : tie.Need-overflow_add-at
 add-clear c = search rules
 
-sub-clear : tie.Need-overflow-sub-clear
+sub-clear : tie.Need-overflow_sub-first
 sub-clear c = search rules
 
 clear-requires : tie.Need-clear-requires
 clear-requires c κs = search rules
 
-add-fill : tie.Need-overflow-add-fill
+add-fill : tie.Need-overflow_add-at-2
 add-fill c = search rules
 
-sub-fill : tie.Need-overflow-sub-fill
+sub-fill : tie.Need-overflow_sub-past
 sub-fill c = search rules
 
 fill-requires : tie.Need-fill-requires
 fill-requires c κs = search rules
 
-same_length : tie.Need-same-length
+same_length : tie.Need-shape_of-out
 same_length c = search rules
 
 returns : tie.Need-returns

@@ -14,57 +14,57 @@ use Rattle.fills.proofs.inner.lay.set_run.Tie as tie
 
 -- ---- the places, each from the one after it
 
-abbrev marked : tie.After-slice-known2 → tie.After-set-bit
+abbrev marked : tie.After-slice_known-then-n-eq1-1 → tie.After-set_bit
 marked c = c.before.before
 
-abbrev start : tie.Then2 → tie.Start
+abbrev start : tie.Then-n-le64 → tie.Start
 start c = c.before.before.before
 
-abbrev written : tie.After-slice-known3 → tie.After-put
+abbrev written : tie.After-slice_known-then-n-le64-1 → tie.After-put
 written c = c.before.before
 
 -- ---- the answers
 
-sub-n : tie.Need-overflow-sub-n
+sub-n : tie.Need-overflow_sub-n
 sub-n c = search rules
 
-add-bit : tie.Need-overflow-add-bit
+add-bit : tie.Need-overflow_add-bit
 add-bit c = search rules
 
-set-bit-requires : tie.Need-set-bit-requires
+set-bit-requires : tie.Need-set_bit-requires
 set-bit-requires c κs = search rules
 
-same_length : tie.Need-same-length
+same_length : tie.Need-shape_of-out-then-n-eq1
 same_length c = search rules
 
-returns : tie.Need-returns
+returns : tie.Need-returns-then-n-eq1
 returns c =
     let m = marked c in
     let one = m.before.before in
     let a = one.before.before.args in
-    m.set-bit.ensures ∙ ap (λ (n : ℕ). laid (a.at + a.first) (replicate n true) a.out.now) (sym one.if1.taken)
+    m.set_bit.ensures ∙ ap (λ (n : ℕ). laid (a.at + a.first) (replicate n true) a.out.now) (sym one.if-n-eq1.true)
 
 put-requires : tie.Need-put-requires
 put-requires c κs = search rules
 
-same-length-2 : tie.Need-same-length-2
+same-length-2 : tie.Need-shape_of-out-then-n-le64
 same-length-2 c = search rules
 
-returns-2 : tie.Need-returns-2
+returns-2 : tie.Need-returns-then-n-le64
 returns-2 c =
     let w = written c in
     let few = w.before.before in
     let a = (start few).args in
     w.put.ensures
-    ∙ ap (λ (l : List Bool). laid (a.at + a.first) l a.out.now) (low_same (a.past - a.first) 64 (2 ^ 64 - 1) true few.if2.taken (ones_bits 64))
+    ∙ ap (λ (l : List Bool). laid (a.at + a.first) l a.out.now) (low_same (a.past - a.first) 64 (2 ^ 64 - 1) true few.if-n-le64.true (ones_bits 64))
 
 fill-requires : tie.Need-fill-requires
 fill-requires c κs = search rules
 
-same-length-3 : tie.Need-same-length-3
+same-length-3 : tie.Need-shape_of-out
 same-length-3 c = search rules
 
-returns-3 : tie.Need-returns-3
+returns-3 : tie.Need-returns
 returns-3 c = search rules
 
 pub set_run_spec : {M : Type 1} → statement M

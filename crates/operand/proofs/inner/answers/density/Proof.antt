@@ -16,23 +16,23 @@ use Rattle.operand.proofs.inner.answers.density.Tie as tie
 small : (k : ℕ) → k ≤ 1048576 → T (leb k (2 ^ 53))
 small k h = le→leb k (2 ^ 53) (omega arith)
 
-returns : tie.Need-returns
+returns : tie.Need-returns-then-length-eq0
 unfolding of_bits density_of
-returns c = sym (chosen (ℕ_discrete c.before.args.length 0) no_density _ c.if1.true)
+returns c = sym (chosen (ℕ_discrete c.before.args.length 0) no_density _ c.if-length-eq0.true)
 
-int-to-float-result : tie.Need-int-to-float-result
+int-to-float-result : tie.Need-int_to_float-result
 unfolding in_float
 int-to-float-result c = search (small, arith)
 
-int-to-float-result-2 : tie.Need-int-to-float-result-2
+int-to-float-result-2 : tie.Need-int_to_float-result-2
 unfolding in_float
 int-to-float-result-2 c = search (small, arith)
 
-returns-2 : tie.Need-returns-2
+returns-2 : tie.Need-returns
 unfolding density_of
 returns-2 c =
     let length = c.before.before.before.args.length in
-    let n : length ≡ 0 → ⊥ = c.before.before.if1.false in
+    let n : length ≡ 0 → ⊥ = c.before.before.if-length-eq0.false in
     quotient _ _ (omega arith) (omega arith) (omega (arith, n)) ∙ sym (passed_over (ℕ_discrete length 0) no_density _ n)
 
 pub density_spec : {M : Type 1} → statement M

@@ -14,12 +14,12 @@ use Rattle.operand.proofs.inner.checks.check_length.Tie as tie
 refuse-requires : tie.Need-refuse-requires
 refuse-requires c κs = search rules
 
-returns : tie.Need-returns
+returns : tie.Need-returns-then-length-gt1048576
 returns c =
     let a = c.before.before.args in
     c.refuse.ensures ∙ sym (first_is (length_checks a.operand a.length) (Refused (refusal 1 a.operand)) (inr (λ h. omega arith, refl)))
 
-returns-2 : tie.Need-returns-2
+returns-2 : tie.Need-returns
 returns-2 c = sym (first_is (length_checks c.before.args.operand c.before.args.length) Fine (inl (omega arith, refl)))
 
 pub check_length_spec : {M : Type 1} → statement M

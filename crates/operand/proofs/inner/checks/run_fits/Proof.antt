@@ -5,17 +5,17 @@ use borrow.Author.Tests.{lt-ltb, le-ltb, le-leb, lt-leb}
 use Rattle.operand.proofs.inner.checks.run_fits.Statement.{statement}
 use Rattle.operand.proofs.inner.checks.run_fits.Tie as tie
 
-returns : tie.Need-returns
+returns : tie.Need-returns-then-first-least
 returns c =
     let a = c.before.args in
     rw (lt-leb a.least a.first (omega arith))
 
-returns-2 : tie.Need-returns-2
+returns-2 : tie.Need-returns-then-past-first
 returns-2 c =
     let a = c.before.before.args in
     rw (le-leb a.least a.first (omega arith), le-ltb a.first a.past (omega arith))
 
-returns-3 : tie.Need-returns-3
+returns-3 : tie.Need-returns
 returns-3 c =
     let a = c.before.before.args in
     rw (le-leb a.least a.first (omega arith), lt-ltb a.first a.past (omega arith))
