@@ -17,7 +17,7 @@ mod reader;
 mod words;
 
 // What a file has cases of.
-#[derive(Drop)]
+#[derive(Clone, Copy)]
 enum Subject {
     Conversions,
     Pairs,
