@@ -1,4 +1,4 @@
-//! Links the static libraries that `rt staticlib host` and `rt staticlib probe` write.
+//! Links the static libraries that `scripts/staticlib host` and `scripts/staticlib probe` write.
 use std::path::{Path, PathBuf};
 use std::{env, process};
 
@@ -18,7 +18,7 @@ fn main() {
 fn link(folder: &Path, name: &str) {
     let library = folder.join(format!("lib{name}.a"));
     if !library.exists() {
-        let why = format!("{} is not there: run `rt staticlib {name}`, or set BOLTAMBER_LIB_DIR", library.display());
+        let why = format!("{} is not there: run `scripts/staticlib {name}`, or set BOLTAMBER_LIB_DIR", library.display());
         println!("cargo::error={why}"); // cargo tells it, and fails
         process::exit(0);
     }

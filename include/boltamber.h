@@ -1,6 +1,6 @@
 /* Boltamber's C library: numbers only. Both functions answer any numbers and end; neither reads or writes memory.
  *
- *   rt staticlib host        writes target/staticlib/libhost.a, x86-64 code, with the two functions below
+ *   scripts/staticlib host        writes target/staticlib/libhost.a, x86-64 code, with the two functions below
  */
 #ifndef BOLTAMBER_H
 #define BOLTAMBER_H

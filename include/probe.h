@@ -1,6 +1,6 @@
 /* Boltamber's entry points as flat C functions, for tests: numbers and slices, and no struct.
  *
- *   rt staticlib probe       writes target/staticlib/libprobe.a, x86-64 code, with the functions below
+ *   scripts/staticlib probe       writes target/staticlib/libprobe.a, x86-64 code, with the functions below
  *
  * A slice is a pointer, aligned for its elements, and then its length in elements. What a call writes (out, ans, den)
  * overlaps no other slice of the same call. Every function answers any numbers, and ends.

@@ -1,4 +1,4 @@
-//! Links the static library that `rt staticlib host` writes.
+//! Links the static library that `scripts/staticlib host` writes.
 use std::path::PathBuf;
 use std::{env, process};
 
@@ -10,7 +10,7 @@ fn main() {
     };
     let library = folder.join("libhost.a");
     if !library.exists() {
-        eprintln!("{} is not there: run `rt staticlib host`, or set BOLTAMBER_LIB_DIR", library.display());
+        eprintln!("{} is not there: run `scripts/staticlib host`, or set BOLTAMBER_LIB_DIR", library.display());
         process::exit(1);
     }
     println!("cargo:rerun-if-changed={}", library.display());

@@ -6,8 +6,8 @@ ghost use Rattle.std.specs.Prelude.{◌≡◌, ◌+◌, ◌≤◌, ◌<◌};
 ghost use Rattle.std.specs.Float.Ieee.{lt};
 ghost use Rattle.rules.specs.Answer.{density_of};
 
-use libc::STDOUT_FILENO;
 use routes::inner::few;
+use std::io;
 
 // How many pairs of a count and a length were compared, and at how many of them the two tests differ.
 #[derive(Drop)]
@@ -91,16 +91,13 @@ fn compare_lengths(factor: u32, bound: f64) -> Tally
     }
 }
 
-fn print_tally(tally: Tally) {
-    io::print_decimal(STDOUT_FILENO, tally.compared);
-    io::write_all(STDOUT_FILENO, b" compared, ");
-    io::print_decimal(STDOUT_FILENO, tally.differing);
-    io::write_all(STDOUT_FILENO, b" differ\n");
+fn print_tally(rt: &impl Print, tally: Tally) -> io::Result<()> {
+    println!(rt; "{} compared, {} differ", tally.compared, tally.differing)
 }
 
-fn main() {
-    io::write_all(STDOUT_FILENO, b"sixteenths: ");
-    print_tally(compare_lengths(16, 1.0 / 16.0));
-    io::write_all(STDOUT_FILENO, b"thirty-seconds: ");
-    print_tally(compare_lengths(32, 1.0 / 32.0));
+fn main(rt: HostRuntime) -> io::Result<()> {
+    print!(rt; "sixteenths: ")?;
+    print_tally(&rt, compare_lengths(16, 1.0 / 16.0))?;
+    print!(rt; "thirty-seconds: ")?;
+    print_tally(&rt, compare_lengths(32, 1.0 / 32.0))
 }

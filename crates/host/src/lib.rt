@@ -1,4 +1,4 @@
-// What the query daemon links, as a C library: numbers only. include/boltamber.h declares both functions.
+// What the query daemon calls: numbers only. The crate host_c exports both functions to C.
 #![tactic(auto)]
 
 ghost use Rattle.std.specs.Prelude.{◌≡◌};
@@ -7,8 +7,7 @@ ghost use Rattle.rows.specs.Lists.{select};
 ghost use Rattle.rows.specs.Pdep.{pdep};
 
 // Deposit by the mask's own count: it never refuses.
-#[unsafe(no_mangle)]
-pub extern "C" fn boltamber_deposit(source: u64, mask: u64) -> u64
+pub fn boltamber_deposit(source: u64, mask: u64) -> u64
     ensures { result ≡ pdep 64 source mask }
 {
     word::inner::deposit_portable(source, mask, u64::count_ones(mask))
@@ -16,8 +15,7 @@ pub extern "C" fn boltamber_deposit(source: u64, mask: u64) -> u64
 
 // The position of the set bit that has the rank, and 64 where refusal 9 holds: the rank is not below the word's set bits.
 // Below 64 the walk over the bytes finds that out, with no count of the whole word.
-#[unsafe(no_mangle)]
-pub extern "C" fn boltamber_select(word: u64, rank: u64) -> u64
+pub fn boltamber_select(word: u64, rank: u64) -> u64
     ensures { result ≡ select (bits_of 64 word) rank }
 {
     if rank > 63 {

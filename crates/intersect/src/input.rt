@@ -1,6 +1,7 @@
-// What a descriptor has, read to its end. A read that fails is not the end: what came before it is not all.
-ghost use Rattle.std.specs.Prelude.{◌≤◌, length};
-ghost use Rattle.io.specs.Counts.{IsPrefixLen};
+// What a reader has, read to its end. A read that fails is not the end: what came before it is not all.
+ghost use Rattle.std.specs.Prelude.{◌≡◌, ◌≤◌, length, take};
+
+use std::io::Read;
 
 // Whether a read failed, and how many bytes there are: none where one did.
 #[derive(Drop)]
@@ -10,24 +11,26 @@ pub struct Got {
 }
 
 // One read. No bytes and no failure are the end.
-fn read_some(fd: i32, out: &mut [u8]) -> Got
+fn read_some<R: Read>(reader: &mut R, out: &mut [u8]) -> Got
     ensures { result.len ≤ length out.new }
 {
-    let got = libc::read(fd, out);
-    let len = io::count(got, out);
-    Got {
-        failed: got < 0,
-        len,
+    match reader.read(out) {
+        Ok(len) => Got { failed: false, len },
+        Err(_) => Got {
+            failed: true,
+            len: 0,
+        },
     }
 }
 
 // Reads until the end, or until out is full: what is longer fills it.
-pub fn read_all(fd: i32, out: &mut [u8]) -> Got
-    ensures { IsPrefixLen result.len out.new }
+pub fn read_all<R: Read>(reader: &mut R, out: &mut [u8]) -> Got
+    ensures in_bounds { result.len ≤ length out.new }
+    ensures prefix { result.len ≡ length (take result.len out.new) }
 {
     let mut done: usize = 0;
     while done < out.len() {
-        let got = read_some(fd, &mut out[done..]);
+        let got = read_some(reader, &mut out[done..]);
         if got.failed {
             return Got {
                 failed: true,

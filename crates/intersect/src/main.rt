@@ -2,19 +2,20 @@
 #![tactic(auto)]
 
 use input::read_all;
-use libc::{STDIN_FILENO, STDOUT_FILENO};
+use std::io;
+use std::io::Write;
 
 mod input;
 
-fn main() {
+fn main(rt: HostRuntime) -> io::Result<()> {
     // one byte more than the longest well formed input has: what is cut off changes nothing (`text_cut`)
     let mut input = [0u8; 16397];
     // a read that fails leaves no bytes, and no bytes are malformed: 13 (`nothing_is_13`)
-    let got = read_all(STDIN_FILENO, &mut input);
+    let got = read_all(&mut rt.stdin(), &mut input);
     let n = got.len;
     // as long as the longest text, so that all of it is written (`always_room`)
     let mut out = [0u8; 8228];
     let written = text::answer(&input[..n], &mut out);
     let len = written.len;
-    io::write_all(STDOUT_FILENO, &out[..len]);
+    io::writer(&rt).write_all(&out[..len])
 }

@@ -1,5 +1,5 @@
-// A flat C boundary over every entry point: numbers and slices, and no struct. include/probe.h declares the functions and says what each
-// cell of an answer means. Each function answers into ans and den, and does nothing at all where one of the two is too short.
+// A flat boundary over every entry point: numbers and slices, and no struct. The crate probe_c exports the functions to C, and include/probe.h
+// says what each cell of an answer means. Each function answers into ans and den, and does nothing at all where one of the two is too short.
 #![tactic(auto)]
 
 ghost use Rattle.std.specs.Prelude.{◌≡◌};
@@ -15,8 +15,7 @@ mod form;
 mod tell;
 
 // Word deposit: by way 0 the choice with the network, by any other the loop form.
-#[unsafe(no_mangle)]
-pub extern "C" fn probe_deposit(
+pub fn probe_deposit(
     way: u64,
     source: u64,
     mask: u64,
@@ -33,8 +32,7 @@ pub extern "C" fn probe_deposit(
 }
 
 // Word select.
-#[unsafe(no_mangle)]
-pub extern "C" fn probe_select(word: u64, rank: u64, ans: &mut [u64], den: &mut [f64])
+pub fn probe_select(word: u64, rank: u64, ans: &mut [u64], den: &mut [f64])
     ensures { answer_cells ans.new den.new ≡ tells (select_told word rank) (answer_cells ans.old den.old) }
 {
     if !ready(ans.len(), den.len()) {
@@ -44,8 +42,7 @@ pub extern "C" fn probe_select(word: u64, rank: u64, ans: &mut [u64], den: &mut 
 }
 
 // Rank read: 64 bits of lent words.
-#[unsafe(no_mangle)]
-pub extern "C" fn probe_rank_read(
+pub fn probe_rank_read(
     words: &[u64],
     start: u64,
     offset: u64,
@@ -61,8 +58,7 @@ pub extern "C" fn probe_rank_read(
 }
 
 // Any form to words.
-#[unsafe(no_mangle)]
-pub extern "C" fn probe_to_words(
+pub fn probe_to_words(
     aform: u64,
     alength: u64,
     astart: u64,
@@ -85,8 +81,7 @@ pub extern "C" fn probe_to_words(
 }
 
 // Any form to a list.
-#[unsafe(no_mangle)]
-pub extern "C" fn probe_to_list(
+pub fn probe_to_list(
     aform: u64,
     alength: u64,
     astart: u64,
@@ -109,8 +104,7 @@ pub extern "C" fn probe_to_list(
 }
 
 // Any form to runs: numbers in pairs, and how many runs they are.
-#[unsafe(no_mangle)]
-pub extern "C" fn probe_to_runs(
+pub fn probe_to_runs(
     aform: u64,
     alength: u64,
     astart: u64,
@@ -133,8 +127,7 @@ pub extern "C" fn probe_to_runs(
 }
 
 // Composition by rank: a is self, and b the rank mask.
-#[unsafe(no_mangle)]
-pub extern "C" fn probe_compose(
+pub fn probe_compose(
     aform: u64,
     alength: u64,
     astart: u64,
@@ -168,8 +161,7 @@ pub extern "C" fn probe_compose(
 }
 
 // A set operation: 0 and, 1 or, 2 and-not, any other number not, which ignores b.
-#[unsafe(no_mangle)]
-pub extern "C" fn probe_set(
+pub fn probe_set(
     which: u64,
     aform: u64,
     alength: u64,
@@ -204,8 +196,7 @@ pub extern "C" fn probe_set(
 }
 
 // One feed of a stream: the state's three numbers go in, and come back in the answer.
-#[unsafe(no_mangle)]
-pub extern "C" fn probe_feed(
+pub fn probe_feed(
     done: u64,
     ranks: u64,
     kept: u64,
@@ -242,8 +233,7 @@ pub extern "C" fn probe_feed(
 }
 
 // Recovery: a is self, and b the mask of the rows that were kept.
-#[unsafe(no_mangle)]
-pub extern "C" fn probe_recover(
+pub fn probe_recover(
     aform: u64,
     alength: u64,
     astart: u64,
@@ -277,8 +267,7 @@ pub extern "C" fn probe_recover(
 }
 
 // One feed of a recovery stream: the state's three numbers go in, and come back in the answer.
-#[unsafe(no_mangle)]
-pub extern "C" fn probe_recover_feed(
+pub fn probe_recover_feed(
     done: u64,
     ranks: u64,
     kept: u64,
@@ -315,8 +304,7 @@ pub extern "C" fn probe_recover_feed(
 }
 
 // The program: its four lines into out, and the answer that they tell.
-#[unsafe(no_mangle)]
-pub extern "C" fn probe_program(input: &[u8], out: &mut [u8], ans: &mut [u64], den: &mut [f64])
+pub fn probe_program(input: &[u8], out: &mut [u8], ans: &mut [u64], den: &mut [f64])
     ensures { memory out.new ans.new den.new
         ≡ does (program_done input.now out.old) (memory out.old ans.old den.old) }
 {

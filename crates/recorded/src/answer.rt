@@ -4,7 +4,7 @@ use super::reader::{Cursor, Number};
 use rules::Answer;
 
 // What differs first in a case, or nothing.
-#[derive(Drop)]
+#[derive(Clone, Copy)]
 pub enum Finding {
     Agrees,
     Malformed,

@@ -11,7 +11,7 @@ use rows::{Rank, Row};
 use rules::{Answer, Form, RecoveryState, State};
 
 // What is fed.
-#[derive(Drop)]
+#[derive(Clone, Copy)]
 pub enum Stream {
     Composition,
     Recovery,

@@ -4,18 +4,20 @@
 
 use answer::{Finding, Outcome, differs};
 use feeds::Stream;
-use libc::STDOUT_FILENO;
 use reader::Cursor;
+use std::rt::Files;
+use std::{fs, io};
 
 mod answer;
 mod conversions;
 mod feeds;
+mod input;
 mod pairs;
 mod reader;
 mod words;
 
 // What a file has cases of.
-#[derive(Drop)]
+#[derive(Clone, Copy)]
 enum Subject {
     Conversions,
     Pairs,
@@ -93,41 +95,34 @@ fn number_of(finding: Finding) -> u64 {
 }
 
 // Cases are counted from 1.
-fn print_tally(tally: Tally) {
+fn print_tally(rt: &impl Print, tally: Tally) -> io::Result<()> {
     let finding = tally.finding;
     if differs(finding) {
-        io::write_all(STDOUT_FILENO, b"case ");
-        io::print_decimal(STDOUT_FILENO, std::num::wrapping_add_u64(tally.agreed, 1));
-        io::write_all(STDOUT_FILENO, b": finding ");
-        io::print_decimal(STDOUT_FILENO, number_of(finding));
-        io::write_all(STDOUT_FILENO, b"\n");
-        return;
+        let case = tally.agreed.wrapping_add(1);
+        return println!(rt; "case {case}: finding {}", number_of(finding));
     }
-    io::print_decimal(STDOUT_FILENO, tally.agreed);
-    io::write_all(STDOUT_FILENO, b" cases, 0 differ\n");
+    println!(rt; "{} cases, 0 differ", tally.agreed)
 }
 
-fn run_file(subject: Subject, name: &[u8]) {
-    let fd = os::open_read(name);
-    if fd < 0 {
-        os::fail(name);
-        return;
-    }
+// A file that cannot be opened is told on standard error, and the others are run all the same.
+fn run_file<R: Files + Print + Eprint>(rt: &R, subject: Subject, name: &str) -> io::Result<()> {
+    let mut opened = match fs::open(rt, name) {
+        Ok(opened) => opened,
+        Err(error) => return eprintln!(rt; "{name}: {error}"),
+    };
     let mut file = [0u8; 500000];
-    let size = io::read_full(fd, &mut file);
-    libc::close(fd);
-    io::write_all(STDOUT_FILENO, name);
-    io::write_all(STDOUT_FILENO, b": ");
-    print_tally(run_all(subject, &file[..size]));
+    let size = input::read_full(&mut opened, &mut file);
+    print!(rt; "{name}: ")?;
+    print_tally(rt, run_all(subject, &file[..size]))
 }
 
-fn main() {
-    run_file(Subject::Conversions, b"conversions");
-    run_file(Subject::Pairs, b"pairs");
-    run_file(Subject::Feeds, b"feeds");
-    run_file(Subject::Pairs, b"recoveries");
-    run_file(Subject::RecoveryFeeds, b"recovery_feeds");
-    run_file(Subject::Pairs, b"rust_pairs");
-    run_file(Subject::Conversions, b"rust_conversions");
-    run_file(Subject::Words, b"rust_words");
+fn main(rt: HostRuntime) -> io::Result<()> {
+    run_file(&rt, Subject::Conversions, "conversions")?;
+    run_file(&rt, Subject::Pairs, "pairs")?;
+    run_file(&rt, Subject::Feeds, "feeds")?;
+    run_file(&rt, Subject::Pairs, "recoveries")?;
+    run_file(&rt, Subject::RecoveryFeeds, "recovery_feeds")?;
+    run_file(&rt, Subject::Pairs, "rust_pairs")?;
+    run_file(&rt, Subject::Conversions, "rust_conversions")?;
+    run_file(&rt, Subject::Words, "rust_words")
 }

@@ -9,7 +9,7 @@ pub mod operands;
 pub mod words;
 
 // Where the reader stands, and whether all that it has read was well formed.
-#[derive(Drop)]
+#[derive(Clone, Copy)]
 pub struct Cursor {
     pub at: usize,
     pub fine: bool,
@@ -22,7 +22,7 @@ pub struct Number {
 }
 
 // The elements first, first + step, first + 2 * step and so on modulo 2^64, `count` of them.
-#[derive(Drop)]
+#[derive(Clone, Copy)]
 pub struct Stretch {
     pub count: u64,
     pub first: u64,

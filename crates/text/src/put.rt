@@ -14,7 +14,9 @@ pub fn put_bytes(bytes: &[u8], at: usize, out: &mut [u8]) -> usize
     requires { at + length bytes.now ≤ length out.old }
     ensures { (result ≡ at + length bytes.now) × (out.new ≡ splice at out.old bytes.now) }
 {
-    at + bytes::copy(bytes, &mut out[at..])
+    let end = at + bytes.len();
+    out[at..end].copy_from_slice(bytes);
+    end
 }
 
 // A number in decimal, which has at most 20 digits.

@@ -4,8 +4,9 @@ ghost use Rattle.std.specs.Prelude.{◌≤◌, length};
 use super::files::{read_answer, read_file};
 use super::output::{MARK, same, untouched};
 use lines::Written;
+use std::rt::Files;
 
-#[derive(Drop)]
+#[derive(Clone, Copy)]
 pub enum Finding {
     Agrees,
     BadName,
@@ -83,18 +84,18 @@ fn hold(input: &[u8], text: &[u8]) -> Finding {
     Finding::Agrees
 }
 
-fn run_named(name: &[u8]) -> Finding
+fn run_named<R: Files>(rt: &R, name: &[u8]) -> Finding
     requires { length name.now ≤ 32 }
 {
     // as many bytes as the program reads
     let mut input = [0u8; 16397];
-    let got = read_file(name, &mut input);
+    let got = read_file(rt, name, &mut input);
     if got.failed {
         return Finding::NoInput;
     }
     // a byte more than the longest text has, so that a longer file differs
     let mut text = [0u8; 8229];
-    let answer = read_answer(name, &mut text);
+    let answer = read_answer(rt, name, &mut text);
     if answer.failed {
         return Finding::NoAnswer;
     }
@@ -103,12 +104,12 @@ fn run_named(name: &[u8]) -> Finding
     hold(&input[..n], &text[..m])
 }
 
-pub fn run_case(name: &[u8]) -> Finding {
+pub fn run_case<R: Files>(rt: &R, name: &[u8]) -> Finding {
     if name.len() == 0 {
         return Finding::BadName;
     }
     if name.len() > 32 {
         return Finding::BadName;
     }
-    run_named(name)
+    run_named(rt, name)
 }

@@ -6,7 +6,9 @@ ghost use Rattle.std.specs.Prelude.{◌≤◌, length};
 
 use case::{Finding, differs, run_case};
 use files::read_file;
-use libc::STDOUT_FILENO;
+use std::io;
+use std::io::Write;
+use std::rt::Files;
 
 mod case;
 mod files;
@@ -35,68 +37,60 @@ fn line_end(table: &[u8], at: usize) -> usize
     i
 }
 
-fn print_finding(name: &[u8], finding: Finding) {
-    io::write_all(STDOUT_FILENO, name);
+fn print_finding(rt: &impl Print, name: &[u8], finding: Finding) -> io::Result<()> {
+    io::writer(rt).write_all(name)?;
     match finding {
-        Finding::Agrees => io::write_all(STDOUT_FILENO, b": agrees\n"),
-        Finding::BadName => io::write_all(STDOUT_FILENO, b": no name of 1 to 32 bytes\n"),
-        Finding::NoInput => io::write_all(STDOUT_FILENO, b": the input cannot be read\n"),
-        Finding::NoAnswer => io::write_all(STDOUT_FILENO, b": the answer cannot be read\n"),
-        Finding::TextDiffers => io::write_all(STDOUT_FILENO, b": the text differs\n"),
-        Finding::EightDiffers => io::write_all(
-            STDOUT_FILENO,
-            b": the answer to a shorter output differs\n",
-        ),
-    };
+        Finding::Agrees => println!(rt; ": agrees"),
+        Finding::BadName => println!(rt; ": no name of 1 to 32 bytes"),
+        Finding::NoInput => println!(rt; ": the input cannot be read"),
+        Finding::NoAnswer => println!(rt; ": the answer cannot be read"),
+        Finding::TextDiffers => println!(rt; ": the text differs"),
+        Finding::EightDiffers => println!(rt; ": the answer to a shorter output differs"),
+    }
 }
 
 // Every name in turn, up to the first whose case differs. A last line without its newline is not taken.
-fn run_all(table: &[u8]) -> Tally {
+fn run_all<R: Files + Print>(rt: &R, table: &[u8]) -> io::Result<Tally> {
     let mut agreed: u64 = 0;
     let mut at: usize = 0;
     while at < table.len() {
         let end = line_end(table, at);
         if end == table.len() {
-            io::write_all(STDOUT_FILENO, b"names: the last line has no end\n");
-            return Tally { agreed, all: false };
+            println!(rt; "names: the last line has no end")?;
+            return Ok(Tally { agreed, all: false });
         }
-        let finding = run_case(&table[at..end]);
+        let finding = run_case(rt, &table[at..end]);
         if differs(finding) {
-            print_finding(&table[at..end], finding);
-            return Tally { agreed, all: false };
+            print_finding(rt, &table[at..end], finding)?;
+            return Ok(Tally { agreed, all: false });
         }
         agreed += 1;
         at = end + 1;
     }
-    Tally { agreed, all: true }
+    Ok(Tally { agreed, all: true })
 }
 
 // A table that fills its room may have been cut, and one without names shows nothing.
-fn run_table(table: &[u8], room: usize) {
+fn run_table<R: Files + Print>(rt: &R, table: &[u8], room: usize) -> io::Result<()> {
     if table.len() == room {
-        io::write_all(STDOUT_FILENO, b"names: too long\n");
-        return;
+        return println!(rt; "names: too long");
     }
-    let tally = run_all(table);
+    let tally = run_all(rt, table)?;
     if !tally.all {
-        return;
+        return Ok(());
     }
     if tally.agreed == 0 {
-        io::write_all(STDOUT_FILENO, b"names: no names\n");
-        return;
+        return println!(rt; "names: no names");
     }
-    io::write_all(STDOUT_FILENO, b"texts: ");
-    io::print_decimal(STDOUT_FILENO, tally.agreed);
-    io::write_all(STDOUT_FILENO, b" cases, 0 differ\n");
+    println!(rt; "texts: {} cases, 0 differ", tally.agreed)
 }
 
-fn main() {
+fn main(rt: HostRuntime) -> io::Result<()> {
     let mut table = [0u8; 4096];
-    let got = read_file(b"names", &mut table);
+    let got = read_file(&rt, b"names", &mut table);
     if got.failed {
-        io::write_all(STDOUT_FILENO, b"names: cannot be read\n");
-        return;
+        return println!(rt; "names: cannot be read");
     }
     let len = got.len;
-    run_table(&table[..len], 4096);
+    run_table(&rt, &table[..len], 4096)
 }

@@ -1,6 +1,6 @@
 -- The lowest set bit of a word, and a word where a bit is set, as laws on numbers.
 -- By the cases of a digit. Assumes nothing.
-use Rattle.std.proofs.Common.{◌≡◌, ℕ, ◌-◌, ◌*◌, ◌%◌, ◌^◌, ◌<◌, ◌⊎◌, sym, ap, ◌∙◌, ⊎_elim, mod-eq_of_lt, eq-zero-or-pos, mul-zero, mul-one, arith}
+use Rattle.std.proofs.Common.{◌≡◌, ℕ, ◌-◌, ◌*◌, ◌%◌, ◌^◌, ◌<◌, sym, ap, ◌∙◌, ⊎_elim, mod-eq_of_lt, eq-zero-or-pos, mul-zero, mul-one, arith}
 use lib.Bits.{bit_and, and_zero_r, and_mask}
 use Rattle.network.specs.Lowest.{lowest_set}
 use Rattle.network.proofs.DigitLaws.{digit}

@@ -2,13 +2,14 @@
 -- it, and the next by those between the two. Each is a law of select on rows, at the bits of a word of any width.
 -- Assumes nothing.
 use Rattle.std.proofs.Common.{◌≡◌, ℕ, zero, suc, ◌+◌, ◌-◌, ◌/◌, ◌%◌, ◌^◌, ◌<◌, ◌≤◌, Bool, List, ◌++◌, sym, refl, ap, ◌∙◌, subst, ap₂, ⊎_elim, le_of_suc-le-suc, arith}
+use Rattle.std.proofs.lemmas.Bool.{cases_lt}
 use lib.Count.{ones, count_trailing_zeros, under}
 use Rattle.rows.specs.Rows.{count}
 use Rattle.rows.specs.Word.{bits_of}
 use Rattle.rows.specs.Lists.{select}
 use Rattle.rows.proofs.RowLaws.{count_append}
 use Rattle.rows.proofs.WordLaws.{bits_of_length, bits_of_add, bits_mod, count_bits_mod}
-use Rattle.rows.proofs.SelectLaws.{select_unset, select_in, select_skip, selects}
+use Rattle.rows.proofs.SelectLaws.{select_unset, select_in, select_none, select_skip, selects}
 use Rattle.network.proofs.DigitLaws.{digit}
 
 -- the rank is past the k low bits
@@ -25,11 +26,11 @@ in_bits k w n r h =
     ap (λ (l : List Bool). select l r) (bits_of_add k w n) ∙ select_in (bits_of k n) (bits_of w (n / 2 ^ k)) r (omega arith)
     ∙ ap (λ (l : List Bool). select l r) (sym (bits_mod k n))
 
--- and the place is one of theirs
-pub in_bits_lt : (k n r : ℕ) → r < ones (n % 2 ^ k) → select (bits_of k (n % 2 ^ k)) r < k
-in_bits_lt k n r h =
-    let c : count (bits_of k n) ≡ ones (n % 2 ^ k) = count_bits_mod k n in
-    omega (arith, (selects (bits_of k n) r (omega arith)).within, bits_of_length k n, ap (λ (l : List Bool). select l r) (bits_mod k n))
+-- at any rank the place is one of theirs or their number
+pub in_bits_le : (k n r : ℕ) → select (bits_of k n) r ≤ k
+in_bits_le k n r =
+    ⊎_elim (λ (held : r < count (bits_of k n)). omega (arith, (selects (bits_of k n) r held).within, bits_of_length k n))
+    (λ (past : count (bits_of k n) ≤ r). omega (arith, select_none (bits_of k n) r past, bits_of_length k n)) (cases_lt r (count (bits_of k n)))
 
 -- the first set bit stands above the zeros below it
 pub select_first : (w n : ℕ) → select (bits_of w n) 0 ≡ count_trailing_zeros w n

@@ -36,47 +36,47 @@ result s = map not (rows_of (operand s))
 abbrev left : tie.Start → List ℕ
 left s = written (length_of s.args.a) (result s) (out s)
 
-abbrev start : tie.After-judge-one → tie.Start
+abbrev start : tie.After-judge_one → tie.Start
 start c = c.before.before.before.before
 
-judge-one-requires : tie.Need-judge-one-requires
+judge-one-requires : tie.Need-judge_one-requires
 judge-one-requires c κs = search rules
 
-enum-known-refusal : tie.Need-enum-known-refusal
+enum-known-refusal : tie.Need-enum_known-refusal
 enum-known-refusal c = search rules
 
 refused-requires : tie.Need-refused-requires
 refused-requires c κs = search rules
 
-enum_told : tie.Need-enum-told
+enum_told : tie.Need-enum_told-1
 enum_told c = search rules
 
 answer-requires : tie.Need-answer-requires
 answer-requires c κs =
-    let judged = c.before.before.before in
+    let judged = c.before.before in
     let s = start judged in
-    let t = (one_fine (operand s) (length (out s))).0 (sym judged.judge-one.ensures ∙ c.before.enum_told.given.1) in
+    let t = (one_fine (operand s) (length (out s))).0 (sym judged.judge_one.ensures ∙ c.before.in-Fine.is) in
     let flat = taken_flat (operand s) t.0 in
     ((flat, flat, refl), t.1)
 
-returns : tie.Need-returns
+returns : tie.Need-returns-in-Refused
 unfolding negated negated_out
 returns c =
-    let judged = c.before.before.before.before in
+    let judged = c.before.before in
     let s = start judged in
-    let p = by_refusal (verdict s) (result s) no_route (left s) (out s) _ (sym judged.judge-one.ensures ∙ c.before.before.refusal.given.1) in
+    let p = by_refusal (verdict s) (result s) no_route (left s) (out s) _ (sym judged.judge_one.ensures ∙ c.before.in-Refused.is) in
     (c.refused.ensures ∙ p.0, p.1)
 
-same_length : tie.Need-same-length
+same_length : tie.Need-shape_of-out
 same_length c = search rules
 
-returns-2 : tie.Need-returns-2
+returns-2 : tie.Need-returns-in-Fine
 unfolding negated negated_out
 returns-2 c =
     let gave = c.before.before in
-    let judged = gave.before.before.before.before in
+    let judged = gave.before.before.before in
     let s = start judged in
-    let fine = sym judged.judge-one.ensures ∙ gave.before.before.enum_told.given.1 in
+    let fine = sym judged.judge_one.ensures ∙ gave.before.before.in-Fine.is in
     let t = (one_fine (operand s) (length (out s))).0 fine in
     let same = flat_not (operand s) t.0 in
     let p = by_fine (verdict s) (result s) no_route (left s) (out s) fine in (

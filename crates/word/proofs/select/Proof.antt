@@ -20,46 +20,46 @@ module _ (s : tie.Start) where
   few = ones-le 64 s.args.word s.ranges.word.fits
 
   counted : count (bits_of 64 s.args.word) ≡ ones s.args.word
-  counted = count_bits 64 s.args.word s.fits.word.fits
+  counted = count_bits 64 s.args.word s.ranges.word.fits
 
-cast-if1 : tie.Need-overflow-cast-if1
+cast-if1 : tie.Need-overflow_cast-word
 cast-if1 c = omega (arith, few c)
 
 refusal-requires : tie.Need-refusal-requires
 refusal-requires c κs = search rules
 
-select-answer-requires : tie.Need-select-answer-requires
+select-answer-requires : tie.Need-select_answer-requires
 select-answer-requires c κs = search rules
 
-returns : tie.Need-returns
+returns : tie.Need-returns-then-rank-word
 returns c =
     let s = c.before.before.before in
-    let past = c.before.before.if1 in
-    c.select-answer.ensures ∙ ap (λ (x : Refusal). select_answer x 0) c.before.refusal.ensures
+    let past = c.before.before.if-rank-word in
+    c.select_answer.ensures ∙ ap (λ (x : Refusal). select_answer x 0) c.before.refusal.ensures
     ∙ sym (select_refused s.args.word s.args.rank (λ h. omega (arith, counted s, past)))
 
-cast-select-bit-position : tie.Need-overflow-cast-select-bit-position
-cast-select-bit-position c = let below = c.if1 in omega (arith, few c.before, below)
+cast-select-bit-position : tie.Need-overflow_cast-rank
+cast-select-bit-position c = let below = c.if-rank-word in omega (arith, few c.before, below)
 
-select-bit-position-requires : tie.Need-select-bit-position-requires
+select-bit-position-requires : tie.Need-select_bit_position-position-requires
 select-bit-position-requires c κs = search rules
 
-cast-position : tie.Need-overflow-cast-position
+cast-position : tie.Need-overflow_cast-position
 cast-position c = search rules
 
-no-refusal-requires : tie.Need-no-refusal-requires
+no-refusal-requires : tie.Need-no_refusal-requires
 no-refusal-requires c κs = search rules
 
-select-answer-requires-2 : tie.Need-select-answer-requires-2
+select-answer-requires-2 : tie.Need-select_answer-requires-2
 select-answer-requires-2 c κs = search rules
 
-returns-2 : tie.Need-returns-2
+returns-2 : tie.Need-returns
 unfolding selected
 returns-2 c =
     let s = c.before.before.before.before in
-    let below = c.before.before.before.if1 in
+    let below = c.before.before.before.if-rank-word in
     let n : ℕ = s.args.word in
-    c.select-answer2.ensures ∙ ap₂ select_answer c.before.no-refusal.ensures c.before.before.select-bit-position.ensures
+    c.select_answer-2.ensures ∙ ap₂ select_answer c.before.no_refusal.ensures c.before.before.select_bit_position-position.ensures
     ∙ sym (ap (λ (v : Verdict). selected_by v (select (bits_of 64 n) s.args.rank)) (alone_fine (dec_lt s.args.rank (count (bits_of 64 n))) 9 0 (omega (arith, counted s, below))))
 
 pub select_spec : {M : Type 1} → statement M

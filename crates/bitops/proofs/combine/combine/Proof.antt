@@ -39,46 +39,46 @@ result s = combination (row_of s.args.op) (first_operand s) (second_operand s)
 abbrev left : tie.Start → List ℕ
 left s = written (length_of s.args.a) (result s) (out s)
 
-abbrev start : tie.After-judge-two → tie.Start
+abbrev start : tie.After-judge_two → tie.Start
 start c = c.before.before.before.before.before.before
 
-judge-two-requires : tie.Need-judge-two-requires
+judge-two-requires : tie.Need-judge_two-requires
 judge-two-requires c κs = search rules
 
-enum-known-refusal : tie.Need-enum-known-refusal
+enum-known-refusal : tie.Need-enum_known-refusal
 enum-known-refusal c = search rules
 
 refused-requires : tie.Need-refused-requires
 refused-requires c κs = search rules
 
-enum_told : tie.Need-enum-told
+enum_told : tie.Need-enum_told-1
 enum_told c = search rules
 
 answer-requires : tie.Need-answer-requires
 answer-requires c κs =
-    let judged = c.before.before.before in
+    let judged = c.before.before in
     let s = start judged in
-    let t = (pair_fine (first_operand s) (second_operand s) (length (out s))).0 (sym judged.judge-two.ensures ∙ c.before.enum_told.given.1) in
+    let t = (pair_fine (first_operand s) (second_operand s) (length (out s))).0 (sym judged.judge_two.ensures ∙ c.before.in-Fine.is) in
     ((taken_flat (first_operand s) t.0, taken_flat (second_operand s) t.1, t.2), t.3)
 
-returns : tie.Need-returns
+returns : tie.Need-returns-in-Refused
 unfolding combined combined_out
 returns c =
-    let judged = c.before.before.before.before in
+    let judged = c.before.before in
     let s = start judged in
-    let p = by_refusal (verdict s) (result s) no_route (left s) (out s) _ (sym judged.judge-two.ensures ∙ c.before.before.refusal.given.1) in
+    let p = by_refusal (verdict s) (result s) no_route (left s) (out s) _ (sym judged.judge_two.ensures ∙ c.before.in-Refused.is) in
     (c.refused.ensures ∙ p.0, p.1)
 
-same_length : tie.Need-same-length
+same_length : tie.Need-shape_of-out
 same_length c = search rules
 
-returns-2 : tie.Need-returns-2
+returns-2 : tie.Need-returns-in-Fine
 unfolding combined combined_out
 returns-2 c =
     let gave = c.before.before in
-    let judged = gave.before.before.before.before in
+    let judged = gave.before.before.before in
     let s = start judged in
-    let fine = sym judged.judge-two.ensures ∙ gave.before.before.enum_told.given.1 in
+    let fine = sym judged.judge_two.ensures ∙ gave.before.before.in-Fine.is in
     let t = (pair_fine (first_operand s) (second_operand s) (length (out s))).0 fine in
     let same = flat_combination (row_of s.args.op) (first_operand s) (second_operand s) t.0 t.1 in
     let p = by_fine (verdict s) (result s) no_route (left s) (out s) fine in (

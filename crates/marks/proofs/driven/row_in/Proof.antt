@@ -18,14 +18,14 @@ use Rattle.marks.proofs.driven.row_in.Tie as tie
 
 -- ---- the places, each from the one after it
 
-abbrev start : tie.After-struct-known2 → tie.Start
+abbrev start : tie.After-struct_known-2-1 → tie.Start
 start c = c.before.before.before
 
-abbrev read : tie.After-bit-in → tie.After-self-chunk
+abbrev read : tie.After-bit_in-bit → tie.After-self_chunk
 read c = c.before
 
-abbrev asked : tie.After-bit-in → tie.Start
-asked c = start (read c).before
+abbrev asked : tie.After-bit_in-bit → tie.Start
+asked c = start (read c).before.before
 
 -- ---- what is known of the place
 
@@ -40,44 +40,44 @@ module _ (s : tie.Start) where
   within : s.args.place.done.0 < s.args.len
   within =
       let a = s.args in
-      omega (arith, place_in v a.place a.rank s.pre.1, view_length a.start a.len a.words.now s.pre.0.2)
+      omega (arith, place_in v a.place a.rank s.requires.1, view_length a.start a.len a.words.now s.requires.0.2)
 
   held : left < count (chunk_at v s.args.place.done.0)
-  held = left_in v s.args.place s.args.rank s.pre.1
+  held = left_in v s.args.place s.args.rank s.requires.1
 
 -- ---- the answers
 
-sub-left : tie.Need-overflow-sub-left
+sub-left : tie.Need-overflow_sub-left
 sub-left c = search rules
 
-cast-left : tie.Need-overflow-cast-left
+cast-left : tie.Need-overflow_cast-left
 cast-left c =
     let s = start c in
     omega (arith, held s, chunk_few (v s) s.args.place.done.0)
 
-self-chunk-requires : tie.Need-self-chunk-requires
-self-chunk-requires c κs = ((start c).requires.0.2, within (start c))
+self-chunk-requires : tie.Need-self_chunk-requires
+self-chunk-requires c κs = ((start c.before).requires.0.2, within (start c.before))
 
-bit-in-requires : tie.Need-bit-in-requires
+bit-in-requires : tie.Need-bit_in-bit-requires
 bit-in-requires c κs =
-    let s = start c.before in
-    omega (arith, held s, chunk_count (v s) s.args.place.done.0 c.self-chunk.result c.self-chunk.ensures)
+    let s = start c.before.before in
+    omega (arith, held s, chunk_count (v s) s.args.place.done.0 c.self_chunk.result c.self_chunk.ensures)
 
-cast-t8 : tie.Need-overflow-cast-t8
+cast-t8 : tie.Need-overflow_cast-result
 cast-t8 c = search rules
 
-add-t9 : tie.Need-overflow-add-t9
+add-t9 : tie.Need-overflow_add-result
 add-t9 c =
     let s = asked c.before in
-    omega (arith, within s, s.pre.0.0, c.before.bit_in.type-inv)
+    omega (arith, within s, s.requires.0.0, c.before.bit_in-bit.type_inv)
 
 returns : tie.Need-returns
 returns c =
     let k = c.before in
     let s = asked k in
     let a = s.args in
-    ap (λ (x : ℕ). a.place.done.0 + x) (k.bit_in.ensures ∙ ap (λ (x : ℕ). select (bits_of 64 x) (left s)) (read k).self-chunk.ensures)
-    ∙ sym (row_of (v s) a.place a.rank s.pre.1)
+    ap (λ (x : ℕ). a.place.done.0 + x) (k.bit_in-bit.ensures ∙ ap (λ (x : ℕ). select (bits_of 64 x) (left s)) (read k).self_chunk.ensures)
+    ∙ sym (row_of (v s) a.place a.rank s.requires.1)
 
 pub row_in_spec : {M : Type 1} → statement M
 row_in_spec =

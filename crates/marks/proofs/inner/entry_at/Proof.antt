@@ -14,7 +14,7 @@ use Rattle.marks.proofs.inner.entry_at.Tie as tie
 
 -- ---- runs of one row each
 
-module _ (c : tie.Then1) where
+module _ (c : tie.Then-single) where
   abbrev rank : ℕ
   rank = c.before.args.rank.0
 
@@ -22,49 +22,49 @@ module _ (c : tie.Then1) where
   numbers = c.before.args.rows.now
 
   ranked : rank < length (firsts numbers)
-  ranked = rw c.if1.true at c.before.requires
+  ranked = rw c.if-single.true at c.before.requires
 
   there : rank * 2 + 1 < length numbers
   there = omega (arith, ranked, firsts_length numbers)
 
-mul-first : tie.Need-overflow-mul-first
+mul-first : tie.Need-overflow_mul-first
 mul-first c = search (rules, there c)
 
-mul-first-2 : tie.Need-overflow-mul-first-2
+mul-first-2 : tie.Need-offset_bounds-rows-at
 mul-first-2 c = search (rules, there c)
 
-shared-slice-read-first : tie.Need-shared-slice-read-first
+shared-slice-read-first : tie.Need-bounds-rows-at
 shared-slice-read-first c = omega (arith, there c.before)
 
-cast-first : tie.Need-overflow-cast-first
-cast-first c = omega (arith, c.shared-slice-known.given (rank c.before * 2))
+cast-first : tie.Need-overflow_cast-first
+cast-first c = omega (arith, c.shared_slice_known-1.given (rank c.before * 2))
 
-returns : tie.Need-returns
+returns : tie.Need-returns-then-single
 returns c =
     let t = c.before in
     let a = t.before.args in
-    sym (ap (λ (b : Bool). get_or (entries b a.rows.now) a.rank.0 0) t.if1.true ∙ firsts_at (numbers t) (rank t) (ranked t))
+    sym (ap (λ (b : Bool). get_or (entries b a.rows.now) a.rank.0 0) t.if-single.true ∙ firsts_at (numbers t) (rank t) (ranked t))
 
 -- ---- a list
 
-module _ (c : tie.Else1) where
+module _ (c : tie.Else-single) where
   listed_there : c.before.args.rank.0 < length c.before.args.rows.now
-  listed_there = rw c.if1.false at c.before.requires
+  listed_there = rw c.if-single.false at c.before.requires
 
-mul-entry : tie.Need-overflow-mul-entry
+mul-entry : tie.Need-offset_bounds-rows-at-2
 mul-entry c = omega (arith, listed_there c)
 
-shared-slice-read-entry : tie.Need-shared-slice-read-entry
+shared-slice-read-entry : tie.Need-bounds-rows-at-2
 shared-slice-read-entry c = listed_there c.before
 
-cast-entry : tie.Need-overflow-cast-entry
-cast-entry c = omega (arith, c.shared-slice-known2.given c.before.before.args.rank.0)
+cast-entry : tie.Need-overflow_cast-entry
+cast-entry c = omega (arith, c.shared_slice_known-2-1.given c.before.before.args.rank.0)
 
-returns-2 : tie.Need-returns-2
+returns-2 : tie.Need-returns
 returns-2 c =
     let e = c.before in
     let a = e.before.args in
-    sym (ap (λ (b : Bool). get_or (entries b a.rows.now) a.rank.0 0) e.if1.false)
+    sym (ap (λ (b : Bool). get_or (entries b a.rows.now) a.rank.0 0) e.if-single.false)
 
 pub entry_at_spec : {M : Type 1} → statement M
 entry_at_spec =

@@ -16,16 +16,16 @@ use Rattle.marks.proofs.inner.lay_driven_by_list.Tie as tie
 
 -- ---- the places, each from the one after it
 
-abbrev lent : tie.After-slice-known → tie.Start
+abbrev lent : tie.After-slice_known-1 → tie.Start
 lent c = c.before.before.before
 
-abbrev entry : tie.After-clear-arg → tie.Start
+abbrev entry : tie.After-clear-arg-1 → tie.Start
 entry c = lent c.before
 
-abbrev cleared : tie.After-intersect-mask-driven-list-arg → tie.After-clear
+abbrev cleared : tie.After-intersect_mask_driven_list-arg-1 → tie.After-clear
 cleared c = c.before.before.before
 
-abbrev ended : tie.After-slice-known3 → tie.After-intersect-mask-driven-list
+abbrev ended : tie.After-slice_known-3-1 → tie.After-intersect_mask_driven_list
 ended c = c.before.before
 
 -- ---- the answers
@@ -33,14 +33,14 @@ ended c = c.before.before
 clear-requires : tie.Need-clear-requires
 clear-requires c κs = (entry c).requires.2
 
-intersect-mask-driven-list-requires : tie.Need-intersect-mask-driven-list-requires
+intersect-mask-driven-list-requires : tie.Need-intersect_mask_driven_list-requires
 intersect-mask-driven-list-requires c κs =
     let k = cleared c in
     let s = entry k.before in
     let long = rw laid_length at (ap length k.clear.ensures) in
-    (s.pre.0, s.pre.1, (omega (arith, s.pre.2.0, long), s.pre.2.1))
+    (s.requires.0, s.requires.1, (omega (arith, s.requires.2.0, long), s.requires.2.1))
 
-same_length : tie.Need-same-length
+same_length : tie.Need-shape_of-out
 same_length c = search rules
 
 returns : tie.Need-returns
@@ -51,8 +51,8 @@ returns c =
     let a = s.args in
     let self = view a.start a.len a.words.now in
     let rank = listed (count self) a.ranks.now in
-    e.intersect-mask-driven-list.ensures ∙ ap (marked a.at (set_rows 0 (compose self rank))) k.clear.ensures
-    ∙ marked_compose a.at a.len self rank a.out.now (view_length a.start a.len a.words.now s.pre.0.2)
+    e.intersect_mask_driven_list.ensures ∙ ap (marked a.at (set_rows 0 (compose self rank))) k.clear.ensures
+    ∙ marked_compose a.at a.len self rank a.out.now (view_length a.start a.len a.words.now s.requires.0.2)
 
 pub lay_driven_by_list_spec : {M : Type 1} → statement M
 lay_driven_by_list_spec =

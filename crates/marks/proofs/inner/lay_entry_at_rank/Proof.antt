@@ -16,16 +16,16 @@ use Rattle.marks.proofs.inner.lay_entry_at_rank.Tie as tie
 
 -- ---- the places, each from the one after it
 
-abbrev lent : tie.After-slice-known → tie.Start
+abbrev lent : tie.After-slice_known-1 → tie.Start
 lent c = c.before.before.before
 
-abbrev entry : tie.After-clear-arg → tie.Start
+abbrev entry : tie.After-clear-arg-1 → tie.Start
 entry c = lent c.before
 
-abbrev cleared : tie.After-intersect-by-rank-indices-arg → tie.After-clear
+abbrev cleared : tie.After-intersect_by_rank_indices-arg-1 → tie.After-clear
 cleared c = c.before.before.before
 
-abbrev ended : tie.After-slice-known3 → tie.After-intersect-by-rank-indices
+abbrev ended : tie.After-slice_known-3-1 → tie.After-intersect_by_rank_indices
 ended c = c.before.before
 
 -- ---- the answers
@@ -33,14 +33,14 @@ ended c = c.before.before
 clear-requires : tie.Need-clear-requires
 clear-requires c κs = (entry c).requires.2
 
-intersect-by-rank-indices-requires : tie.Need-intersect-by-rank-indices-requires
+intersect-by-rank-indices-requires : tie.Need-intersect_by_rank_indices-requires
 intersect-by-rank-indices-requires c κs =
     let k = cleared c in
     let s = entry k.before in
     let long = rw laid_length at (ap length k.clear.ensures) in
-    (s.pre.0, s.pre.1, (omega (arith, s.pre.2.0, long), s.pre.2.1))
+    (s.requires.0, s.requires.1, (omega (arith, s.requires.2.0, long), s.requires.2.1))
 
-same_length : tie.Need-same-length
+same_length : tie.Need-shape_of-out
 same_length c = search rules
 
 returns : tie.Need-returns
@@ -52,7 +52,7 @@ returns c =
     let rows = entries a.single a.rows.now in
     let self = listed a.len rows in
     let rank = listed (length rows) a.ranks.now in
-    e.intersect-by-rank-indices.ensures ∙ ap (marked a.at (set_rows 0 (compose self rank))) k.clear.ensures
+    e.intersect_by_rank_indices.ensures ∙ ap (marked a.at (set_rows 0 (compose self rank))) k.clear.ensures
     ∙ marked_compose a.at a.len self rank a.out.now (tab_length 0 a.len (λ i. member i rows))
 
 pub lay_entry_at_rank_spec : {M : Type 1} → statement M

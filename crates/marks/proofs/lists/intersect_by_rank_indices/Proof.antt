@@ -19,35 +19,35 @@ use borrow.Author.Rules.{rules}
 use Rattle.marks.proofs.lists.intersect_by_rank_indices.Statement.{statement}
 use Rattle.marks.proofs.lists.intersect_by_rank_indices.Tie as tie
 
-abbrev invariant-loop : tie.invariant-loop
+abbrev invariant-loop : tie.invariant-loop-i
 invariant-loop numbers single ranks len at out₀ i₀ out i =
     (i ≤ length ranks) × (length out ≡ length out₀)
     × (out ≡ marked at (take i (set_rows 0 (compose (listed len (entries single numbers)) (listed (length (entries single numbers)) ranks)))) out₀)
 
-abbrev decreases-loop : tie.decreases-loop
+abbrev decreases-loop : tie.decreases-loop-i
 decreases-loop numbers single ranks len at out₀ i₀ out i = length ranks - i
 
 -- ---- the places, each from the one after it
 
-abbrev entry : tie.After-slice-known invariant-loop decreases-loop → tie.Start invariant-loop decreases-loop
+abbrev entry : tie.After-slice_known-1 invariant-loop decreases-loop → tie.Start invariant-loop decreases-loop
 entry c = c.before.before.before
 
-abbrev head : tie.After-shared-slice-known3 invariant-loop decreases-loop → tie.At-loop invariant-loop decreases-loop
+abbrev head : tie.After-shared_slice_known-in-loop-i-1 invariant-loop decreases-loop → tie.At-loop-i invariant-loop decreases-loop
 head c = c.before.before
 
-abbrev start : tie.After-shared-slice-known3 invariant-loop decreases-loop → tie.Start invariant-loop decreases-loop
+abbrev start : tie.After-shared_slice_known-in-loop-i-1 invariant-loop decreases-loop → tie.Start invariant-loop decreases-loop
 start c = entry (head c).before
 
-abbrev turn : tie.After-entry-at invariant-loop decreases-loop → tie.After-shared-slice-known3 invariant-loop decreases-loop
+abbrev turn : tie.After-entry_at-row invariant-loop decreases-loop → tie.After-shared_slice_known-in-loop-i-1 invariant-loop decreases-loop
 turn c = c.before
 
-abbrev found : tie.After-mark-row invariant-loop decreases-loop → tie.After-entry-at invariant-loop decreases-loop
+abbrev found : tie.After-mark_row invariant-loop decreases-loop → tie.After-entry_at-row invariant-loop decreases-loop
 found c = c.before.before
 
-abbrev back : tie.After-slice-known2 invariant-loop decreases-loop → tie.After-mark-row invariant-loop decreases-loop
+abbrev back : tie.After-slice_known-in-loop-i-1 invariant-loop decreases-loop → tie.After-mark_row invariant-loop decreases-loop
 back c = c.before.before
 
-abbrev last : tie.After-loop invariant-loop decreases-loop → tie.At-loop invariant-loop decreases-loop
+abbrev last : tie.After-loop-i invariant-loop decreases-loop → tie.At-loop-i invariant-loop decreases-loop
 last c = c.before
 
 -- ---- the rows of the composition, one for each listed rank
@@ -67,9 +67,9 @@ module _ (c : tie.Start invariant-loop decreases-loop) where
 
 -- ---- a turn: the listed rank is one of self's, and its entry is the composition's row
 
-module _ (c : tie.After-shared-slice-known3 invariant-loop decreases-loop) where
+module _ (c : tie.After-shared_slice_known-in-loop-i-1 invariant-loop decreases-loop) where
   abbrev i : ℕ
-  i = (head c).loop.i
+  i = (head c).loop-i.i
 
   abbrev rank : ℕ
   rank = get_or (ranks (start c)) i 0
@@ -89,58 +89,58 @@ module _ (c : tie.After-shared-slice-known3 invariant-loop decreases-loop) where
 
 -- ---- the answers
 
-loop-holds : tie.Need-loop-init invariant-loop decreases-loop
+loop-holds : tie.Need-loop-i-init invariant-loop decreases-loop
 loop-holds c = (omega arith, refl, refl)
 
-mul-entry : tie.Need-overflow-mul-entry invariant-loop decreases-loop
+mul-entry : tie.Need-offset_bounds-ranks-i invariant-loop decreases-loop
 mul-entry c = omega arith
 
-shared-slice-read-entry : tie.Need-shared-slice-read-entry invariant-loop decreases-loop
+shared-slice-read-entry : tie.Need-bounds-ranks-i invariant-loop decreases-loop
 shared-slice-read-entry c = omega arith
 
-cast-entry : tie.Need-overflow-cast-entry invariant-loop decreases-loop
-cast-entry c = omega (arith, c.shared-slice-known3.given (i c))
+cast-entry : tie.Need-overflow_cast-entry invariant-loop decreases-loop
+cast-entry c = omega (arith, c.shared_slice_known-in-loop-i-1.given (i c))
 
-entry-at-requires : tie.Need-entry-at-requires invariant-loop decreases-loop
+entry-at-requires : tie.Need-entry_at-row-requires invariant-loop decreases-loop
 entry-at-requires c κs = ranked c
 
-mark-row-requires : tie.Need-mark-row-requires invariant-loop decreases-loop
+mark-row-requires : tie.Need-mark_row-requires invariant-loop decreases-loop
 mark-row-requires c κs =
     let e = c.before in
     let k = turn e in
-    let room = (start k).pre.2 in
-    (omega (arith, row k, e.entry_at.ensures, room.0, (head k).loop.inv.1), omega (arith, row k, e.entry_at.ensures, room.1))
+    let room = (start k).requires.2 in
+    (omega (arith, row k, e.entry_at-row.ensures, room.0, (head k).loop-i.invariant.1), omega (arith, row k, e.entry_at-row.ensures, room.1))
 
-add-i : tie.Need-overflow-add-i invariant-loop decreases-loop
+add-i : tie.Need-overflow_add-i invariant-loop decreases-loop
 add-i c = omega arith
 
-loop-less : tie.Need-loop-smaller invariant-loop decreases-loop
+loop-less : tie.Need-loop-i-smaller invariant-loop decreases-loop
 loop-less c = omega arith
 
-loop-again : tie.Need-loop-preserved invariant-loop decreases-loop
+loop-again : tie.Need-loop-i-preserved invariant-loop decreases-loop
 loop-again c =
     let m = back c in
     let e = found m in
     let k = turn e in
     let s = start k in
     let a = s.args in
-    let l = (head k).loop in (
+    let l = (head k).loop-i in (
       omega arith,
-      ap length m.mark-row.ensures ∙ laid_length 64 (a.at + e.entry_at.result.0) (true ∷ []) l.out ∙ l.inv.1,
-      m.mark-row.ensures
-          ∙ ap₂ (λ (x : ℕ) (o : List ℕ). laid (a.at + x) (true ∷ []) o) (e.entry_at.ensures ∙ sym (composed k)) l.inv.2
+      ap length m.mark_row.ensures ∙ laid_length 64 (a.at + e.entry_at-row.result.0) (true ∷ []) l.out ∙ l.invariant.1,
+      m.mark_row.ensures
+          ∙ ap₂ (λ (x : ℕ) (o : List ℕ). laid (a.at + x) (true ∷ []) o) (e.entry_at-row.ensures ∙ sym (composed k)) l.invariant.2
           ∙ marked_next a.at l.i (result s) a.out.now (omega (arith, long s))
           ∙ ap (λ (j : ℕ). marked a.at (take j (result s)) a.out.now) (sym (add-one l.i)),
     )
 
-same_length : tie.Need-same-length invariant-loop decreases-loop
+same_length : tie.Need-shape_of-out invariant-loop decreases-loop
 same_length c = search rules
 
 returns : tie.Need-returns invariant-loop decreases-loop
 returns c =
-    let l = (last c).loop in
+    let l = (last c).loop-i in
     let s = entry (last c).before in
-    l.inv.2 ∙ ap (λ (rs : List ℕ). marked s.args.at rs s.args.out.now) (take_all l.i (result s) (omega (arith, long s)))
+    l.invariant.2 ∙ ap (λ (rs : List ℕ). marked s.args.at rs s.args.out.now) (take_all l.i (result s) (omega (arith, long s)))
 
 pub intersect_by_rank_indices_spec : {M : Type 1} → statement M
 intersect_by_rank_indices_spec =

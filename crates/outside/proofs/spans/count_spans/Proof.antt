@@ -10,13 +10,13 @@ use Rattle.outside.proofs.SpanLaws.{doubled_length}
 use Rattle.outside.proofs.spans.count_spans.Statement.{statement}
 use Rattle.outside.proofs.spans.count_spans.Tie as tie
 
-returns : tie.Need-returns
-returns c = ap (λ (b : Bool). length (spans b c.before.args.rows.now) / 2) (sym c.if1.true)
+returns : tie.Need-returns-then-runs
+returns c = ap (λ (b : Bool). length (spans b c.before.args.rows.now) / 2) (sym c.if-runs.true)
 
-returns-2 : tie.Need-returns-2
+returns-2 : tie.Need-returns
 returns-2 c =
     let rows = c.before.args.rows.now in
-    omega (arith, doubled_length rows, ap (λ (b : Bool). length (spans b rows)) c.if1.false)
+    omega (arith, doubled_length rows, ap (λ (b : Bool). length (spans b rows)) c.if-runs.false)
 
 pub count_spans_spec : {M : Type 1} → statement M
 count_spans_spec = tie.close (tie.spec returns returns-2)

@@ -9,29 +9,29 @@ use Rattle.outside.proofs.spans.next_held.Statement.{statement}
 use Rattle.outside.proofs.spans.next_held.Tie as tie
 
 -- ---- what is known where the walk stands
-module _ (c : tie.After-stand) where
+module _ (c : tie.After-stand-place) where
   abbrev a : tie.Start
   a = c.before.before
 
   abbrev all : List ℕ
   all = spans a.args.runs a.args.rows.now
 
-  came : Come all a.args.len c.stand.result.next a.args.row
-  came = c.stand.ensures.0
+  came : Come all a.args.len c.stand-place.result.next a.args.row
+  came = c.stand-place.ensures.0
 
-  stands : Stands all a.args.len a.args.row c.stand.result.span.first c.stand.result.span.past
-  stands = c.stand.ensures.1
+  stands : Stands all a.args.len a.args.row c.stand-place.result.span.first c.stand-place.result.span.past
+  stands = c.stand-place.ensures.1
 
-stand-requires : tie.Need-stand-requires
+stand-requires : tie.Need-stand-place-requires
 stand-requires c κs = search rules
 
-returns : tie.Need-returns
-returns c = let s = c.before in (came s, stands_in (all s) _ _ _ _ (stands s) c.if1.true (a s).requires.1)
+returns : tie.Need-returns-then-first-row
+returns c = let s = c.before in (came s, stands_in (all s) _ _ _ _ (stands s) c.if-first-row.true (a s).requires.1)
 
-returns-2 : tie.Need-returns-2
+returns-2 : tie.Need-returns
 returns-2 c =
     let s = c.before in
-    let t = stands_after (all s) _ _ _ _ (stands s) c.if1.false in
+    let t = stands_after (all s) _ _ _ _ (stands s) c.if-first-row.false in
     (come_later (all s) _ _ _ _ t.on (came s), t)
 
 pub next_held_spec : {M : Type 1} → statement M

@@ -10,78 +10,78 @@ use Rattle.outside.proofs.SpanLaws.{come_next, come_stands, come_none}
 use Rattle.outside.proofs.spans.stand.Statement.{statement}
 use Rattle.outside.proofs.spans.stand.Tie as tie
 
-abbrev invariant-loop : tie.invariant-loop
+abbrev invariant-loop : tie.invariant-loop-i
 invariant-loop rows runs len next row n i₀ i = Come (spans runs rows) len i row
 
-abbrev decreases-loop : tie.decreases-loop
+abbrev decreases-loop : tie.decreases-loop-i
 decreases-loop rows runs len next row n i₀ i = n - i
 
 -- ---- the places, each from the one after it
-abbrev head : tie.In-loop invariant-loop decreases-loop → tie.At-loop invariant-loop decreases-loop
+abbrev head : tie.In-loop-i invariant-loop decreases-loop → tie.At-loop-i invariant-loop decreases-loop
 head c = c.before
 
-abbrev start : tie.At-loop invariant-loop decreases-loop → tie.Start invariant-loop decreases-loop
+abbrev start : tie.At-loop-i invariant-loop decreases-loop → tie.Start invariant-loop decreases-loop
 start c = c.before.before.before
 
-abbrev turn : tie.After-struct-known invariant-loop decreases-loop → tie.In-loop invariant-loop decreases-loop
+abbrev turn : tie.After-struct_known-1 invariant-loop decreases-loop → tie.In-loop-i invariant-loop decreases-loop
 turn c = c.before.before
 
 -- ---- the spans, and the one of a turn
 abbrev all : tie.Start invariant-loop decreases-loop → List ℕ
 all c = spans c.args.runs c.args.rows.now
 
-some : (c : tie.In-loop invariant-loop decreases-loop) → (head c).loop.i < length (all (start (head c))) / 2
-some c = omega (arith, (head c).before.count-spans.ensures)
+some : (c : tie.In-loop-i invariant-loop decreases-loop) → (head c).loop-i.i < length (all (start (head c))) / 2
+some c = omega (arith, (head c).before.count_spans-n.ensures)
 
-module _ (c : tie.After-struct-known invariant-loop decreases-loop) where
+module _ (c : tie.After-struct_known-1 invariant-loop decreases-loop) where
   abbrev s : tie.Start invariant-loop decreases-loop
   s = start (head (turn c))
 
   abbrev i : ℕ
-  i = (head (turn c)).loop.i
+  i = (head (turn c)).loop-i.i
 
   abbrev span : ℕ → ℕ
   span k = get_or (all s) k 0
 
   came : Come (all s) s.args.len i s.args.row
-  came = (head (turn c)).loop.inv
+  came = (head (turn c)).loop-i.invariant
 
   -- it is passed, or the walk stands at it
-  passed_or_held : (c.before.span-at.result.past ≤ s.args.row → Come (all s) s.args.len (i + 1) s.args.row)
-      × (s.args.row < c.before.span-at.result.past
-      → Stands (all s) s.args.len s.args.row c.before.span-at.result.first c.before.span-at.result.past)
+  passed_or_held : (c.before.span_at-span.result.past ≤ s.args.row → Come (all s) s.args.len (i + 1) s.args.row)
+      × (s.args.row < c.before.span_at-span.result.past
+      → Stands (all s) s.args.len s.args.row c.before.span_at-span.result.first c.before.span_at-span.result.past)
   passed_or_held =
-      let e = c.before.span-at.ensures in (
+      let e = c.before.span_at-span.ensures in (
         come_next (all s) s.args.len i s.args.row _ _ (some (turn c)) e.0 e.1 came,
         come_stands (all s) s.args.len i s.args.row _ _ (some (turn c)) e.0 e.1 came,
       )
 
-count-spans-requires : tie.Need-count-spans-requires invariant-loop decreases-loop
+count-spans-requires : tie.Need-count_spans-n-requires invariant-loop decreases-loop
 count-spans-requires c κs = search rules
 
-loop-holds : tie.Need-loop-init invariant-loop decreases-loop
+loop-holds : tie.Need-loop-i-init invariant-loop decreases-loop
 loop-holds c = c.before.before.requires
 
-span-at-requires : tie.Need-span-at-requires invariant-loop decreases-loop
+span-at-requires : tie.Need-span_at-span-requires invariant-loop decreases-loop
 span-at-requires c κs = some c
 
-returns : tie.Need-returns invariant-loop decreases-loop
-returns c = (came c.before, (passed_or_held c.before).1 c.if1.true)
+returns : tie.Need-returns-then-row-span invariant-loop decreases-loop
+returns c = (came c.before, (passed_or_held c.before).1 c.if-row-span.true)
 
-add-i : tie.Need-overflow-add-i invariant-loop decreases-loop
+add-i : tie.Need-overflow_add-i invariant-loop decreases-loop
 add-i c = omega arith
 
-loop-less : tie.Need-loop-smaller invariant-loop decreases-loop
+loop-less : tie.Need-loop-i-smaller invariant-loop decreases-loop
 loop-less c = omega arith
 
-loop-again : tie.Need-loop-preserved invariant-loop decreases-loop
-loop-again c = (passed_or_held c.before).0 c.if1.false
+loop-again : tie.Need-loop-i-preserved invariant-loop decreases-loop
+loop-again c = (passed_or_held c.before).0 c.if-row-span.false
 
-returns-2 : tie.Need-returns-2 invariant-loop decreases-loop
+returns-2 : tie.Need-returns invariant-loop decreases-loop
 returns-2 c =
     let s = start c.before in
-    let none : length (all s) / 2 ≤ c.before.loop.i = omega (arith, c.before.before.count-spans.ensures) in
-    (c.before.loop.invariant, come_none (all s) s.args.len c.before.loop.i s.args.row none c.before.loop.invariant)
+    let none : length (all s) / 2 ≤ c.before.loop-i.i = omega (arith, c.before.before.count_spans-n.ensures) in
+    (c.before.loop-i.invariant, come_none (all s) s.args.len c.before.loop-i.i s.args.row none c.before.loop-i.invariant)
 
 pub stand_spec : {M : Type 1} → statement M
 stand_spec =

@@ -20,29 +20,29 @@ use Rattle.outside.proofs.walks.leap.Tie as tie
 abbrev rows : Form → List ℕ → List ℕ → List Bool
 rows f ws es = rows_of (lent f ws es)
 
-abbrev invariant-loop : tie.invariant-loop
+abbrev invariant-loop : tie.invariant-loop-row
 invariant-loop s swords srows k kwords krows len snext₀ knext₀ row₀ snext knext row =
     (row ≤ len) × Walks s swords srows snext row × Walks k kwords krows knext row
     × Clear (has (outside (rows s swords srows) (rows k kwords krows))) 0 row
 
-abbrev decreases-loop : tie.decreases-loop
+abbrev decreases-loop : tie.decreases-loop-row
 decreases-loop s swords srows k kwords krows len snext₀ knext₀ row₀ snext knext row = len - row
 
 -- ---- the places, each from the one after it
-abbrev entry : tie.After-shared-slice-known3 invariant-loop decreases-loop → tie.Start invariant-loop decreases-loop
+abbrev entry : tie.After-shared_slice_known-3-1 invariant-loop decreases-loop → tie.Start invariant-loop decreases-loop
 entry c = c.before.before.before
 
-abbrev start : tie.At-loop invariant-loop decreases-loop → tie.Start invariant-loop decreases-loop
+abbrev start : tie.At-loop-row invariant-loop decreases-loop → tie.Start invariant-loop decreases-loop
 start c = entry c.before.before.before
 
-abbrev head : tie.After-next-set invariant-loop decreases-loop → tie.At-loop invariant-loop decreases-loop
+abbrev head : tie.After-next_set-set invariant-loop decreases-loop → tie.At-loop-row invariant-loop decreases-loop
 head c = c.before.before
 
-abbrev stood : tie.After-reach invariant-loop decreases-loop → tie.After-next-set invariant-loop decreases-loop
+abbrev stood : tie.After-reach-full invariant-loop decreases-loop → tie.After-next_set-set invariant-loop decreases-loop
 stood c = c.before.before
 
 -- ---- both masks, and the length
-module _ (c : tie.At-loop invariant-loop decreases-loop) where
+module _ (c : tie.At-loop-row invariant-loop decreases-loop) where
   abbrev a : tie.Start invariant-loop decreases-loop
   a = start c
 
@@ -55,88 +55,88 @@ module _ (c : tie.At-loop invariant-loop decreases-loop) where
   abbrev len : ℕ
   len = length_of a.args.k
 
-  measured : c.before.length-of.result ≡ len
-  measured = c.before.length-of.ensures
+  measured : c.before.length_of-len.result ≡ len
+  measured = c.before.length_of-len.ensures
 
 -- ---- a turn: the second mask's next row, and how far self has all from there on
-module _ (c : tie.After-next-set invariant-loop decreases-loop) where
+module _ (c : tie.After-next_set-set invariant-loop decreases-loop) where
   abbrev here : ℕ
-  here = c.next-set.result.row
+  here = c.next_set-set.result.row
 
-  next : First (has (K (head c))) (head c).loop.row (len (head c)) here
-  next = c.next-set.ensures.1
+  next : First (has (K (head c))) (head c).loop-row.row (len (head c)) here
+  next = c.next_set-set.ensures.1
 
-  behind : Clear (has (outside (S (head c)) (K (head c)))) 0 (head c).loop.row
-  behind = (head c).loop.invariant.3
+  behind : Clear (has (outside (S (head c)) (K (head c)))) 0 (head c).loop-row.row
+  behind = (head c).loop-row.invariant.3
 
-module _ (c : tie.After-reach invariant-loop decreases-loop) where
-  abbrev h : tie.At-loop invariant-loop decreases-loop
+module _ (c : tie.After-reach-full invariant-loop decreases-loop) where
+  abbrev h : tie.At-loop-row invariant-loop decreases-loop
   h = head (stood c)
 
   abbrev there : ℕ
-  there = c.reach.result.row
+  there = c.reach-full.result.row
 
   full : Reach (has (S h)) (here (stood c)) (length_of (a h).args.s) there
-  full = c.reach.ensures.1
+  full = c.reach-full.ensures.1
 
   ends : there ≤ len h
-  ends = omega (arith, full.within, (a h).pre.2)
+  ends = omega (arith, full.within, (a h).requires.2)
 
 -- ---- the answers
-length-of-requires : tie.Need-length-of-requires invariant-loop decreases-loop
+length-of-requires : tie.Need-length_of-len-requires invariant-loop decreases-loop
 length-of-requires c κs = search rules
 
-loop-holds : tie.Need-loop-init invariant-loop decreases-loop
-loop-holds c = let p = (entry c.before.before).pre in (omega arith, p.0, p.1, clear_none _ 0)
+loop-holds : tie.Need-loop-row-init invariant-loop decreases-loop
+loop-holds c = let p = (entry c.before.before).requires in (omega arith, p.0, p.1, clear_none _ 0)
 
-next-set-requires : tie.Need-next-set-requires invariant-loop decreases-loop
-next-set-requires c κs = let i = c.before.loop.invariant in (i.2, omega (arith, i.0, measured c.before))
+next-set-requires : tie.Need-next_set-set-requires invariant-loop decreases-loop
+next-set-requires c κs = let i = c.before.loop-row.invariant in (i.2, omega (arith, i.0, measured c.before))
 
-returns : tie.Need-returns invariant-loop decreases-loop
+returns : tie.Need-returns-then-here-len invariant-loop decreases-loop
 returns c =
     let s = c.before in
     let t = head s in
     subst (λ (r : ℕ). First (has (outside (S t) (K t))) 0 (len t) r) (sym (measured t))
-    (leap_none (S t) (K t) t.loop.row (here s) (len t) (behind s) (next s) (c.if1.true ∙ measured t))
+    (leap_none (S t) (K t) t.loop-row.row (here s) (len t) (behind s) (next s) (c.if-here-len.true ∙ measured t))
 
-reach-requires : tie.Need-reach-requires invariant-loop decreases-loop
+reach-requires : tie.Need-reach-full-requires invariant-loop decreases-loop
 reach-requires c κs =
     let s = c.before in
     let t = head s in (
-      walks_later (a t).args.s (a t).args.swords.now (a t).args.srows.now t.loop.snext t.loop.row (here s) (next s).on t.loop.inv.1,
-      omega (arith, (next s).within, c.if1.false, measured t, (a t).pre.2),
+      walks_later (a t).args.s (a t).args.swords.now (a t).args.srows.now t.loop-row.snext t.loop-row.row (here s) (next s).on t.loop-row.invariant.1,
+      omega (arith, (next s).within, c.if-here-len.false, measured t, (a t).requires.2),
     )
 
-returns-2 : tie.Need-returns-2 invariant-loop decreases-loop
+returns-2 : tie.Need-returns-then-there-here invariant-loop decreases-loop
 returns-2 c =
     let s = stood c.before in
     let t = head s in
-    leap_found (S t) (K t) t.loop.row (here s) (len t) (behind s) (next s)
-    (omega (arith, (next s).within, c.before.before.if1.false, measured t))
-    ((full c.before).stuck c.if2.true)
+    leap_found (S t) (K t) t.loop-row.row (here s) (len t) (behind s) (next s)
+    (omega (arith, (next s).within, c.before.before.if-here-len.false, measured t))
+    ((full c.before).stuck c.if-there-here.true)
 
-loop-less : tie.Need-loop-smaller invariant-loop decreases-loop
+loop-less : tie.Need-loop-row-smaller invariant-loop decreases-loop
 loop-less c =
     let s = stood c.before in
-    omega (arith, (next s).on, (full c.before).on, c.if2.false, ends c.before, measured (head s))
+    omega (arith, (next s).on, (full c.before).on, c.if-there-here.false, ends c.before, measured (head s))
 
-loop-again : tie.Need-loop-preserved invariant-loop decreases-loop
+loop-again : tie.Need-loop-row-preserved invariant-loop decreases-loop
 loop-again c =
     let r = c.before in
     let s = stood r in
     let t = head s in (
       omega (arith, ends r, measured t),
-      r.reach.ensures.0,
-      walks_later (a t).args.k (a t).args.kwords.now (a t).args.krows.now _ (here s) (there r) (full r).on s.next-set.ensures.0,
-      leap_on (S t) (K t) t.loop.row (here s) (len t) (behind s) (next s) (length_of (a t).args.s) (there r) (full r),
+      r.reach-full.ensures.0,
+      walks_later (a t).args.k (a t).args.kwords.now (a t).args.krows.now _ (here s) (there r) (full r).on s.next_set-set.ensures.0,
+      leap_on (S t) (K t) t.loop-row.row (here s) (len t) (behind s) (next s) (length_of (a t).args.s) (there r) (full r),
     )
 
-returns-3 : tie.Need-returns-3 invariant-loop decreases-loop
+returns-3 : tie.Need-returns invariant-loop decreases-loop
 returns-3 c =
     let t = c.before in
-    let i = t.loop.invariant in
+    let i = t.loop-row.invariant in
     subst (λ (r : ℕ). First (has (outside (S t) (K t))) 0 (len t) r) (sym (measured t))
-    (first_none (has (outside (S t) (K t))) 0 (len t) (omega arith) (λ k h l. i.3 k h (omega (arith, measured t, c.loop-test.false))))
+    (first_none (has (outside (S t) (K t))) 0 (len t) (omega arith) (λ k h l. i.3 k h (omega (arith, measured t, c.loop-row-test.false))))
 
 pub leap_spec : {M : Type 1} → statement M
 leap_spec =

@@ -16,17 +16,17 @@ use Rattle.outside.proofs.words.first_in_words.Statement.{statement}
 use Rattle.outside.proofs.words.first_in_words.Tie as tie
 
 -- ---- the places, each from the one after it
-abbrev start : tie.After-first-in-whole → tie.Start
+abbrev start : tie.After-first_in_whole-found → tie.Start
 start c = c.before.before.before
 
-abbrev left : tie.After-chunk2 → tie.Else2
+abbrev left : tie.After-chunk-2 → tie.Else-row-len
 left c = c.before.before
 
-abbrev whole : tie.After-chunk2 → tie.After-first-in-whole
+abbrev whole : tie.After-chunk-2 → tie.After-first_in_whole-found
 whole c = (left c).before.before
 
 -- ---- behind the whole words
-module _ (c : tie.After-first-in-whole) where
+module _ (c : tie.After-first_in_whole-found) where
   abbrev len : ℕ
   len = (start c).args.len
 
@@ -36,23 +36,23 @@ module _ (c : tie.After-first-in-whole) where
   abbrev f : ℕ → Bool
   f = has (outside (view (start c).args.sstart len (start c).args.swords.now) (view (start c).args.kstart len (start c).args.kwords.now))
 
-  first : First f 0 row c.first-in-whole.result
-  first = c.first-in-whole.ensures
+  first : First f 0 row c.first_in_whole-found.result
+  first = c.first_in_whole-found.ensures
 
   -- none of theirs
-  behind : row ≤ c.first-in-whole.result → Clear f 0 row
+  behind : row ≤ c.first_in_whole-found.result → Clear f 0 row
   behind h i k l = first.clear i k (omega arith)
 
 -- ---- the chunk
-module _ (c : tie.After-chunk2) where
-  abbrev w : tie.After-first-in-whole
+module _ (c : tie.After-chunk-2) where
+  abbrev w : tie.After-first_in_whole-found
   w = whole c
 
   abbrev n : ℕ
   n = len w - row w
 
   abbrev word : ℕ
-  word = bit_and c.before.chunk.result (2 ^ 64 - 1 - c.chunk2.result)
+  word = bit_and c.before.chunk.result (2 ^ 64 - 1 - c.chunk-2.result)
 
   few : n ≤ 64
   few = omega arith
@@ -62,28 +62,28 @@ module _ (c : tie.After-chunk2) where
 
   shown : Shown (f w) (row w) n word
   shown =
-      shown_as (f w) (row w) n _ word (ap₂ (λ (x y : ℕ). bit_and x (2 ^ 64 - 1 - y)) c.before.chunk.ensures c.chunk2.ensures)
+      shown_as (f w) (row w) n _ word (ap₂ (λ (x y : ℕ). bit_and x (2 ^ 64 - 1 - y)) c.before.chunk.ensures c.chunk-2.ensures)
       (outside_shown (start w).args.sstart (start w).args.kstart (len w) (row w) n (start w).args.swords.now (start w).args.kwords.now few ends)
 
   clear : Clear (f w) 0 (row w)
   clear = behind w (omega arith)
 
 -- ---- the answers
-mul-row : tie.Need-overflow-mul-row
+mul-row : tie.Need-overflow_mul-row
 mul-row c = search rules
 
-first-in-whole-requires : tie.Need-first-in-whole-requires
+first-in-whole-requires : tie.Need-first_in_whole-found-requires
 first-in-whole-requires c κs = search rules
 
-returns : tie.Need-returns
-returns c = first_wider (f c.before) 0 (row c.before) (len c.before) _ c.if1.true (omega arith) (first c.before)
+returns : tie.Need-returns-then-found-row
+returns c = first_wider (f c.before) 0 (row c.before) (len c.before) _ c.if-found-row.true (omega arith) (first c.before)
 
-returns-2 : tie.Need-returns-2
+returns-2 : tie.Need-returns-then-row-len
 returns-2 c =
     let w = c.before.before in
-    first_none (f w) 0 (len w) (omega arith) (λ i h l. behind w c.before.if1.false i h (omega arith))
+    first_none (f w) 0 (len w) (omega arith) (λ i h l. behind w c.before.if-found-row.false i h (omega arith))
 
-sub-n : tie.Need-overflow-sub-n
+sub-n : tie.Need-overflow_sub-n
 sub-n c = search rules
 
 chunk-requires : tie.Need-chunk-requires
@@ -92,20 +92,20 @@ chunk-requires c κs = search rules
 chunk-requires-2 : tie.Need-chunk-requires-2
 chunk-requires-2 c κs = search rules
 
-returns-3 : tie.Need-returns-3
+returns-3 : tie.Need-returns-then-bits-eq0
 returns-3 c =
     let t = c.before in
     let w = whole t in
     first_none (f w) 0 (len w) (omega arith)
-    (λ i h l. none_behind (f w) (row w) (n t) (word t) (few t) (shown t) 0 (len w) (omega arith) (ends t) (clear t) c.if3.true i h (omega arith))
+    (λ i h l. none_behind (f w) (row w) (n t) (word t) (few t) (shown t) 0 (len w) (omega arith) (ends t) (clear t) c.if-bits-eq0.true i h (omega arith))
 
-cast-result : tie.Need-overflow-cast-result
+cast-result : tie.Need-overflow_cast-result
 cast-result c = omega (arith, trailing_le 64 (word c.before))
 
-add-result : tie.Need-overflow-add-result
+add-result : tie.Need-overflow_add-result
 add-result c = omega (arith, trailing_le 64 (word c.before), (start (whole c.before)).requires)
 
-returns-4 : tie.Need-returns-4
+returns-4 : tie.Need-returns
 returns-4 c =
     let t = c.before in
     let w = whole t in

@@ -6,7 +6,7 @@ use borrow.Author.Rules.{rules}
 use Rattle.routes.proofs.inner.few.Statement.{statement}
 use Rattle.routes.proofs.inner.few.Tie as tie
 
-mul-result : tie.Need-overflow-mul-result
+mul-result : tie.Need-overflow_mul-result
 mul-result c =
     let a = c.args in
     omega (arith, mul-le-mul_right {m = a.factor} {n = 4294967296} a.count (omega arith))

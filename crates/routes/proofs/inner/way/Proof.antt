@@ -8,23 +8,23 @@ use borrow.Author.Rules.{rules}
 use Rattle.routes.proofs.inner.way.Statement.{statement}
 use Rattle.routes.proofs.inner.way.Tie as tie
 
-length-of-requires : tie.Need-length-of-requires
+length-of-requires : tie.Need-length_of-requires
 length-of-requires c κs = search rules
 
 few-requires : tie.Need-few-requires
 few-requires c κs = search rules
 
-returns : tie.Need-returns
+returns : tie.Need-returns-then-few
 returns c =
     let f = c.before in
     let a = f.before.before.args in
-    sym (picked _ _ (sym (f.few.ensures ∙ ap (ltb (a.factors.sparse * a.s.count)) f.before.length-of.ensures) ∙ c.if1.true))
+    sym (picked _ _ (sym (f.few.ensures ∙ ap (ltb (a.factors.sparse * a.s.count)) f.before.length_of.ensures) ∙ c.if-few.true))
 
-returns-2 : tie.Need-returns-2
+returns-2 : tie.Need-returns
 returns-2 c =
     let f = c.before in
     let a = f.before.before.args in
-    sym (passed _ _ (sym (f.few.ensures ∙ ap (ltb (a.factors.sparse * a.s.count)) f.before.length-of.ensures) ∙ c.if1.false))
+    sym (passed _ _ (sym (f.few.ensures ∙ ap (ltb (a.factors.sparse * a.s.count)) f.before.length_of.ensures) ∙ c.if-few.false))
 
 pub way_spec : {M : Type 1} → statement M
 way_spec = tie.close (tie.spec length-of-requires few-requires returns returns-2)

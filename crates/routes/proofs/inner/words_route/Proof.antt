@@ -9,43 +9,43 @@ use borrow.Author.Rules.{rules}
 use Rattle.routes.proofs.inner.words_route.Statement.{statement}
 use Rattle.routes.proofs.inner.words_route.Tie as tie
 
-length-of-requires : tie.Need-length-of-requires
+length-of-requires : tie.Need-length_of-requires
 length-of-requires c κs = search rules
 
 few-requires : tie.Need-few-requires
 few-requires c κs = search rules
 
-returns : tie.Need-returns
+returns : tie.Need-returns-then-few
 returns c =
     let f = c.before in
     let a = f.before.before.args in
-    sym (picked _ _ (sym (f.few.ensures ∙ ap (ltb (a.factors.driven * a.r.count)) f.before.length-of.ensures) ∙ c.if1.true))
+    sym (picked _ _ (sym (f.few.ensures ∙ ap (ltb (a.factors.driven * a.r.count)) f.before.length_of.ensures) ∙ c.if-few.true))
 
-way-requires : tie.Need-way-requires
+way-requires : tie.Need-way-deposit-requires
 way-requires c κs = search rules
 
-counts-as-list-requires : tie.Need-counts-as-list-requires
+counts-as-list-requires : tie.Need-counts_as_list-requires
 counts-as-list-requires c κs = search rules
 
-returns-2 : tie.Need-returns-2
+returns-2 : tie.Need-returns-then-counts_as_list
 returns-2 c =
     let w = c.before.before in
     let f = w.before.before in
     let a = f.before.before.args in
-    ap Gathered w.way.ensures
+    ap Gathered w.way-deposit.ensures
     ∙ sym
-    (passed _ _ (sym (f.few.ensures ∙ ap (ltb (a.factors.driven * a.r.count)) f.before.length-of.ensures) ∙ w.before.if1.false)
-    ∙ picked _ _ (sym c.before.counts-as-list.ensures ∙ c.if2.true))
+    (passed _ _ (sym (f.few.ensures ∙ ap (ltb (a.factors.driven * a.r.count)) f.before.length_of.ensures) ∙ w.before.if-few.false)
+    ∙ picked _ _ (sym c.before.counts_as_list.ensures ∙ c.if-counts_as_list.true))
 
-returns-3 : tie.Need-returns-3
+returns-3 : tie.Need-returns
 returns-3 c =
     let w = c.before.before in
     let f = w.before.before in
     let a = f.before.before.args in
-    ap Read w.way.ensures
+    ap Read w.way-deposit.ensures
     ∙ sym
-    (passed _ _ (sym (f.few.ensures ∙ ap (ltb (a.factors.driven * a.r.count)) f.before.length-of.ensures) ∙ w.before.if1.false)
-    ∙ passed _ _ (sym c.before.counts-as-list.ensures ∙ c.if2.false))
+    (passed _ _ (sym (f.few.ensures ∙ ap (ltb (a.factors.driven * a.r.count)) f.before.length_of.ensures) ∙ w.before.if-few.false)
+    ∙ passed _ _ (sym c.before.counts_as_list.ensures ∙ c.if-counts_as_list.false))
 
 pub words_route_spec : {M : Type 1} → statement M
 words_route_spec =

@@ -18,13 +18,13 @@ use borrow.Author.Rules.{rules}
 
 -- ---- the places, each from the one after it: a statement more in the code changes one of these and no answer
 
-abbrev entry : tie.After-slice-known → tie.Start
+abbrev entry : tie.After-slice_known-1 → tie.Start
 entry c = c.before.before.before
 
-abbrev start : tie.After-write → tie.Start
+abbrev start : tie.After-write-count → tie.Start
 start c = entry c.before.before
 
-abbrev wrote : tie.After-length-of → tie.After-write
+abbrev wrote : tie.After-length_of → tie.After-write-count
 wrote c = c.before.before.before
 
 -- ---- the operands, and the rows of the result
@@ -40,33 +40,33 @@ module _ (s : tie.Start) where
   rows = combination (row_of s.args.op) first_operand second_operand
 
   long : length rows ≡ length_of s.args.a
-  long = result_length _ first_operand second_operand s.pre.0
+  long = result_length _ first_operand second_operand s.requires.0
 
   limited : length_of s.args.a ≤ limit
-  limited = flat_limit first_operand s.pre.0.0
+  limited = flat_limit first_operand s.requires.0.0
 
 -- ---- the answers
 
-write-requires : tie.Need-write-requires
+write-requires : tie.Need-write-count-requires
 write-requires c κs = search rules
 
-length-of-requires : tie.Need-length-of-requires
+length-of-requires : tie.Need-length_of-requires
 length-of-requires c κs = search rules
 
 accepted-requires : tie.Need-accepted-requires
 accepted-requires c κs =
     let s = start (wrote c) in
-    (omega (arith, (wrote c).write.ensures.0, count_le_length (rows s), long s, limited s), omega (arith, c.length-of.ensures, limited s))
+    (omega (arith, (wrote c).write-count.ensures.0, count_le_length (rows s), long s, limited s), omega (arith, c.length_of.ensures, limited s))
 
-same_length : tie.Need-same-length
+same_length : tie.Need-shape_of-out
 same_length c = search rules
 
 returns : tie.Need-returns
 returns c =
     let w = wrote c.before in (
       c.accepted.ensures
-          ∙ ap₂ (λ (n len : ℕ). accepted n no_route len) w.write.ensures.0 (c.before.length-of.ensures ∙ sym (long (start w))),
-      w.write.ensures.1,
+          ∙ ap₂ (λ (n len : ℕ). accepted n no_route len) w.write-count.ensures.0 (c.before.length_of.ensures ∙ sym (long (start w))),
+      w.write-count.ensures.1,
     )
 
 pub answer_spec : {M : Type 1} → statement M

@@ -22,10 +22,10 @@ first_operand s = lent s.args.a s.args.awords.now []
 abbrev second_operand : tie.Start → Operand
 second_operand s = lent s.args.b s.args.bwords.now []
 
-chunk-of-requires : tie.Need-chunk-of-requires
+chunk-of-requires : tie.Need-chunk_of-x-requires
 chunk-of-requires c κs = search rules
 
-chunk-of-requires-2 : tie.Need-chunk-of-requires-2
+chunk-of-requires-2 : tie.Need-chunk_of-y-requires
 chunk-of-requires-2 c κs = search rules
 
 apply-requires : tie.Need-apply-requires
@@ -42,10 +42,10 @@ returns c =
     let row : ℕ = s.args.row in
     let xs = rows_of (first_operand s) in
     let ys = rows_of (second_operand s) in
-    let x : ℕ = c.before.before.before.Chunk-of.result in
-    let y : ℕ = c.before.before.chunk-of2.result in
-    let ex = ap (bits_of n) c.before.before.before.Chunk-of.ensures ∙ chunk_bits row n xs (omega (arith, flat_length (first_operand s) s.requires.0.0, s.requires.2)) in
-    let ey = ap (bits_of n) c.before.before.chunk-of2.ensures ∙ chunk_bits row n ys (omega (arith, flat_length (second_operand s) s.requires.0.1, s.requires.0.2, s.requires.2)) in
+    let x : ℕ = c.before.before.before.chunk_of-x.result in
+    let y : ℕ = c.before.before.chunk_of-y.result in
+    let ex = ap (bits_of n) c.before.before.before.chunk_of-x.ensures ∙ chunk_bits row n xs (omega (arith, flat_length (first_operand s) s.requires.0.0, s.requires.2)) in
+    let ey = ap (bits_of n) c.before.before.chunk_of-y.ensures ∙ chunk_bits row n ys (omega (arith, flat_length (second_operand s) s.requires.0.1, s.requires.0.2, s.requires.2)) in
     ap₂ bit_and c.before.apply.ensures c.ones.ensures
     ∙ cut_word g 64 n x y s.requires.1.1
     ∙ ap word_of (ap₂ (both g) ex ey ∙ sym (both_part g row n xs ys))

@@ -25,36 +25,36 @@ use Rattle.rowwise.proofs.write.write_rows.Tie as tie
 
 -- ---- the places, each from the one after it: a statement more in the code changes one of these and no answer
 
-abbrev entry : tie.After-slice-known → tie.Start
+abbrev entry : tie.After-slice_known-1 → tie.Start
 entry c = c.before.before.before
 
-abbrev start : tie.After-a → tie.Start
-start c = entry c.before.before
+abbrev start : tie.In-Words → tie.Start
+start c = entry c.before
 
 -- the first operand in words, the second not
-abbrev one_told : tie.After-write-chunks-arg2 → tie.After-a
-one_told c = c.before.before.before
+abbrev one_told : tie.After-write_chunks-arg-in_default-b-1 → tie.In-Words
+one_told c = c.before.before
 
-abbrev chunked : tie.After-slice-known3 → tie.After-write-chunks2
+abbrev chunked : tie.After-slice_known-in_default-b-1 → tie.After-write_chunks-in_default-b
 chunked c = c.before.before
 
 -- both in words
-abbrev first-told : tie.After-b → tie.After-a
-first-told c = c.before.before.before
+abbrev first-told : tie.In-Words-b → tie.In-Words
+first-told c = c.before
 
-abbrev told : tie.After-write-whole-arg → tie.After-b
-told c = c.before.before
+abbrev told : tie.After-write_whole-arg-1 → tie.In-Words-b
+told c = c.before
 
-abbrev whole : tie.After-slice-known4 → tie.After-write-whole
+abbrev whole : tie.After-slice_known-2-1 → tie.After-write_whole-sum
 whole c = c.before.before
 
-abbrev rest : tie.After-chunk → tie.After-slice-known4
+abbrev rest : tie.After-chunk-bits → tie.After-slice_known-2-1
 rest c = c.before.before
 
-abbrev made : tie.After-put → tie.After-chunk
+abbrev made : tie.After-put → tie.After-chunk-bits
 made c = c.before.before
 
-abbrev put : tie.After-slice-known5 → tie.After-put
+abbrev put : tie.After-slice_known-3-1 → tie.After-put
 put c = c.before.before
 
 -- what is asked of the operands, by what is known of their forms
@@ -66,7 +66,7 @@ asked s {f} ea eb = subst (Asked s f) eb (subst (λ (x : Form). Asked s x s.args
 
 -- ---- both operands in words: what the two matches tell of the forms, put into what is required and into the result
 
-module _ (c : tie.After-b) where
+module _ (c : tie.In-Words-b) where
   abbrev s : tie.Start
   s = start (first-told c)
 
@@ -83,32 +83,32 @@ module _ (c : tie.After-b) where
   out = s.args.out.now
 
   abbrev astart : ℕ
-  astart = (first-told c).a.given.0.0
+  astart = (first-told c).in-Words.astart
 
   abbrev len : ℕ
-  len = (first-told c).a.given.0.1.0
+  len = (first-told c).in-Words.len
 
   abbrev bstart : ℕ
-  bstart = c.b.given.0.0
+  bstart = c.in-Words-b.bstart
 
   abbrev more : ℕ
-  more = c.b.given.0.1.0
+  more = c.in-Words-b.length
 
   -- the rows of the result
   abbrev rows : List Bool
   rows = both g (view astart len aws) (view bstart more bws)
 
   required : (InView astart len aws × InView bstart more bws × (len ≡ more)) × (len ≤ length out * 64)
-  required = asked s (first-told c).a.given.1 c.b.given.1
+  required = asked s (first-told c).in-Words.is c.in-Words-b.is
 
   result : combination g (lent s.args.a aws []) (lent s.args.b bws []) ≡ rows
-  result = ap₂ (λ (f h : Form). combination g (lent f aws []) (lent h bws [])) (first-told c).a.given.1 c.b.given.1
+  result = ap₂ (λ (f h : Form). combination g (lent f aws []) (lent h bws [])) (first-told c).in-Words.is c.in-Words-b.is
 
   long : length rows ≡ len
   long =
       ap length (sym result)
-      ∙ result_length g (lent s.args.a aws []) (lent s.args.b bws []) s.pre.0
-      ∙ ap length_of (first-told c).a.given.1
+      ∙ result_length g (lent s.args.a aws []) (lent s.args.b bws []) s.requires.0
+      ∙ ap length_of (first-told c).in-Words.is
 
   -- the rows of the whole words are the first of them
   whole_rows : both g (view astart (len / 64 * 64) aws) (view bstart (len / 64 * 64) bws) ≡ take (len / 64 * 64) rows
@@ -116,8 +116,8 @@ module _ (c : tie.After-b) where
 
 -- ---- the chunk of rows after them
 
-module _ (c : tie.After-chunk) where
-  abbrev here : tie.After-b
+module _ (c : tie.After-chunk-bits) where
+  abbrev here : tie.In-Words-b
   here = told (whole (rest c)).before
 
   abbrev n : ℕ
@@ -127,10 +127,10 @@ module _ (c : tie.After-chunk) where
   row = len here - n
 
   some : 0 < n
-  some = omega (arith, c.before.if1.false)
+  some = omega (arith, c.before.if-rest-eq0.false)
 
-  few : ones c.chunk.result ≤ n
-  few = turn_few row n (rows here) c.chunk.result c.chunk.ensures
+  few : ones c.chunk-bits.result ≤ n
+  few = turn_few row n (rows here) c.chunk-bits.result c.chunk-bits.ensures
 
   -- the rows before it
   before_it : both (g here) (view (astart here) (len here / 64 * 64) (aws here)) (view (bstart here) (len here / 64 * 64) (bws here)) ≡ take row (rows here)
@@ -143,80 +143,80 @@ module _ (c : tie.After-chunk) where
 
 -- ---- the answers
 
-enum-known-a : tie.Need-enum-known-a
+enum-known-a : tie.Need-enum_known-a
 enum-known-a c = search rules
 
-write-chunks-requires : tie.Need-write-chunks-requires
+write-chunks-requires : tie.Need-write_chunks-requires
 write-chunks-requires c κs = search rules
 
-same_length : tie.Need-same-length
+same_length : tie.Need-shape_of-out-in_default
 same_length c = search rules
 
-returns : tie.Need-returns
+returns : tie.Need-returns-in_default
 returns c = search rules
 
-enum-known-b : tie.Need-enum-known-b
+enum-known-b : tie.Need-enum_known-b
 enum-known-b c = search rules
 
-write-chunks-requires-2 : tie.Need-write-chunks-requires-2
-write-chunks-requires-2 c κs = asked (start (one_told c)) (one_told c).a.given.1 refl
+write-chunks-requires-2 : tie.Need-write_chunks-requires-in_default-b
+write-chunks-requires-2 c κs = asked (start (one_told c)) (one_told c).in-Words.is refl
 
-same-length-2 : tie.Need-same-length-2
+same-length-2 : tie.Need-shape_of-out-in_default-b
 same-length-2 c = search rules
 
-returns-2 : tie.Need-returns-2
+returns-2 : tie.Need-returns-in_default-b
 returns-2 c =
     let w = chunked c in
-    rw (one_told w.before).a.given.1 w.write-chunks2.ensures
+    rw (one_told w.before).in-Words.is w.write_chunks-in_default-b.ensures
 
-write-whole-requires : tie.Need-write-whole-requires
+write-whole-requires : tie.Need-write_whole-sum-requires
 write-whole-requires c κs =
     let q = required (told c) in
     let a = q.0.0 in
     let b = q.0.1 in
     ((omega (arith, a), a.1, omega (arith, a)), (omega (arith, a), b.1, omega (arith, b, q.0.2)), omega (arith, q.1))
 
-same-length-3 : tie.Need-same-length-3
+same-length-3 : tie.Need-shape_of-out-then-rest-eq0
 same-length-3 c = search rules
 
-returns-3 : tie.Need-returns-3
+returns-3 : tie.Need-returns-then-rest-eq0
 returns-3 c =
     let w = whole c.before in
     let t = told w.before in
-    let all = whole_rows t ∙ take_all (len t / 64 * 64) (rows t) (omega (arith, long t, c.if1.true)) ∙ sym (result t) in
-    (w.write-whole.ensures.0 ∙ ap count all, w.write-whole.ensures.1 ∙ ap (λ (z : List Bool). laid 0 z (out t)) all)
+    let all = whole_rows t ∙ take_all (len t / 64 * 64) (rows t) (omega (arith, long t, c.if-rest-eq0.true)) ∙ sym (result t) in
+    (w.write_whole-sum.ensures.0 ∙ ap count all, w.write_whole-sum.ensures.1 ∙ ap (λ (z : List Bool). laid 0 z (out t)) all)
 
-sub-chunk : tie.Need-overflow-sub-chunk
+sub-chunk : tie.Need-overflow_sub-len
 sub-chunk c = search rules
 
-chunk-requires : tie.Need-chunk-requires
-chunk-requires c κs = ((required (told (whole c.before).before)).0, (omega (arith, c.if1.false), omega arith), omega arith)
+chunk-requires : tie.Need-chunk-bits-requires
+chunk-requires c κs = ((required (told (whole c.before).before)).0, (omega (arith, c.if-rest-eq0.false), omega arith), omega arith)
 
-sub-put : tie.Need-overflow-sub-put
+sub-put : tie.Need-overflow_sub-len-2
 sub-put c = search rules
 
 put-requires : tie.Need-put-requires
 put-requires c κs = ((some c.before, omega arith), omega (arith, (required (here c.before)).1))
 
-cast-result : tie.Need-overflow-cast-result
+cast-result : tie.Need-overflow_cast-result
 cast-result c = omega (arith, few (made (put c)))
 
-add-result : tie.Need-overflow-add-result
+add-result : tie.Need-overflow_add-result
 add-result c =
     let m = made (put c) in
     let t = here m in
-    let w = (whole (rest m)).write-whole.ensures.0 ∙ ap count (whole_rows t) in
+    let w = (whole (rest m)).write_whole-sum.ensures.0 ∙ ap count (whole_rows t) in
     omega (arith, (required t).0.0.0, w, count_take_le (len t / 64 * 64) (rows t), few m)
 
-same-length-4 : tie.Need-same-length-4
+same-length-4 : tie.Need-shape_of-out
 same-length-4 c = search rules
 
-returns-4 : tie.Need-returns-4
+returns-4 : tie.Need-returns
 returns-4 c =
     let m = made (put c) in
     let t = here m in
-    let e = (whole (rest m)).write-whole.ensures in
-    let is = m.chunk.ensures in (
+    let e = (whole (rest m)).write_whole-sum.ensures in
+    let is = m.chunk-bits.ensures in (
       ap₂ (λ (x y : ℕ). x + ones y) (e.0 ∙ ap count (before_it m)) is
           ∙ turn_count (row m) (n m) (rows t)
           ∙ ap count (all m),

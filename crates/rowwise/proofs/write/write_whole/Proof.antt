@@ -19,30 +19,30 @@ use borrow.Author.Rules.{rules}
 use Rattle.rowwise.proofs.write.write_whole.Statement.{statement}
 use Rattle.rowwise.proofs.write.write_whole.Tie as tie
 
-abbrev invariant-loop : tie.invariant-loop
+abbrev invariant-loop : tie.invariant-loop-i
 invariant-loop op awords astart bwords bstart n out₀ count₀ i₀ out set i =
     (i ≤ n) × (set ≤ i * 64) × (length out ≡ length out₀) × Below (2 ^ 64) out
     × (set ≡ count (take (i * 64) (both (row_of op) (view astart (n * 64) awords) (view bstart (n * 64) bwords))))
     × (out ≡ laid 0 (take (i * 64) (both (row_of op) (view astart (n * 64) awords) (view bstart (n * 64) bwords))) out₀)
 
-abbrev decreases-loop : tie.decreases-loop
+abbrev decreases-loop : tie.decreases-loop-i
 decreases-loop op awords astart bwords bstart n out₀ count₀ i₀ out set i = n - i
 
 -- ---- the places, each from the one after it: a statement more in the code changes one of these and no answer
 
-abbrev entry : tie.After-slice-known invariant-loop decreases-loop → tie.Start invariant-loop decreases-loop
+abbrev entry : tie.After-slice_known-1 invariant-loop decreases-loop → tie.Start invariant-loop decreases-loop
 entry c = c.before.before.before
 
-abbrev start : tie.At-loop invariant-loop decreases-loop → tie.Start invariant-loop decreases-loop
+abbrev start : tie.At-loop-i invariant-loop decreases-loop → tie.Start invariant-loop decreases-loop
 start c = entry c.before
 
-abbrev head : tie.After-whole-word invariant-loop decreases-loop → tie.At-loop invariant-loop decreases-loop
+abbrev head : tie.After-whole_word-x invariant-loop decreases-loop → tie.At-loop-i invariant-loop decreases-loop
 head c = c.before.before
 
-abbrev read : tie.After-apply invariant-loop decreases-loop → tie.After-whole-word2 invariant-loop decreases-loop
+abbrev read : tie.After-apply-bits invariant-loop decreases-loop → tie.After-whole_word-y invariant-loop decreases-loop
 read c = c.before
 
-abbrev turn : tie.After-apply invariant-loop decreases-loop → tie.At-loop invariant-loop decreases-loop
+abbrev turn : tie.After-apply-bits invariant-loop decreases-loop → tie.At-loop-i invariant-loop decreases-loop
 turn c = head (read c).before
 
 -- ---- what is lent, and the rows of the result
@@ -61,89 +61,89 @@ module _ (s : tie.Start invariant-loop decreases-loop) where
   rows = both (row_of s.args.op) (view s.args.astart (s.args.n * 64) aws) (view s.args.bstart (s.args.n * 64) bws)
 
   long : length rows ≡ s.args.n * 64
-  long = whole_length (row_of s.args.op) (s.args.n * 64) s.args.astart s.args.bstart aws bws s.pre.0.2 s.pre.1.2
+  long = whole_length (row_of s.args.op) (s.args.n * 64) s.args.astart s.args.bstart aws bws s.requires.0.2 s.requires.1.2
 
 -- ---- a turn: its word is a chunk of the result
 
-module _ (c : tie.After-apply invariant-loop decreases-loop) where
+module _ (c : tie.After-apply-bits invariant-loop decreases-loop) where
   abbrev i : ℕ
-  i = (turn c).loop.i
+  i = (turn c).loop-i.i
 
   abbrev bits : ℕ
-  bits = c.apply.result
+  bits = c.apply-bits.result
 
   bits_are : bits ≡ word_of (take 64 (drop (i * 64) (rows (start (turn c)))))
   bits_are =
       let s = start (turn c) in
       let a = s.args in
-      let chunk = whole_word (row_of a.op) (a.n * 64) a.astart a.bstart (aws s) (bws s) s.pre.0.2 s.pre.1.2 (i * 64) in
-      c.apply.ensures
-      ∙ chunk _ _ (omega arith) (read c).before.whole_word.ensures (read c).whole-word2.ensures
+      let chunk = whole_word (row_of a.op) (a.n * 64) a.astart a.bstart (aws s) (bws s) s.requires.0.2 s.requires.1.2 (i * 64) in
+      c.apply-bits.ensures
+      ∙ chunk _ _ (omega arith) (read c).before.whole_word-x.ensures (read c).whole_word-y.ensures
 
   few : ones bits ≤ 64
   few = turn_few (i * 64) 64 (rows (start (turn c))) bits bits_are
 
 -- ---- the answers
 
-loop-holds : tie.Need-loop-init invariant-loop decreases-loop
+loop-holds : tie.Need-loop-i-init invariant-loop decreases-loop
 loop-holds c =
-    let known = below_all (2 ^ 64) (out (entry c)) (λ i. (c.slice-known.given i).fits) in
+    let known = below_all (2 ^ 64) (out (entry c)) (λ i. (c.slice_known-1.given i).fits) in
     (omega arith, omega arith, refl, known, refl, sym (laid_nil 64 0 (out (entry c)) known))
 
-whole-word-requires : tie.Need-whole-word-requires invariant-loop decreases-loop
-whole-word-requires c κs = ((start c.before).pre.0.1, omega (arith, (start c.before).pre.0.2))
+whole-word-requires : tie.Need-whole_word-x-requires invariant-loop decreases-loop
+whole-word-requires c κs = ((start c.before).requires.0.1, omega (arith, (start c.before).requires.0.2))
 
-whole-word-requires-2 : tie.Need-whole-word-requires-2 invariant-loop decreases-loop
-whole-word-requires-2 c κs = ((start (head c)).pre.1.1, omega (arith, (start (head c)).pre.1.2))
+whole-word-requires-2 : tie.Need-whole_word-y-requires invariant-loop decreases-loop
+whole-word-requires-2 c κs = ((start (head c)).requires.1.1, omega (arith, (start (head c)).requires.1.2))
 
-apply-requires : tie.Need-apply-requires invariant-loop decreases-loop
+apply-requires : tie.Need-apply-bits-requires invariant-loop decreases-loop
 apply-requires c κs = search rules
 
-mul-out : tie.Need-overflow-mul-out invariant-loop decreases-loop
-mul-out c = omega (arith, (start (turn c)).pre.2)
+mul-out : tie.Need-offset_bounds-out-i invariant-loop decreases-loop
+mul-out c = omega (arith, (start (turn c)).requires.2)
 
-slice-write-out : tie.Need-slice-write-out invariant-loop decreases-loop
-slice-write-out c = omega (arith, (start (turn c)).pre.2, (turn c).loop.invariant.2)
+slice-write-out : tie.Need-bounds-out-i invariant-loop decreases-loop
+slice-write-out c = omega (arith, (start (turn c)).requires.2, (turn c).loop-i.invariant.2)
 
-cast-count : tie.Need-overflow-cast-count invariant-loop decreases-loop
+cast-count : tie.Need-overflow_cast-count invariant-loop decreases-loop
 cast-count c = omega (arith, few c)
 
-add-count : tie.Need-overflow-add-count invariant-loop decreases-loop
-add-count c = omega (arith, (start (turn c)).pre.0.0, (turn c).loop.invariant.1, few c)
+add-count : tie.Need-overflow_add-count invariant-loop decreases-loop
+add-count c = omega (arith, (start (turn c)).requires.0.0, (turn c).loop-i.invariant.1, few c)
 
-add-i : tie.Need-overflow-add-i invariant-loop decreases-loop
-add-i c = omega (arith, (start (turn c)).pre.0.0)
+add-i : tie.Need-overflow_add-i invariant-loop decreases-loop
+add-i c = omega (arith, (start (turn c)).requires.0.0)
 
-loop-less : tie.Need-loop-smaller invariant-loop decreases-loop
+loop-less : tie.Need-loop-i-smaller invariant-loop decreases-loop
 loop-less c = omega arith
 
-loop-again : tie.Need-loop-preserved invariant-loop decreases-loop
+loop-again : tie.Need-loop-i-preserved invariant-loop decreases-loop
 loop-again c =
     let s = start (turn c) in
-    let l = (turn c).loop in
+    let l = (turn c).loop-i in
     let room : l.i * 64 + 64 ≤ length (rows s) = omega (arith, long s) in
     let next : l.i * 64 + 64 ≡ (l.i + 1) * 64 = omega arith in
-    let small : bits c < 2 ^ 64 = omega (arith, c.apply.type-inv) in (
+    let small : bits c < 2 ^ 64 = omega (arith, c.apply-bits.type_inv) in (
       omega arith,
-      omega (arith, l.inv.1, few c),
-      length-set l.out l.i (bits c) ∙ l.inv.2,
-      below_set (2 ^ 64) l.out l.i (bits c) small l.inv.3,
-      ap₂ (λ (x y : ℕ). x + ones y) l.inv.4 (bits_are c)
+      omega (arith, l.invariant.1, few c),
+      length-set l.out l.i (bits c) ∙ l.invariant.2,
+      below_set (2 ^ 64) l.out l.i (bits c) small l.invariant.3,
+      ap₂ (λ (x y : ℕ). x + ones y) l.invariant.4 (bits_are c)
           ∙ turn_count (l.i * 64) 64 (rows s)
           ∙ ap (λ (k : ℕ). count (take k (rows s))) next,
-      laid_word 64 l.i (bits c) l.out small l.inv.3
-          ∙ ap₂ (λ (x : ℕ) (o : List ℕ). laid (l.i * 64) (bits_of 64 x) o) (bits_are c) l.inv.5
+      laid_word 64 l.i (bits c) l.out small l.invariant.3
+          ∙ ap₂ (λ (x : ℕ) (o : List ℕ). laid (l.i * 64) (bits_of 64 x) o) (bits_are c) l.invariant.5
           ∙ turn_laid (l.i * 64) 64 (rows s) (out s) room
           ∙ ap (λ (k : ℕ). laid 0 (take k (rows s)) (out s)) next,
     )
 
-same_length : tie.Need-same-length invariant-loop decreases-loop
+same_length : tie.Need-shape_of-out invariant-loop decreases-loop
 same_length c = search rules
 
 returns : tie.Need-returns invariant-loop decreases-loop
 returns c =
     let s = start c.before in
-    let l = c.before.loop in
+    let l = c.before.loop-i in
     let all : take (l.i * 64) (rows s) ≡ rows s = take_all (l.i * 64) (rows s) (omega (arith, long s)) in
     (l.invariant.4 ∙ ap count all, l.invariant.5 ∙ ap (λ (z : List Bool). laid 0 z (out s)) all)
 

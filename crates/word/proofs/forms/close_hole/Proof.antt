@@ -8,10 +8,10 @@ use Rattle.word.proofs.CloseLaws.{closed_is}
 use Rattle.word.proofs.forms.close_hole.Statement.{statement}
 use Rattle.word.proofs.forms.close_hole.Tie as tie
 
-lowest-requires : tie.Need-lowest-requires
+lowest-requires : tie.Need-lowest-hole-requires
 lowest-requires c κs = search rules
 
-wrapping-sub-u64-requires : tie.Need-wrapping-sub-u64-requires
+wrapping-sub-u64-requires : tie.Need-wrapping_sub_u64-below-requires
 wrapping-sub-u64-requires c κs = search rules
 
 returns : tie.Need-returns
@@ -19,12 +19,12 @@ returns c =
     let start = c.before.before in
     let s : ℕ = start.args.source in
     let h : ℕ = start.args.holes in
-    let below : ℕ = c.wrapping-sub-u64.result in
-    let b : below ≡ under 64 h = below_hole h below (omega arith) (c.wrapping-sub-u64.ensures ∙ c.before.lowest.ensures) in
+    let below : ℕ = c.wrapping_sub_u64-below.result in
+    let b : below ≡ under 64 h = below_hole h below (omega arith) (c.wrapping_sub_u64-below.ensures ∙ c.before.lowest-hole.ensures) in
     let moved : bit_or (bit_and s below) (bit_and (s / 2) (2 ^ 64 - 1 - below)) ≡ closed 64 h s =
     ap (λ (n : ℕ). bit_or (bit_and s n) (bit_and (s / 2) (2 ^ 64 - 1 - n))) b ∙ closed_is 64 h s start.ranges.source.fits in
-    let left : bit_xor h c.before.lowest.result / 2 ≡ without_lowest 64 h / 2 =
-    ap (λ (n : ℕ). n / 2) (ap (bit_xor h) c.before.lowest.ensures ∙ xor_low 64 h start.ranges.holes.fits) in
+    let left : bit_xor h c.before.lowest-hole.result / 2 ≡ without_lowest 64 h / 2 =
+    ap (λ (n : ℕ). n / 2) (ap (bit_xor h) c.before.lowest-hole.ensures ∙ xor_low 64 h start.ranges.holes.fits) in
     ap₂ (λ (x y : ℕ). record { source = x; holes = y }) moved left
 
 pub close_hole_spec : {M : Type 1} → statement M

@@ -8,10 +8,10 @@ use Rattle.word.proofs.HoleLaws.{two_holes, ones_comp}
 use Rattle.word.proofs.forms.deposit_two_holes.Statement.{statement}
 use Rattle.word.proofs.forms.deposit_two_holes.Tie as tie
 
-past-hole-requires : tie.Need-past-hole-requires
+past-hole-requires : tie.Need-past_hole-once-requires
 past-hole-requires c κs = search rules
 
-past-hole-requires-2 : tie.Need-past-hole-requires-2
+past-hole-requires-2 : tie.Need-past_hole-twice-requires
 past-hole-requires-2 c κs = search rules
 
 returns : tie.Need-returns
@@ -23,8 +23,8 @@ returns c =
     let h : ℕ = 2 ^ 64 - 1 - m in
     let e : m + h + 1 ≡ 2 ^ 64 = omega arith in
     ap (λ (n : ℕ). bit_and n m)
-    (ap (λ r. r.source) c.before.past-hole2.ensures
-    ∙ ap₂ (λ (x y : ℕ). past_hole 64 x 0 y) (ap (λ r. r.holes) c.before.before.past-hole.ensures) (ap (λ r. r.source) c.before.before.past-hole.ensures))
+    (ap (λ r. r.source) c.before.past_hole-twice.ensures
+    ∙ ap₂ (λ (x y : ℕ). past_hole 64 x 0 y) (ap (λ r. r.holes) c.before.before.past_hole-once.ensures) (ap (λ r. r.source) c.before.before.past_hole-once.ensures))
     ∙ two_holes 64 s m h e (omega (arith, ones_comp 64 m h e, start.requires)) ∙ sym (pdep_dealt 64 s m)
 
 pub deposit_two_holes_spec : {M : Type 1} → statement M

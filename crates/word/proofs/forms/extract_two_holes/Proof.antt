@@ -8,21 +8,21 @@ use Rattle.word.proofs.CloseLaws.{two_closed}
 use Rattle.word.proofs.forms.extract_two_holes.Statement.{statement}
 use Rattle.word.proofs.forms.extract_two_holes.Tie as tie
 
-close-hole-requires : tie.Need-close-hole-requires
+close-hole-requires : tie.Need-close_hole-once-requires
 close-hole-requires c κs = search rules
 
-close-hole-requires-2 : tie.Need-close-hole-requires-2
+close-hole-requires-2 : tie.Need-close_hole-twice-requires
 close-hole-requires-2 c κs = search rules
 
 returns : tie.Need-returns
 returns c =
-    let once = c.before.close-hole in
+    let once = c.before.close_hole-once in
     let start = c.before.before in
     let m : ℕ = start.args.mask in
     let s : ℕ = start.args.source in
     let h : ℕ = 2 ^ 64 - 1 - m in
     let e : m + h + 1 ≡ 2 ^ 64 = omega (arith, start.ranges.mask.fits) in
-    ap (λ r. r.source) c.close-hole2.ensures
+    ap (λ r. r.source) c.close_hole-twice.ensures
     ∙ ap₂ (closed 64) (ap (λ r. r.holes) once.ensures) (ap (λ r. r.source) once.ensures)
     ∙ two_closed 64 s m h e (omega (arith, ones_comp 64 m h e, start.requires)) start.ranges.source.fits ∙ sym (pext_collected 64 s m)
 

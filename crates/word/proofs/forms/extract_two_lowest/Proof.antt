@@ -8,7 +8,7 @@ use Rattle.network.proofs.CollectedLaws.{two_collected, pext_collected}
 use Rattle.word.proofs.forms.extract_two_lowest.Statement.{statement}
 use Rattle.word.proofs.forms.extract_two_lowest.Tie as tie
 
-lowest-requires : tie.Need-lowest-requires
+lowest-requires : tie.Need-lowest-first-requires
 lowest-requires c κs = search rules
 
 any-requires : tie.Need-any-requires
@@ -23,11 +23,11 @@ returns c =
     let s : ℕ = start.args.source in
     let m : ℕ = start.args.mask in
     let h : m < 2 ^ 64 = start.ranges.mask.fits in
-    let first : c.before.before.lowest.result ≡ lowest_set 64 m = c.before.before.lowest.ensures in
-    let second : bit_xor m c.before.before.lowest.result ≡ without_lowest 64 m = ap (bit_xor m) first ∙ xor_low 64 m h in
+    let first : c.before.before.lowest-first.result ≡ lowest_set 64 m = c.before.before.lowest-first.ensures in
+    let second : bit_xor m c.before.before.lowest-first.result ≡ without_lowest 64 m = ap (bit_xor m) first ∙ xor_low 64 m h in
     let a : c.before.any.result ≡ min (bit_and s (lowest_set 64 m)) 1 = c.before.any.ensures ∙ ap (λ (n : ℕ). min (bit_and s n) 1) first in
-    let b : c.any2.result ≡ min (bit_and s (without_lowest 64 m)) 1 = c.any2.ensures ∙ ap (λ (n : ℕ). min (bit_and s n) 1) second in
-    let up : (c.any2.result * 2) % 2 ^ 64 ≡ min (bit_and s (without_lowest 64 m)) 1 * 2 = omega arith in
+    let b : c.any-2.result ≡ min (bit_and s (without_lowest 64 m)) 1 = c.any-2.ensures ∙ ap (λ (n : ℕ). min (bit_and s n) 1) second in
+    let up : (c.any-2.result * 2) % 2 ^ 64 ≡ min (bit_and s (without_lowest 64 m)) 1 * 2 = omega arith in
     ap₂ bit_or a up ∙ or_shifted_r (min (bit_and s (without_lowest 64 m)) 1) 1 (min (bit_and s (lowest_set 64 m)) 1) (omega arith)
     ∙ two_collected 64 s m h start.requires ∙ sym (pext_collected 64 s m)
 

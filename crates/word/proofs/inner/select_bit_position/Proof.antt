@@ -1,14 +1,14 @@
 -- `word::inner::select_bit_position` meets its contract. The invariant: the place in what is left of the word, after the bytes passed, is the
 -- place that is asked, and the counts that are left are those of its bytes; past the last byte nothing is left, and the place is the width.
 -- In the byte that holds the rank the table has the place. Assumes nothing.
-use Rattle.std.proofs.Common.{◌≡◌, ℕ, suc, ◌+◌, ◌-◌, ◌/◌, ◌%◌, ◌<◌, ◌≤◌, sym, refl, ap, ◌∙◌, lt_of_le_of_lt, zero-add, arith, rules}
+use Rattle.std.proofs.Common.{◌≡◌, ℕ, suc, ◌+◌, ◌-◌, ◌/◌, ◌%◌, ◌<◌, ◌≤◌, sym, refl, ap, ◌∙◌, subst, lt_of_le_of_lt, zero-add, arith, rules}
 use lib.Bits.{bit_and, and_mask, and_le_r}
 use lib.Count.{ones, ones-le}
 use Rattle.rows.specs.Word.{bits_of}
 use Rattle.rows.specs.Lists.{select}
 use Rattle.network.specs.Lanes.{each}
 use Rattle.network.proofs.GatherLaws.{count_low, count_high}
-use Rattle.word.proofs.SelectWord.{skip_bits, in_bits, in_bits_lt}
+use Rattle.word.proofs.SelectWord.{skip_bits, in_bits, in_bits_le}
 use Rattle.word.proofs.inner.select_bit_position.Statement.{statement}
 use Rattle.word.proofs.inner.select_bit_position.Tie as tie
 
@@ -47,33 +47,32 @@ invariant-bytes word rank left₀ rest₀ counts₀ offset₀ left rest counts o
 abbrev decreases-bytes : tie.decreases-bytes
 decreases-bytes word rank left₀ rest₀ counts₀ offset₀ left rest counts offset = 64 - offset
 
-counts-of-bytes-requires : tie.Need-counts-of-bytes-requires invariant-bytes decreases-bytes
+counts-of-bytes-requires : tie.Need-counts_of_bytes-counts-requires invariant-bytes decreases-bytes
 counts-of-bytes-requires c κs = search rules
 
 bytes-holds : tie.Need-bytes-init invariant-bytes decreases-bytes
-bytes-holds c = let a = c.before.args in (omega arith, refl, c.counts-of-bytes.ensures, zero-add (select (bits_of 64 a.word) a.rank))
+bytes-holds c = let a = c.before.args in (omega arith, refl, c.counts_of_bytes-counts.ensures, zero-add (select (bits_of 64 a.word) a.rank))
 
-cast-count : tie.Need-overflow-cast-count invariant-bytes decreases-bytes
+cast-count : tie.Need-overflow_cast-count invariant-bytes decreases-bytes
 cast-count c = record { fits = lt_of_le_of_lt (and_le_r c.before.bytes.counts 255) (omega arith) }
 
-cast-byte : tie.Need-overflow-cast-byte invariant-bytes decreases-bytes
+cast-byte : tie.Need-overflow_cast-byte invariant-bytes decreases-bytes
 cast-byte c = record { fits = lt_of_le_of_lt (and_le_r c.before.before.bytes.rest 255) (omega arith) }
 
-place-in-requires : tie.Need-place-in-requires invariant-bytes decreases-bytes
+place-in-requires : tie.Need-place_in-requires invariant-bytes decreases-bytes
 place-in-requires c κs =
     let at = c.before.before.bytes in
-    let byte = byte_left at.bit-offset at.rest at.counts c.before.if1.false at.invariant.1 at.invariant.2 in
-    (lt_of_le_of_lt (and_le_r at.rest 255) (omega arith), omega (arith, byte.few, byte.count, c.if2.true))
+    let byte = byte_left at.bit_offset at.rest at.counts c.before.if-bit_offset-ge64.false at.invariant.1 at.invariant.2 in
+    (lt_of_le_of_lt (and_le_r at.rest 255) (omega arith), omega (arith, byte.few, byte.count, c.if-left-count.true))
 
-add-position : tie.Need-overflow-add-position invariant-bytes decreases-bytes
+add-position : tie.Need-overflow_add-position invariant-bytes decreases-bytes
 add-position c =
     let at = c.before.before.before.bytes in
-    let byte = byte_left at.bit-offset at.rest at.counts c.before.before.if1.false at.invariant.1 at.invariant.2 in
-    let within = in_bits_lt 8 at.rest at.left (omega (arith, byte.count, c.before.if2.true)) in
-    let low = ap (λ (k : ℕ). select (bits_of 8 k) at.left) (and_mask at.rest 8) in
-    record { fits = omega (arith, byte.room, within, low, c.place_in.ensures) }
+    let byte = byte_left at.bit_offset at.rest at.counts c.before.before.if-bit_offset-ge64.false at.invariant.1 at.invariant.2 in
+    let most : c.place_in.result ≤ 8 = subst (λ (x : ℕ). x ≤ 8) (sym c.place_in.ensures) (in_bits_le 8 _ _) in
+    record { fits = omega (arith, byte.room) }
 
-add-bit-offset : tie.Need-overflow-add-bit-offset invariant-bytes decreases-bytes
+add-bit-offset : tie.Need-overflow_add-bit_offset invariant-bytes decreases-bytes
 add-bit-offset c = omega arith
 
 bytes-less : tie.Need-bytes-smaller invariant-bytes decreases-bytes
@@ -83,30 +82,30 @@ bytes-again : tie.Need-bytes-preserved invariant-bytes decreases-bytes
 bytes-again c =
     let at = c.before.before.bytes in
     let n : ℕ = at.rest in
-    let byte = byte_left at.bit-offset n at.counts c.before.if1.false at.invariant.1 at.invariant.2 in
-    let j : ℕ = 64 - (at.bit-offset + 8) in
-    let v : 64 - at.bit-offset ≡ 8 + j = omega (arith, byte.room) in
-    let skip : select (bits_of (64 - at.bit-offset) n) at.left ≡ 8 + select (bits_of j (n / 256)) (at.left - bit_and at.counts 255) =
-    ap (λ (k : ℕ). select (bits_of k n) at.left) v ∙ skip_bits 8 j n at.left (omega (arith, byte.count, c.if2.false))
+    let byte = byte_left at.bit_offset n at.counts c.before.if-bit_offset-ge64.false at.invariant.1 at.invariant.2 in
+    let j : ℕ = 64 - (at.bit_offset + 8) in
+    let v : 64 - at.bit_offset ≡ 8 + j = omega (arith, byte.room) in
+    let skip : select (bits_of (64 - at.bit_offset) n) at.left ≡ 8 + select (bits_of j (n / 256)) (at.left - bit_and at.counts 255) =
+    ap (λ (k : ℕ). select (bits_of k n) at.left) v ∙ skip_bits 8 j n at.left (omega (arith, byte.count, c.if-left-count.false))
     ∙ ap (λ (k : ℕ). 8 + select (bits_of j (n / 256)) (at.left - k)) (sym byte.count) in
     (byte.room, omega (arith, at.invariant.1), byte.later, omega (arith, at.invariant.3))
 
-returns : tie.Need-returns invariant-bytes decreases-bytes
+returns : tie.Need-returns-then-bit_offset-ge64 invariant-bytes decreases-bytes
 returns c =
     let at = c.before.bytes in
-    let e : 64 - at.bit-offset ≡ 0 = omega arith in
-    let z : select (bits_of (64 - at.bit-offset) at.rest) at.left ≡ 0 = ap (λ (k : ℕ). select (bits_of k at.rest) at.left) e ∙ select_empty at.rest at.left in
+    let e : 64 - at.bit_offset ≡ 0 = omega arith in
+    let z : select (bits_of (64 - at.bit_offset) at.rest) at.left ≡ 0 = ap (λ (k : ℕ). select (bits_of k at.rest) at.left) e ∙ select_empty at.rest at.left in
     omega (arith, at.invariant.3)
 
-returns-2 : tie.Need-returns-2 invariant-bytes decreases-bytes
+returns-2 : tie.Need-returns-then-left-count invariant-bytes decreases-bytes
 returns-2 c =
     let at = c.before.before.before.bytes in
     let n : ℕ = at.rest in
-    let byte = byte_left at.bit-offset n at.counts c.before.before.if1.false at.invariant.1 at.invariant.2 in
-    let j : ℕ = 64 - (at.bit-offset + 8) in
-    let v : 64 - at.bit-offset ≡ 8 + j = omega (arith, byte.room) in
-    let held : at.left < ones (n % 256) = omega (arith, byte.count, c.before.if2.true) in
-    ap (λ (k : ℕ). at.bit-offset + k)
+    let byte = byte_left at.bit_offset n at.counts c.before.before.if-bit_offset-ge64.false at.invariant.1 at.invariant.2 in
+    let j : ℕ = 64 - (at.bit_offset + 8) in
+    let v : 64 - at.bit_offset ≡ 8 + j = omega (arith, byte.room) in
+    let held : at.left < ones (n % 256) = omega (arith, byte.count, c.before.if-left-count.true) in
+    ap (λ (k : ℕ). at.bit_offset + k)
     (c.place_in.ensures ∙ ap (λ (k : ℕ). select (bits_of 8 k) at.left) (and_mask n 8) ∙ sym (in_bits 8 j n at.left held)
     ∙ ap (λ (k : ℕ). select (bits_of k n) at.left) (sym v))
     ∙ at.invariant.3

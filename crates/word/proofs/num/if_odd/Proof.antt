@@ -5,7 +5,7 @@ use Rattle.word.proofs.NumLaws.{if_odd_word}
 use Rattle.word.proofs.num.if_odd.Statement.{statement}
 use Rattle.word.proofs.num.if_odd.Tie as tie
 
-zero-minus-requires : tie.Need-zero-minus-requires
+zero-minus-requires : tie.Need-zero_minus-requires
 zero-minus-requires c κs = search rules
 
 returns : tie.Need-returns

@@ -5,7 +5,7 @@ use Rattle.word.proofs.NumLaws.{low_word}
 use Rattle.word.proofs.num.lowest.Statement.{statement}
 use Rattle.word.proofs.num.lowest.Tie as tie
 
-zero-minus-requires : tie.Need-zero-minus-requires
+zero-minus-requires : tie.Need-zero_minus-requires
 zero-minus-requires c κs = search rules
 
 returns : tie.Need-returns
