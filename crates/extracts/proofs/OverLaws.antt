@@ -1,15 +1,14 @@
 -- A word stored behind what the word before it had room for: the bits of one number, one part behind the other.
 -- By the law of a word stored as bits laid. Assumes nothing.
-use Prim.Native.Nat.{ℕ, suc, ◌+◌, ◌-◌, ◌*◌, ◌/◌, ◌%◌, ◌^◌, ◌≤◌, ◌<◌}
-use native.Mathlib.Nat.{div-div-eq-div-mul, pow-suc, mul_comm, lt_of_le_of_lt}
+use Prim.Native.Nat.{ℕ, suc, ◌+◌, ◌-◌, ◌*◌, ◌/◌, ◌%◌, ◌^◌, ◌<◌}
+use native.Mathlib.Nat.{div-div-eq-div-mul, pow-suc, mul_comm}
 use native.Mathlib.Omega.{arith}
-use mathlib.Core.Path.{◌≡◌, sym, ap, ap₂, ◌∙◌}
+use mathlib.Core.Path.{◌≡◌, sym, ap, ◌∙◌}
 use mathlib.Core.Bool.{Bool}
 use mathlib.Core.List.{List, ◌++◌}
 use lib.ListN.{length, set}
 use lib.Pow.{shr_le}
 use Rattle.rows.specs.Word.{bits_of}
-use Rattle.rows.specs.Words.{Below}
 use Rattle.rows.specs.Laid.{laid}
 use Rattle.rows.proofs.WordLaws.{bits_of_length, bits_of_add}
 use Rattle.rows.proofs.LaidLaws.{laid_word, laid_append}

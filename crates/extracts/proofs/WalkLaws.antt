@@ -2,11 +2,11 @@
 -- By the parts of a table. Assumes nothing.
 use Prim.Native.Nat.{ℕ, ◌+◌, ◌≤◌}
 use native.Mathlib.Nat.{zero-add}
-use mathlib.Core.Path.{◌≡◌, refl, sym, ap, subst, ◌∙◌}
+use mathlib.Core.Path.{◌≡◌, refl, sym, ap, ◌∙◌}
 use mathlib.Core.Bool.{Bool, true, false, false≢true}
 use mathlib.Core.List.{List}
 use native.Mathlib.Omega.{arith}
-use lib.ListN.{length, take, drop}
+use lib.ListN.{take, drop}
 use Rattle.rows.specs.Word.{word_of}
 use Rattle.rows.specs.Table.{Met}
 use Rattle.rows.specs.Lists.{tab, member}
@@ -17,7 +17,7 @@ use Rattle.rules.specs.declared.Form.TheVariants.{All, None, Words, List as List
 use Rattle.rules.specs.Operand.{Operand, rows_by, rows_of, length_of, checks_by, Accepted}
 use Rattle.rules.proofs.OperandLaws.{ascending, apart}
 use Rattle.operand.specs.Flat.{has_row_numbers, has_runs, Flat, flat}
-use Rattle.operand.proofs.FlatLaws.{accepted_flat, flat_rows}
+use Rattle.operand.proofs.FlatLaws.{flat_rows}
 use Rattle.books.specs.Gathers.{Parted, Gathers}
 use Rattle.books.specs.Windows.{window, Reached}
 use Rattle.books.proofs.GatherLaws.{tab_part, ascending_climbs}

@@ -4,7 +4,7 @@
 -- Assumes nothing.
 use Prim.Native.Nat.{ℕ, zero, suc, ◌+◌, ◌*◌, ◌≤◌, ◌<◌}
 use native.Mathlib.Numerals.{add-one, add-two}
-use native.Mathlib.Decide.{dec_le, dec_lt}
+use native.Mathlib.Decide.{dec_lt}
 use native.Mathlib.Omega.{arith}
 use mathlib.Core.Path.{◌≡◌, refl, sym, ap, ap₂, subst, ◌∙◌}
 use mathlib.Core.Bool.{Bool, true, false, cond}
@@ -18,7 +18,7 @@ use Rattle.rows.specs.declared.Verdict.{Verdict}
 use Rattle.rows.specs.declared.Verdict.TheVariants.{Fine, Refused}
 use Rattle.rows.specs.Lists.{listed, Ascending}
 use Rattle.rows.specs.Rows.{over, splice}
-use Rattle.rows.specs.Runs.{turns, runs_of, runs_in}
+use Rattle.rows.specs.Runs.{runs_of, runs_in}
 use Rattle.rows.specs.Table.{first, refusal}
 use Rattle.rows.specs.Words.{view}
 use Rattle.rows.proofs.RunLaws.{runs_back, runs_even}
@@ -47,13 +47,6 @@ pub all_at : (n at : ℕ) (o : Operand) → 2 ≤ length (left_by (All n) o at) 
 all_at zero zero o h = absurd (omega arith)
 all_at (suc n) zero o h = (refl, omega arith)
 all_at n (suc at) o h = absurd (omega arith)
-
-pub words_at : (at : ℕ) (s : List Bool) → 2 ≤ length (turns false at (drop at s)) → at ≤ length s
-words_at at s h = by (dec_le at (length s))
-  where
-    by : Dec (at ≤ length s) → at ≤ length s
-    by (yes l) = l
-    by (no n) = absurd (omega (arith, h, ap (λ (t : List Bool). length (turns false at t)) (drop_of_length-le s {i = at} (omega arith))))
 
 ascending_drop : (b len at : ℕ) (es : List ℕ) → Ascending b len es → Ascending b len (drop at es)
 ascending_drop b len zero es a = a

@@ -9,7 +9,7 @@ use mathlib.Core.Path.{◌≡◌, refl, sym, ap, ap₂, ◌∙◌}
 use mathlib.Core.Logic.{◌≢◌, inl, inr}
 use mathlib.Core.Bool.{Bool, cond}
 use mathlib.Core.List.{List, [], ◌∷◌, ◌++◌}
-use lib.ListN.{length, take, drop, get_or, set, length-set}
+use lib.ListN.{length, take, drop, get_or, set}
 use lib.Dec.{eqb}
 use lib.Seq.{take-length}
 use Rattle.rows.specs.declared.Refusal.{Refusal}
@@ -37,11 +37,6 @@ run_at_lem (first ∷ past ∷ ns) (suc i) h =
     let one : suc i + suc i ≡ suc (suc (i + i)) = omega arith in
     let two : suc i + suc i + 1 ≡ suc (suc (i + i + 1)) = omega arith in
     ap₂ run (ap (λ (k : ℕ). get_or all k 0) one) (ap (λ (k : ℕ). get_or all k 0) two) ∙ run_at_lem ns i (omega arith)
-
-pub packed_length : (ns : List ℕ) (n : ℕ) (out : List Run) → length (packed ns n out) ≡ length out
-unfolding packed
-packed_length ns zero out = refl
-packed_length ns (suc n) out = length-set (packed ns n out) n (run_at ns n) ∙ packed_length ns n out
 
 packed_front : (ns : List ℕ) (n : ℕ) (out : List Run) → n + n ≤ length ns → packed ns n out ≡ splice 0 out (take n (records_of ns))
 unfolding packed

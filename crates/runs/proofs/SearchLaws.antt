@@ -6,13 +6,12 @@ use native.Mathlib.Nat.{zero-add, add-zero, suc-add, add-suc, add_assoc, lt_of_l
 use native.Mathlib.Omega.{arith}
 use native.Mathlib.Decide.{ℕ_discrete}
 use mathlib.Core.Path.{◌≡◌, refl, sym, ap, ap₂, subst, ◌∙◌}
-use mathlib.Core.Logic.{◌≢◌}
 use mathlib.Core.Bool.{Bool, true, false, not, cond}
 use mathlib.Core.List.{List, [], ◌∷◌, ◌++◌, map}
 use lib.Bits.{bit_and}
 use lib.Count.{ones, ones_in, count_trailing_zeros}
 use lib.Dec.{eqb}
-use lib.ListN.{length, take, drop, get_or, length-map, length-drop, drop_of_length-le}
+use lib.ListN.{length, take, drop, get_or, length-map, length-drop}
 use lib.Pow.{pow_mono}
 use lib.Seq.{drop-cons, drop-drop, length-take-le}
 use Rattle.rows.specs.Rows.{count}
@@ -22,7 +21,7 @@ use Rattle.rows.specs.Runs.{turns}
 use Rattle.rows.proofs.ClearLaws.{rows_low}
 use Rattle.rows.proofs.ListLaws.{eqb_same, eqb_other, rows_count}
 use Rattle.rows.proofs.PartLaws.{rows_word}
-use Rattle.rows.proofs.SelectLaws.{select_unset, select_in, select_skip, selects}
+use Rattle.rows.proofs.SelectLaws.{select_unset, select_in, select_skip}
 use Rattle.rows.proofs.WordLaws.{word_of_lt, word_of_bits_of, not_bits, ones_word}
 use Rattle.turns.specs.Gaps.{unless}
 use Rattle.turns.proofs.ListTurnLaws.{gaps, list_turns}
@@ -95,17 +94,6 @@ module _ (x : Bool) (row n : ℕ) (s : List Bool) (here : ℕ) (short : n ≤ 64
     pub seek_hit : 0 < here → seek_row x row s ≡ row + count_trailing_zeros 64 here
     seek_hit h = ap (λ (k : ℕ). row + k) (ap (λ (l : List Bool). select l 0) parts ∙ select_in piece (hits x (drop (row + n) s)) 0 (some h) ∙ first h)
 
-    pub hit_within : 0 < here → count_trailing_zeros 64 here < n
-    hit_within h = omega (arith, first h, (selects piece 0 (some h)).within, piece_length)
-
-pub seek_end : (x : Bool) (row : ℕ) (s : List Bool) → row ≡ length s → seek_row x row s ≡ row
-seek_end x row s e =
-    ap (λ (l : List Bool). row + select (hits x l) 0) (drop_of_length-le s {i = row} (omega arith)) ∙ none x
-  where
-    none : (y : Bool) → row + select (hits y []) 0 ≡ row
-    none true = add-zero row
-    none false = add-zero row
-
 select_most : (s : List Bool) → select s 0 ≤ length s
 select_most [] = omega arith
 select_most (true ∷ s) = omega arith
@@ -177,10 +165,3 @@ on_next past i es h e =
     ap (run_on past) (drop-cons es i 0 h)
     ∙ ap (λ (b : Bool). cond b (suc (run_on (suc (get_or es i 0)) rest)) 0) (ap (λ (k : ℕ). eqb k past) e ∙ eqb_same past)
     ∙ ap (λ (k : ℕ). suc (run_on (suc k) rest)) e
-
-pub on_stops : (past i : ℕ) (es : List ℕ) → i < length es → get_or es i 0 ≢ past → run_on past (drop i es) ≡ 0
-on_stops past i es h e =
-    ap (run_on past) (drop-cons es i 0 h) ∙ ap (λ (b : Bool). cond b (suc (run_on (suc (get_or es i 0)) (drop (suc i) es))) 0) (eqb_other (get_or es i 0) past e)
-
-pub on_ends : (past i : ℕ) (es : List ℕ) → length es ≤ i → run_on past (drop i es) ≡ 0
-on_ends past i es h = ap (run_on past) (drop_of_length-le es {i = i} h)

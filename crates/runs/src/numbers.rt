@@ -1,4 +1,4 @@
-// The numbers of runs, pair by pair: the loop over lent records is proved by hand, and hands each run's numbers to a step that is covered.
+// The numbers of runs, pair by pair: the loop over lent records hands each run's numbers to a step.
 ghost use Rattle.std.specs.Prelude.{◌≡◌, [], ◌∷◌, length};
 ghost use Rattle.rules.specs.Records.{numbers_of};
 ghost use Rattle.runs.specs.Numbered.{start_of, moved_by, spliced, HasRoom, told_by};
@@ -8,7 +8,7 @@ use rows::inner::verdicts::{no_refusal, refusal};
 use rules::Run;
 
 // The entry that the next run's first number goes to; or the refusal with which none is written.
-#[derive(Drop)]
+#[derive(Clone, Copy)]
 pub enum Writing {
     At(usize),
     Barred(Refusal),

@@ -12,7 +12,7 @@ use rows::{Refusal, Verdict};
 use rules::{Form, Written};
 
 // How many runs are written, none with a refusal; and what is told.
-#[derive(Drop)]
+#[derive(Clone, Copy)]
 pub struct Plan {
     pub runs: usize,
     pub written: Written,

@@ -1,4 +1,4 @@
-// The records of numbers in pairs: the loop that stores into lent records is proved by hand, and what it stores a covered function reads.
+// The records of numbers in pairs, each read from its two numbers and stored.
 ghost use Rattle.std.specs.Prelude.{◌≡◌, ◌+◌, ◌≤◌, ◌<◌, length};
 ghost use Rattle.runs.specs.Packed.{judged_by, pairs_for, run_at, packed};
 

@@ -167,7 +167,7 @@ pub fn run_of(cursor: Cursor) -> Run
     }
 }
 
-// The records of the first n runs that are found over the front of out, and how many they are: the loop that is proved by hand.
+// The records of the first n runs that are found over the front of out, and how many they are.
 pub fn write_found(words: &[u64], rows: &[u32], cursor: Cursor, n: usize, out: &mut [Run]) -> usize
     requires { SearchReady words.now rows.now cursor n × (n ≤ length out.old) }
     ensures { (result ≡ n) × (out.new ≡ stored_from words.now rows.now 0 cursor n out.old) }

@@ -1,5 +1,5 @@
 // Runs as records laid over lent words, in two passes: the runs are weighed, and laid where nothing is wrong with them. Each pass is a loop
-// that is proved by hand, and hands each run's numbers to a step that is covered.
+// that hands each run's numbers to a step.
 ghost use Rattle.std.specs.Prelude.{◌≡◌, ◌^◌};
 ghost use Rattle.rows.specs.Words.{Below};
 ghost use Rattle.runs.specs.Swept.{start_sweep, Small, weigh_run, weigh_runs, begun, begun_out, LayAsks, LayReady, lay_run, lay_run_out, lay_runs, lay_runs_out, FinishAsks, finished, finished_out};
@@ -15,7 +15,7 @@ use rules::{Answer, Run};
 
 // A pass over runs of so many rows: the row from which the next run may begin, or from which on rows are to be laid, and the lengths summed;
 // or the refusal with which nothing is done.
-#[derive(Drop)]
+#[derive(Clone, Copy)]
 pub enum Sweep {
     On { length: u64, from: u64, sum: u64 },
     Barred(Refusal),

@@ -17,7 +17,7 @@ use Rattle.rows.proofs.ListLaws.{tab_length, rows_count}
 use Rattle.rows.proofs.PartLaws.{rows_append}
 use Rattle.rows.proofs.MarkLaws.{marked_append, marked_length}
 use Rattle.rows.proofs.RunLaws.{run_rows, tab_add, in_runs_lem, rows_sum, runs_few, apart_wider}
-use Rattle.rows.proofs.RunTurnLaws.{NextRun, next_run, rows_next, rows_none, lengths_next, lengths_none}
+use Rattle.rows.proofs.RunTurnLaws.{NextRun, next_run, rows_next, rows_none, lengths_next}
 use Rattle.rows.proofs.ComposeRunLaws.{compose_unset, compose_set}
 use Rattle.books.specs.Windows.{window, Reached}
 use Rattle.under.proofs.WindowLaws.{unset_rows, rows_past}

@@ -1,15 +1,18 @@
--- Select in a word, by its bits: low bits skipped, low bits searched alone, the lowest set bit found by the zeros below
--- it, and the next by those between the two. Each is a law of select on rows, at the bits of a word of any width.
+-- Select in a word, by its bits: low bits skipped, low bits searched alone, the lowest set bit cleared, the lowest found by the zeros
+-- below it, and the next by those between the two. Each is a law of select on rows, at the bits of a word of any width.
 -- Assumes nothing.
 use Rattle.std.proofs.Common.{◌≡◌, ℕ, zero, suc, ◌+◌, ◌-◌, ◌/◌, ◌%◌, ◌^◌, ◌<◌, ◌≤◌, Bool, List, ◌++◌, sym, refl, ap, ◌∙◌, subst, ap₂, ⊎_elim, le_of_suc-le-suc, arith}
 use Rattle.std.proofs.lemmas.Bool.{cases_lt}
+use native.Mathlib.Nat.{mod-mod}
+use lib.Bits.{bit_and}
 use lib.Count.{ones, count_trailing_zeros, under}
 use Rattle.rows.specs.Rows.{count}
 use Rattle.rows.specs.Word.{bits_of}
 use Rattle.rows.specs.Lists.{select}
 use Rattle.rows.proofs.RowLaws.{count_append}
 use Rattle.rows.proofs.WordLaws.{bits_of_length, bits_of_add, bits_mod, count_bits_mod}
-use Rattle.rows.proofs.SelectLaws.{select_unset, select_in, select_none, select_skip, selects}
+use Rattle.rows.proofs.SelectLaws.{select_unset, select_in, select_none, select_skip, selects, select_cleared}
+use Rattle.rows.proofs.ClearLaws.{cleared_bits}
 use Rattle.network.proofs.DigitLaws.{digit}
 
 -- the rank is past the k low bits
@@ -19,12 +22,25 @@ skip_bits k w n r h =
     ap (λ (l : List Bool). select l r) (bits_of_add k w n) ∙ select_skip (bits_of k n) (bits_of w (n / 2 ^ k)) r (omega arith)
     ∙ ap₂ (λ (x y : ℕ). x + select (bits_of w (n / 2 ^ k)) (r - y)) (bits_of_length k n) c
 
--- the rank is in the k low bits: they may be searched alone
-pub in_bits : (k w n r : ℕ) → r < ones (n % 2 ^ k) → select (bits_of (k + w) n) r ≡ select (bits_of k (n % 2 ^ k)) r
-in_bits k w n r h =
+-- the rank is in the k low bits
+low_bits : (k w n r : ℕ) → r < ones (n % 2 ^ k) → select (bits_of (k + w) n) r ≡ select (bits_of k n) r
+low_bits k w n r h =
     let c : count (bits_of k n) ≡ ones (n % 2 ^ k) = count_bits_mod k n in
     ap (λ (l : List Bool). select l r) (bits_of_add k w n) ∙ select_in (bits_of k n) (bits_of w (n / 2 ^ k)) r (omega arith)
-    ∙ ap (λ (l : List Bool). select l r) (sym (bits_mod k n))
+
+-- then they may be searched alone
+pub in_low_bits : (k w n r : ℕ) → r < ones (n % 2 ^ k) → select (bits_of (k + w) n) r ≡ select (bits_of k (n % 2 ^ k)) r
+in_low_bits k w n r h = low_bits k w n r h ∙ ap (λ (l : List Bool). select l r) (sym (bits_mod k n))
+
+-- and as a word of any width
+pub in_bits : (k w v n r : ℕ) → r < ones (n % 2 ^ k) → select (bits_of (k + w) n) r ≡ select (bits_of (k + v) (n % 2 ^ k)) r
+in_bits k w v n r h =
+    let e : n % 2 ^ k % 2 ^ k ≡ n % 2 ^ k = mod-mod n (2 ^ k) in
+    in_low_bits k w n r h ∙ sym (low_bits k v (n % 2 ^ k) r (subst (λ (x : ℕ). r < ones x) (sym e) h))
+
+-- the lowest set bit cleared
+pub select_and_pred : (w n r : ℕ) → select (bits_of w (bit_and n (n - 1))) r ≡ select (bits_of w n) (suc r)
+select_and_pred w n r = ap (λ (s : List Bool). select s r) (cleared_bits w n) ∙ select_cleared (bits_of w n) r
 
 -- at any rank the place is one of theirs or their number
 pub in_bits_le : (k n r : ℕ) → select (bits_of k n) r ≤ k

@@ -1,6 +1,6 @@
 -- `runs::runs_to_words` meets its contract: a chain of five calls. The runs are weighed and then laid, and what the two passes come to is what
 -- a conversion to words tells and writes. Assumes nothing.
-use Rattle.std.proofs.Common.{ℕ, ◌^◌, ◌≡◌, subst, sym, ap, ap₂, ◌∙◌}
+use Rattle.std.proofs.Common.{◌^◌, subst, sym, ap, ap₂, ◌∙◌}
 use Rattle.rows.specs.Words.{Below}
 use Rattle.runs.specs.declared.words.Sweep.{Sweep}
 use Rattle.runs.specs.Swept.{start_sweep, weigh_runs, Small, begun, begun_out, lay_runs, lay_runs_out, LayReady, finished, finished_out, FinishAsks}

@@ -1,6 +1,6 @@
 -- `runs::to_numbers` meets its contract: the room is judged, the pairs are written where they have it, and what is told says which.
 -- By what a table of one line tells, and what the pairs leave. Assumes nothing.
-use Rattle.std.proofs.Common.{◌≡◌, List, ℕ, length, subst, sym, ap, ◌∙◌}
+use Rattle.std.proofs.Common.{length, subst, sym, ap, ◌∙◌}
 use Rattle.rules.specs.Records.{numbers_of}
 use Rattle.runs.specs.declared.numbers.Writing.{Writing}
 use Rattle.runs.specs.Numbered.{moved_by, spliced, HasRoom, told_by}

@@ -1,6 +1,6 @@
 -- `runs::to_records` meets its contract: what is told is judged, and then as many pairs are stored as it lets.
 -- By what the table tells, and what the pairs leave. Assumes nothing.
-use Rattle.std.proofs.Common.{◌≡◌, ◌+◌, ◌≤◌, List, ℕ, length, subst, sym, ap, ◌∙◌}
+use Rattle.std.proofs.Common.{◌+◌, ◌≤◌, ℕ, length, subst, sym, ap, ◌∙◌}
 use Rattle.rows.specs.declared.Refusal.{Refusal}
 use Rattle.runs.specs.Packed.{pairs_for, packed}
 use Rattle.runs.proofs.RecordsLaws.{records_room, records_told, records_left}

@@ -21,30 +21,30 @@ use Rattle.deposits.proofs.inner.intersect_bit_buffer_by_rank_indices.Tie as tie
 
 -- ---- the places, each from the one after it: the chunks alone, or the whole words and the chunks after them
 
-abbrev entry : tie.After-slice-known → tie.Start
+abbrev entry : tie.After-slice_known-1 → tie.Start
 entry c = c.before.before.before
 
-abbrev astride : tie.After-gather-chunks-arg → tie.Start
+abbrev astride : tie.After-gather_chunks-arg-1 → tie.Start
 astride c = entry c.before.before
 
-abbrev chunks : tie.After-slice-known2 → tie.After-gather-chunks
+abbrev chunks : tie.After-slice_known-then-at-ne0-1 → tie.After-gather_chunks
 chunks c = c.before.before
 
-abbrev aligned : tie.After-gather-words-arg → tie.Start
+abbrev aligned : tie.After-gather_words-arg-1 → tie.Start
 aligned c = entry c.before.before
 
-abbrev words : tie.After-slice-known3 → tie.After-gather-words
+abbrev words : tie.After-slice_known-2-1 → tie.After-gather_words-reached
 words c = c.before.before
 
-abbrev asked : tie.After-gather-chunks2 → tie.After-slice-known3
+abbrev asked : tie.After-gather_chunks-2 → tie.After-slice_known-2-1
 asked c = c.before.before
 
-abbrev ended : tie.After-slice-known4 → tie.After-gather-chunks2
+abbrev ended : tie.After-slice_known-3-1 → tie.After-gather_chunks-2
 ended c = c.before.before
 
 -- ---- the whole words: how many rows they are, what they leave, and what is known once they are laid
 
-module _ (c : tie.After-gather-words) where
+module _ (c : tie.After-gather_words-reached) where
   abbrev start : tie.Start
   start = aligned c.before
 
@@ -71,10 +71,10 @@ module _ (c : tie.After-gather-words) where
   more = count (view (start.args.start + done) rest ws)
 
   abbrev reached : ℕ
-  reached = c.gather-words.result.rank.0
+  reached = c.gather_words-reached.result.rank.0
 
   few : reached ≤ done
-  few = omega (arith, c.gather-words.ensures.0, count_take_le done (drop start.args.start (bits_of_all 64 ws)))
+  few = omega (arith, c.gather_words-reached.ensures.0, count_take_le done (drop start.args.start (bits_of_all 64 ws)))
 
   all : done + rest ≡ start.args.len
   all = omega arith
@@ -84,7 +84,7 @@ module _ (c : tie.After-gather-words) where
 
   -- the ranks that are left
   ranks_left : drop reached (listed (reached + more) es) ≡ drop passed (listed total es)
-  ranks_left = ap (λ (k : ℕ). drop k (listed (k + more) es)) c.gather-words.ensures.0 ∙ ap (λ (k : ℕ). drop passed (listed k es)) sum
+  ranks_left = ap (λ (k : ℕ). drop k (listed (k + more) es)) c.gather_words-reached.ensures.0 ∙ ap (λ (k : ℕ). drop passed (listed k es)) sum
 
   -- the ranks past the whole words do not matter to them
   whole : laid (start.args.at / 64 * 64) (compose (view start.args.start done ws) (listed passed es)) start.args.out.now
@@ -96,60 +96,60 @@ module _ (c : tie.After-gather-words) where
 
 -- ---- the answers
 
-gather-chunks-requires : tie.Need-gather-chunks-requires
+gather-chunks-requires : tie.Need-gather_chunks-requires
 gather-chunks-requires c κs =
     let s = astride c in
-    let p = s.pre in
+    let p = s.requires in
     (p.0.0, p.0.2, p.1, omega arith, record { within = omega arith; before = tt; after = ascending_climbs 0 _ s.args.ranks.now p.2 })
 
-same_length : tie.Need-same-length
+same_length : tie.Need-shape_of-out-then-at-ne0
 same_length c = search rules
 
-returns : tie.Need-returns
+returns : tie.Need-returns-then-at-ne0
 returns c =
     let a = (astride (chunks c).before).args in
     let self = view a.start a.len a.words.now in
-    (chunks c).gather-chunks.ensures
+    (chunks c).gather_chunks.ensures
     ∙ ap (λ (k : ℕ). laid a.at (compose self (listed k a.ranks.now)) a.out.now) (zero-add (count self))
 
-gather-words-requires : tie.Need-gather-words-requires
+gather-words-requires : tie.Need-gather_words-reached-requires
 gather-words-requires c κs =
     let s = aligned c in
-    (omega (arith, s.pre.0), omega (arith, s.pre.1), ascending_climbs 0 _ s.args.ranks.now s.pre.2)
+    (omega (arith, s.requires.0), omega (arith, s.requires.1), ascending_climbs 0 _ s.args.ranks.now s.requires.2)
 
-mul-done : tie.Need-overflow-mul-done
+mul-done : tie.Need-overflow_mul-done
 mul-done c = omega arith
 
-add-gather-chunks : tie.Need-overflow-add-gather-chunks
-add-gather-chunks c = omega (arith, (start (words c)).pre.0, (start (words c)).pre.1)
+add-gather-chunks : tie.Need-overflow_add-start
+add-gather-chunks c = omega (arith, (start (words c)).requires.0, (start (words c)).requires.1)
 
-sub-gather-chunks : tie.Need-overflow-sub-gather-chunks
+sub-gather-chunks : tie.Need-overflow_sub-len
 sub-gather-chunks c = omega arith
 
-add-gather-chunks-2 : tie.Need-overflow-add-gather-chunks-2
-add-gather-chunks-2 c = omega (arith, (start (words c)).pre.0, (start (words c)).pre.1)
+add-gather-chunks-2 : tie.Need-overflow_add-at
+add-gather-chunks-2 c = omega (arith, (start (words c)).requires.0, (start (words c)).requires.1)
 
-gather-chunks-requires-2 : tie.Need-gather-chunks-requires-2
+gather-chunks-requires-2 : tie.Need-gather_chunks-requires-2
 gather-chunks-requires-2 c κs =
     let k = words c.before in
-    let p = (start k).pre in
-    let long = rw laid_length at (ap length k.gather-words.ensures.2) in
-    (omega (arith, p.0), omega (arith, p.0), (omega (arith, p.1, long), omega (arith, p.1)), omega (arith, p.0, few k), k.gather-words.ensures.1)
+    let p = (start k).requires in
+    let long = rw laid_length at (ap length k.gather_words-reached.ensures.2) in
+    (omega (arith, p.0), omega (arith, p.0), (omega (arith, p.1, long), omega (arith, p.1)), omega (arith, p.0, few k), k.gather_words-reached.ensures.1)
 
-same-length-2 : tie.Need-same-length-2
+same-length-2 : tie.Need-shape_of-out
 same-length-2 c = search rules
 
-returns-2 : tie.Need-returns-2
+returns-2 : tie.Need-returns
 returns-2 c =
     let e = ended c in
     let k = words (asked e) in
     let a = (start k).args in
     let r = listed (total k) (es k) in
-    e.gather-chunks2.ensures
+    e.gather_chunks-2.ensures
     ∙ ap₂ (λ (l : List Bool) (o : List ℕ). laid (a.at + done k) (compose (view (a.start + done k) (rest k) (ws k)) l) o)
     (ranks_left k)
-    (k.gather-words.ensures.2 ∙ whole k)
-    ∙ whole_and_rest a.start a.at (done k) (rest k) (ws k) a.out.now r (omega (arith, (start k).pre.0.2))
+    (k.gather_words-reached.ensures.2 ∙ whole k)
+    ∙ whole_and_rest a.start a.at (done k) (rest k) (ws k) a.out.now r (omega (arith, (start k).requires.0.2))
     ∙ ap (λ (i : ℕ). laid a.at (compose (view a.start i (ws k)) r) a.out.now) (all k)
 
 pub intersect_bit_buffer_by_rank_indices_spec : {M : Type 1} → statement M

@@ -18,30 +18,30 @@ use Rattle.deposits.proofs.inner.intersect_bit_buffers.Tie as tie
 
 -- ---- the places, each from the one after it: the chunks alone, or the whole words and the chunks after them
 
-abbrev entry : tie.After-slice-known → tie.Start
+abbrev entry : tie.After-slice_known-1 → tie.Start
 entry c = c.before.before.before
 
-abbrev astride : tie.After-read-chunks-arg → tie.Start
+abbrev astride : tie.After-read_chunks-arg-1 → tie.Start
 astride c = entry c.before.before
 
-abbrev chunks : tie.After-slice-known2 → tie.After-read-chunks
+abbrev chunks : tie.After-slice_known-then-at-ne0-1 → tie.After-read_chunks
 chunks c = c.before.before
 
-abbrev aligned : tie.After-read-words-arg → tie.Start
+abbrev aligned : tie.After-read_words-arg-1 → tie.Start
 aligned c = entry c.before.before
 
-abbrev words : tie.After-slice-known3 → tie.After-read-words
+abbrev words : tie.After-slice_known-2-1 → tie.After-read_words-rank
 words c = c.before.before
 
-abbrev asked : tie.After-read-chunks2 → tie.After-slice-known3
+abbrev asked : tie.After-read_chunks-2 → tie.After-slice_known-2-1
 asked c = c.before.before
 
-abbrev ended : tie.After-slice-known4 → tie.After-read-chunks2
+abbrev ended : tie.After-slice_known-3-1 → tie.After-read_chunks-2
 ended c = c.before.before
 
 -- ---- the whole words: how many rows they are, what they leave, and what is known once they are laid
 
-module _ (c : tie.After-read-words) where
+module _ (c : tie.After-read_words-rank) where
   abbrev start : tie.Start
   start = aligned c.before
 
@@ -57,8 +57,8 @@ module _ (c : tie.After-read-words) where
   abbrev rest : ℕ
   rest = start.args.len - done
 
-  few : c.read-words.result.0 ≤ done
-  few = omega (arith, c.read-words.ensures.0, count_take_le done (drop start.args.start (bits_of_all 64 ws)))
+  few : c.read_words-rank.result.0 ≤ done
+  few = omega (arith, c.read_words-rank.ensures.0, count_take_le done (drop start.args.start (bits_of_all 64 ws)))
 
   all : done + rest ≡ start.args.len
   all = omega arith
@@ -68,49 +68,49 @@ module _ (c : tie.After-read-words) where
 
 -- ---- the answers
 
-read-chunks-requires : tie.Need-read-chunks-requires
+read-chunks-requires : tie.Need-read_chunks-requires
 read-chunks-requires c κs = omega (arith, (astride c).requires)
 
-same_length : tie.Need-same-length
+same_length : tie.Need-shape_of-out-then-at-ne0
 same_length c = search rules
 
-returns : tie.Need-returns
-returns c = (chunks c).read-chunks.ensures
+returns : tie.Need-returns-then-at-ne0
+returns c = (chunks c).read_chunks.ensures
 
-read-words-requires : tie.Need-read-words-requires
+read-words-requires : tie.Need-read_words-rank-requires
 read-words-requires c κs = omega (arith, (aligned c).requires)
 
-mul-done : tie.Need-overflow-mul-done
+mul-done : tie.Need-overflow_mul-done
 mul-done c = omega arith
 
-add-read-chunks : tie.Need-overflow-add-read-chunks
-add-read-chunks c = omega (arith, (start (words c)).pre)
+add-read-chunks : tie.Need-overflow_add-start
+add-read-chunks c = omega (arith, (start (words c)).requires)
 
-sub-read-chunks : tie.Need-overflow-sub-read-chunks
+sub-read-chunks : tie.Need-overflow_sub-len
 sub-read-chunks c = omega arith
 
-add-read-chunks-2 : tie.Need-overflow-add-read-chunks-2
-add-read-chunks-2 c = omega (arith, (start (words c)).pre)
+add-read-chunks-2 : tie.Need-overflow_add-at
+add-read-chunks-2 c = omega (arith, (start (words c)).requires)
 
-read-chunks-requires-2 : tie.Need-read-chunks-requires-2
+read-chunks-requires-2 : tie.Need-read_chunks-requires-2
 read-chunks-requires-2 c κs =
     let k = words c.before in
-    omega (arith, (start k).pre, few k, rw laid_length at (ap length k.read-words.ensures.1))
+    omega (arith, (start k).requires, few k, rw laid_length at (ap length k.read_words-rank.ensures.1))
 
-same-length-2 : tie.Need-same-length-2
+same-length-2 : tie.Need-shape_of-out
 same-length-2 c = search rules
 
-returns-2 : tie.Need-returns-2
+returns-2 : tie.Need-returns
 returns-2 c =
     let e = ended c in
     let k = words (asked e) in
     let a = (start k).args in
-    let w = k.read-words.ensures in
-    e.read-chunks2.ensures
+    let w = k.read_words-rank.ensures in
+    e.read_chunks-2.ensures
     ∙ ap₂ (λ (i : ℕ) (o : List ℕ). laid (a.at + done k) (compose (view (a.start + done k) (rest k) (ws k)) (drop i (r k))) o)
     w.0
     (w.1 ∙ ap (λ (i : ℕ). laid i (compose (view a.start (done k) (ws k)) (r k)) a.out.now) (place k))
-    ∙ whole_and_rest a.start a.at (done k) (rest k) (ws k) a.out.now (r k) (omega (arith, (start k).pre))
+    ∙ whole_and_rest a.start a.at (done k) (rest k) (ws k) a.out.now (r k) (omega (arith, (start k).requires))
     ∙ ap (λ (i : ℕ). laid a.at (compose (view a.start i (ws k)) (r k)) a.out.now) (all k)
 
 pub intersect_bit_buffers_spec : {M : Type 1} → statement M

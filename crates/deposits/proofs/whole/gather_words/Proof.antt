@@ -22,42 +22,42 @@ use borrow.Author.Rules.{rules}
 use Rattle.deposits.proofs.whole.gather_words.Statement.{statement}
 use Rattle.deposits.proofs.whole.gather_words.Tie as tie
 
-abbrev invariant-loop : tie.invariant-loop
+abbrev invariant-loop : tie.invariant-loop-i
 invariant-loop way words start n ranks to out₀ i₀ rank₀ next₀ out i rank next =
     (i ≤ n) × Stored start to words out₀ (listed (count (view start (n * 64) words)) ranks) i rank.0 out × Parted rank.0 next ranks
 
-abbrev decreases-loop : tie.decreases-loop
+abbrev decreases-loop : tie.decreases-loop-i
 decreases-loop way words start n ranks to out₀ i₀ rank₀ next₀ out i rank next = n - i
 
 -- ---- the places, each from the one after it
 
-abbrev entry : tie.After-slice-known invariant-loop decreases-loop → tie.Start invariant-loop decreases-loop
+abbrev entry : tie.After-slice_known-1 invariant-loop decreases-loop → tie.Start invariant-loop decreases-loop
 entry c = c.before.before.before
 
-abbrev head : tie.In-loop invariant-loop decreases-loop → tie.At-loop invariant-loop decreases-loop
+abbrev head : tie.In-loop-i invariant-loop decreases-loop → tie.At-loop-i invariant-loop decreases-loop
 head c = c.before
 
-abbrev start : tie.In-loop invariant-loop decreases-loop → tie.Start invariant-loop decreases-loop
+abbrev start : tie.In-loop-i invariant-loop decreases-loop → tie.Start invariant-loop decreases-loop
 start c = entry (head c).before
 
-abbrev turn : tie.After-whole-word invariant-loop decreases-loop → tie.In-loop invariant-loop decreases-loop
+abbrev turn : tie.After-whole_word-mask invariant-loop decreases-loop → tie.In-loop-i invariant-loop decreases-loop
 turn c = c.before
 
-abbrev masked : tie.After-rank-bits-for-chunk invariant-loop decreases-loop → tie.After-whole-word invariant-loop decreases-loop
+abbrev masked : tie.After-rank_bits_for_chunk-gathered invariant-loop decreases-loop → tie.After-whole_word-mask invariant-loop decreases-loop
 masked c = c.before
 
-abbrev found : tie.After-deposit-bits invariant-loop decreases-loop → tie.After-rank-bits-for-chunk invariant-loop decreases-loop
+abbrev found : tie.After-deposit_bits invariant-loop decreases-loop → tie.After-rank_bits_for_chunk-gathered invariant-loop decreases-loop
 found c = c.before
 
-abbrev written : tie.After-struct-known invariant-loop decreases-loop → tie.After-deposit-bits invariant-loop decreases-loop
+abbrev written : tie.After-struct_known-1 invariant-loop decreases-loop → tie.After-deposit_bits invariant-loop decreases-loop
 written c = c.before
 
-abbrev last : tie.After-loop invariant-loop decreases-loop → tie.At-loop invariant-loop decreases-loop
+abbrev last : tie.After-loop-i invariant-loop decreases-loop → tie.At-loop-i invariant-loop decreases-loop
 last c = c.before
 
 -- ---- a turn: its word of self, and what is known of it
 
-module _ (c : tie.In-loop invariant-loop decreases-loop) where
+module _ (c : tie.In-loop-i invariant-loop decreases-loop) where
   abbrev ws : List ℕ
   ws = (start c).args.words.now
 
@@ -68,7 +68,7 @@ module _ (c : tie.In-loop invariant-loop decreases-loop) where
   total = count (view (start c).args.start ((start c).args.n * 64) ws)
 
   abbrev i : ℕ
-  i = (head c).loop.i
+  i = (head c).loop-i.i
 
   abbrev passed : ℕ
   passed = count (view (start c).args.start (i * 64) ws)
@@ -89,100 +89,100 @@ module _ (c : tie.In-loop invariant-loop decreases-loop) where
       let past = whole_rank a.start i a.to ws a.out.now (listed total es) reach in
       omega (arith, past, ones_word word, rank_within a.start ((i + 1) * 64) (a.n * 64) ws (omega arith))
 
-few : (c : tie.After-whole-word invariant-loop decreases-loop) → ones c.whole_word.result ≤ 64
-few c = omega (arith, ap ones c.whole_word.ensures, chunk_few 64 (rows (turn c)))
+few : (c : tie.After-whole_word-mask invariant-loop decreases-loop) → ones c.whole_word-mask.result ≤ 64
+few c = omega (arith, ap ones c.whole_word-mask.ensures, chunk_few 64 (rows (turn c)))
 
 -- the rank bits that were gathered are those of its ranks
-module _ (c : tie.After-rank-bits-for-chunk invariant-loop decreases-loop) where
-  abbrev here : tie.In-loop invariant-loop decreases-loop
+module _ (c : tie.After-rank_bits_for_chunk-gathered invariant-loop decreases-loop) where
+  abbrev here : tie.In-loop-i invariant-loop decreases-loop
   here = turn (masked c)
 
-  same : compose (word here) (bits_of 64 c.rank-bits-for-chunk.result.bits) ≡ compose (word here) (drop (passed here) (listed (total here) (es here)))
+  same : compose (word here) (bits_of 64 c.rank_bits_for_chunk-gathered.result.bits) ≡ compose (word here) (drop (passed here) (listed (total here) (es here)))
   same =
       let t = word here in
-      let set : ones (masked c).whole_word.result ≡ count t = ap ones (masked c).whole_word.ensures ∙ ones_word t in
-      let bits = ap₂ (λ (x y : ℕ). word_of (tab x y (λ i. member i (es here)))) (head here).loop.inv.1.counted set in
-      ap (λ (x : ℕ). compose t (bits_of 64 x)) (c.rank-bits-for-chunk.ensures.is ∙ bits)
+      let set : ones (masked c).whole_word-mask.result ≡ count t = ap ones (masked c).whole_word-mask.ensures ∙ ones_word t in
+      let bits = ap₂ (λ (x y : ℕ). word_of (tab x y (λ i. member i (es here)))) (head here).loop-i.invariant.1.counted set in
+      ap (λ (x : ℕ). compose t (bits_of 64 x)) (c.rank_bits_for_chunk-gathered.ensures.is ∙ bits)
       ∙ gathered_same t (passed here) (total here) (λ i. member i (es here)) (omega (arith, fit_length 64 (rows here))) (ranked here)
 
 -- ---- the answers
 
-loop-holds : tie.Need-loop-init invariant-loop decreases-loop
+loop-holds : tie.Need-loop-i-init invariant-loop decreases-loop
 loop-holds c =
     let a = (entry c).args in
     let out = a.out.now in (
       omega arith,
-      stored_none a.start a.to a.words.now out _ (below_all (2 ^ 64) out (λ i. (c.slice-known.given i).fits)),
+      stored_none a.start a.to a.words.now out _ (below_all (2 ^ 64) out (λ i. (c.slice_known-1.given i).fits)),
       record { within = omega arith; before = tt; after = (entry c).requires.2 },
     )
 
-whole-word-requires : tie.Need-whole-word-requires invariant-loop decreases-loop
+whole-word-requires : tie.Need-whole_word-mask-requires invariant-loop decreases-loop
 whole-word-requires c κs = ((start c).requires.0.1, omega (arith, (start c).requires.0.2))
 
-cast-rank-bits-for-chunk : tie.Need-overflow-cast-rank-bits-for-chunk invariant-loop decreases-loop
+cast-rank-bits-for-chunk : tie.Need-overflow_cast-set invariant-loop decreases-loop
 cast-rank-bits-for-chunk c = omega (arith, few c)
 
-rank-bits-for-chunk-requires : tie.Need-rank-bits-for-chunk-requires invariant-loop decreases-loop
+rank-bits-for-chunk-requires : tie.Need-rank_bits_for_chunk-gathered-requires invariant-loop decreases-loop
 rank-bits-for-chunk-requires c κs =
-    let l = (head (turn c)).loop in
-    (omega (arith, few c), omega (arith, (start (turn c)).pre.0.0, l.inv.1.few, few c), l.inv.2)
+    let l = (head (turn c)).loop-i in
+    (omega (arith, few c), omega (arith, (start (turn c)).requires.0.0, l.invariant.1.few, few c), l.invariant.2)
 
-add_at : tie.Need-overflow-add-at invariant-loop decreases-loop
-add_at c = omega (arith, (start (here c)).pre.1)
+add_at : tie.Need-overflow_add-at invariant-loop decreases-loop
+add_at c = omega (arith, (start (here c)).requires.1)
 
-deposit-bits-requires : tie.Need-deposit-bits-requires invariant-loop decreases-loop
+deposit-bits-requires : tie.Need-deposit_bits-requires invariant-loop decreases-loop
 deposit-bits-requires c κs = search rules
 
-mul-out : tie.Need-overflow-mul-out invariant-loop decreases-loop
-mul-out c = omega (arith, (start (here (found c))).pre.1)
+mul-out : tie.Need-offset_bounds-out-at invariant-loop decreases-loop
+mul-out c = omega (arith, (start (here (found c))).requires.1)
 
-slice-write-out : tie.Need-slice-write-out invariant-loop decreases-loop
+slice-write-out : tie.Need-bounds-out-at invariant-loop decreases-loop
 slice-write-out c =
     let t = here (found c) in
-    omega (arith, (start t).pre.1, (head t).loop.inv.1.long)
+    omega (arith, (start t).requires.1, (head t).loop-i.invariant.1.long)
 
-cast-past : tie.Need-overflow-cast-past invariant-loop decreases-loop
+cast-past : tie.Need-overflow_cast-past invariant-loop decreases-loop
 cast-past c = omega (arith, few (masked (found c)))
 
-add-past : tie.Need-overflow-add-past invariant-loop decreases-loop
+add-past : tie.Need-overflow_add-past invariant-loop decreases-loop
 add-past c =
     let m = masked (found (written c)) in
-    omega (arith, (start (turn m)).pre.0.0, (head (turn m)).loop.inv.1.few, few m)
+    omega (arith, (start (turn m)).requires.0.0, (head (turn m)).loop-i.invariant.1.few, few m)
 
-add-i : tie.Need-overflow-add-i invariant-loop decreases-loop
-add-i c = omega (arith, (start (here (found (written c)))).pre.0.0)
+add-i : tie.Need-overflow_add-i invariant-loop decreases-loop
+add-i c = omega (arith, (start (here (found (written c)))).requires.0.0)
 
-loop-less : tie.Need-loop-smaller invariant-loop decreases-loop
+loop-less : tie.Need-loop-i-smaller invariant-loop decreases-loop
 loop-less c = omega arith
 
-loop-again : tie.Need-loop-preserved invariant-loop decreases-loop
+loop-again : tie.Need-loop-i-preserved invariant-loop decreases-loop
 loop-again c =
     let d = written c in
     let g = found d in
     let m = masked g in
     let t = turn m in
     let a = (start t).args in
-    let l = (head t).loop in (
+    let l = (head t).loop-i in (
       omega arith,
       stored_word a.start l.i a.to (ws t) a.out.now (listed (total t) (es t)) (reach t)
-          l.rank.0 m.whole_word.result g.rank-bits-for-chunk.result.bits d.deposit-bits.result l.out
-          l.inv.1 m.whole_word.ensures (same g) d.deposit-bits.ensures,
-      g.rank-bits-for-chunk.ensures.parted,
+          l.rank.0 m.whole_word-mask.result g.rank_bits_for_chunk-gathered.result.bits d.deposit_bits.result l.out
+          l.invariant.1 m.whole_word-mask.ensures (same g) d.deposit_bits.ensures,
+      g.rank_bits_for_chunk-gathered.ensures.parted,
     )
 
-same_length : tie.Need-same-length invariant-loop decreases-loop
+same_length : tie.Need-shape_of-out invariant-loop decreases-loop
 same_length c = search rules
 
 returns : tie.Need-returns invariant-loop decreases-loop
 returns c =
-    let l = (last c).loop in
+    let l = (last c).loop-i in
     let a = (entry (last c).before).args in
     let ws = a.words.now in
     let r = listed (count (view a.start (a.n * 64) ws)) a.ranks.now in
     let all : l.i ≡ a.n = omega arith in (
-      l.inv.1.counted ∙ ap (λ (k : ℕ). count (view a.start (k * 64) ws)) all,
-      l.inv.2,
-      l.inv.1.composed ∙ ap (λ (k : ℕ). laid (a.to * 64) (compose (view a.start (k * 64) ws) r) a.out.now) all,
+      l.invariant.1.counted ∙ ap (λ (k : ℕ). count (view a.start (k * 64) ws)) all,
+      l.invariant.2,
+      l.invariant.1.composed ∙ ap (λ (k : ℕ). laid (a.to * 64) (compose (view a.start (k * 64) ws) r) a.out.now) all,
     )
 
 pub gather_words_spec : {M : Type 1} → statement M

@@ -17,10 +17,10 @@ use Rattle.kept.proofs.chunks.keep_bits.Tie as tie
 
 -- ---- the places, each from the one after it
 
-abbrev start : tie.After-run-bits-for-chunk → tie.Start
+abbrev start : tie.After-run_bits_for_chunk-gathered → tie.Start
 start c = c.before.before
 
-abbrev read : tie.After-struct-known → tie.After-run-bits-for-chunk
+abbrev read : tie.After-struct_known-1 → tie.After-run_bits_for_chunk-gathered
 read c = c.before.before
 
 -- ---- the chunk's set rows, and those that are kept
@@ -28,14 +28,14 @@ read c = c.before.before
 few : (c : tie.Start) → ones c.args.mask ≤ 64
 few c = ones-le 64 c.args.mask c.ranges.mask.fits
 
-module _ (c : tie.After-run-bits-for-chunk) where
+module _ (c : tie.After-run_bits_for_chunk-gathered) where
   abbrev s : tie.Start
   s = start c
 
-  kept : ones c.run-bits-for-chunk.result.bits ≡ count (window s.args.rank.0 (ones s.args.mask) s.args.ranks.now)
-  kept = ap ones c.run-bits-for-chunk.ensures.0 ∙ ones_word (window s.args.rank.0 (ones s.args.mask) s.args.ranks.now)
+  kept : ones c.run_bits_for_chunk-gathered.result.bits ≡ count (window s.args.rank.0 (ones s.args.mask) s.args.ranks.now)
+  kept = ap ones c.run_bits_for_chunk-gathered.ensures.0 ∙ ones_word (window s.args.rank.0 (ones s.args.mask) s.args.ranks.now)
 
-  kept_few : ones c.run-bits-for-chunk.result.bits ≤ 64
+  kept_few : ones c.run_bits_for_chunk-gathered.result.bits ≤ 64
   kept_few =
       let a = s.args in
       let w = window a.rank.0 (ones a.mask) a.ranks.now in
@@ -43,23 +43,23 @@ module _ (c : tie.After-run-bits-for-chunk) where
 
 -- ---- the answers
 
-cast-set : tie.Need-overflow-cast-set
+cast-set : tie.Need-overflow_cast-set
 cast-set c = omega (arith, few c.before)
 
-run-bits-for-chunk-requires : tie.Need-run-bits-for-chunk-requires
+run-bits-for-chunk-requires : tie.Need-run_bits_for_chunk-gathered-requires
 run-bits-for-chunk-requires c κs = (few c.before, omega (arith, few c.before, c.before.requires.0), c.before.requires.1)
 
-deposit-portable-requires : tie.Need-deposit-portable-requires
+deposit-portable-requires : tie.Need-deposit_portable-bits-requires
 deposit-portable-requires c κs = search rules
 
-cast-held : tie.Need-overflow-cast-held
+cast-held : tie.Need-overflow_cast-held
 cast-held c = omega (arith, kept_few (read c))
 
 returns : tie.Need-returns
 returns c =
     let r = read c in
-    let e = r.run-bits-for-chunk.ensures in
-    (refl, c.before.deposit-portable.ensures ∙ ap (λ (x : ℕ). pdep 64 x (start r).args.mask) e.0, kept r, e.1)
+    let e = r.run_bits_for_chunk-gathered.ensures in
+    (refl, c.before.deposit_portable-bits.ensures ∙ ap (λ (x : ℕ). pdep 64 x (start r).args.mask) e.0, kept r, e.1)
 
 pub keep_bits_spec : {M : Type 1} → statement M
 keep_bits_spec = tie.close (tie.spec cast-set run-bits-for-chunk-requires deposit-portable-requires cast-held returns)

@@ -23,25 +23,25 @@ use Rattle.kept.proofs.inner.keep_words.Tie as tie
 
 -- ---- the places, each from the one after it: the chunks alone, or the whole words and the chunks after them
 
-abbrev entry : tie.After-slice-known → tie.Start
+abbrev entry : tie.After-slice_known-1 → tie.Start
 entry c = c.before.before.before
 
-abbrev astride : tie.After-keep-chunks-arg → tie.Start
+abbrev astride : tie.After-keep_chunks-arg-1 → tie.Start
 astride c = entry c.before.before
 
-abbrev chunks : tie.After-slice-known2 → tie.After-keep-chunks
+abbrev chunks : tie.After-slice_known-then-at-ne0-1 → tie.After-keep_chunks
 chunks c = c.before.before
 
-abbrev aligned : tie.After-keep-whole-arg → tie.Start
+abbrev aligned : tie.After-keep_whole-arg-1 → tie.Start
 aligned c = entry c.before.before
 
-abbrev words : tie.After-slice-known3 → tie.After-keep-whole
+abbrev words : tie.After-slice_known-2-1 → tie.After-keep_whole-reached
 words c = c.before.before
 
-abbrev asked : tie.After-keep-chunks2 → tie.After-slice-known3
+abbrev asked : tie.After-keep_chunks-2 → tie.After-slice_known-2-1
 asked c = c.before.before
 
-abbrev ended : tie.After-slice-known4 → tie.After-keep-chunks2
+abbrev ended : tie.After-slice_known-3-1 → tie.After-keep_chunks-2
 ended c = c.before.before
 
 -- ---- self, and the ranks that it has
@@ -70,7 +70,7 @@ module _ (c : tie.Start) where
 
 -- ---- the whole words: how many rows they are, what they leave, and what is known once they are laid
 
-module _ (c : tie.After-keep-whole) where
+module _ (c : tie.After-keep_whole-reached) where
   abbrev start : tie.Start
   start = aligned c.before
 
@@ -88,17 +88,17 @@ module _ (c : tie.After-keep-whole) where
   more = count (view (start.args.start + done) rest (ws start))
 
   abbrev reached : ℕ
-  reached = c.keep-whole.result.rank.0
+  reached = c.keep_whole-reached.result.rank.0
 
   few : reached ≤ done
-  few = omega (arith, c.keep-whole.ensures.0, count_take_le done (drop start.args.start (bits_of_all 64 (ws start))))
+  few = omega (arith, c.keep_whole-reached.ensures.0, count_take_le done (drop start.args.start (bits_of_all 64 (ws start))))
 
   all : done + rest ≡ start.args.len
   all = omega arith
 
   sum : reached + more ≡ total start
   sum =
-      ap (λ (k : ℕ). k + more) c.keep-whole.ensures.0 ∙ count_rest start.args.start done rest (ws start)
+      ap (λ (k : ℕ). k + more) c.keep_whole-reached.ensures.0 ∙ count_rest start.args.start done rest (ws start)
       ∙ ap (λ (k : ℕ). count (view start.args.start k (ws start))) all
 
   -- the ranks past the whole words do not matter to them
@@ -107,71 +107,71 @@ module _ (c : tie.After-keep-whole) where
   whole =
       let place : start.args.at / 64 * 64 ≡ start.args.at = omega arith in
       let same = ranks_more (view start.args.start done (ws start)) passed (total start) (λ i. held i (runs start)) (omega arith)
-      (omega (arith, sum, c.keep-whole.ensures.0)) in
+      (omega (arith, sum, c.keep_whole-reached.ensures.0)) in
       ap₂ (λ (k : ℕ) (l : List Bool). laid k l start.args.out.now) place same
 
 -- ---- the answers
 
-keep-chunks-requires : tie.Need-keep-chunks-requires
+keep-chunks-requires : tie.Need-keep_chunks-requires
 keep-chunks-requires c κs =
     let s = astride c in
-    let p = s.pre in
+    let p = s.requires in
     (p.0.0, p.0.2, p.1, omega arith, reached_none s, refl)
 
-same_length : tie.Need-same-length
+same_length : tie.Need-shape_of-out-then-at-ne0
 same_length c = search rules
 
-returns : tie.Need-returns
+returns : tie.Need-returns-then-at-ne0
 returns c =
     let s = astride (chunks c).before in
     let a = s.args in
-    let e = (chunks c).keep-chunks.ensures in
+    let e = (chunks c).keep_chunks.ensures in
     let all : 0 + total s ≡ total s = zero-add (total s) in (
       e.0 ∙ ap (λ (k : ℕ). count (in_runs k (runs s))) all ∙ all_held s,
       e.1 ∙ ap (λ (k : ℕ). laid a.at (compose (self s) (in_runs k (runs s))) a.out.now) all,
     )
 
-keep-whole-requires : tie.Need-keep-whole-requires
+keep-whole-requires : tie.Need-keep_whole-reached-requires
 keep-whole-requires c κs =
     let s = aligned c in
-    (omega (arith, s.pre.0), omega (arith, s.pre.1), reached_none s)
+    (omega (arith, s.requires.0), omega (arith, s.requires.1), reached_none s)
 
-mul-done : tie.Need-overflow-mul-done
+mul-done : tie.Need-overflow_mul-done
 mul-done c = omega arith
 
-add-keep-chunks : tie.Need-overflow-add-keep-chunks
-add-keep-chunks c = omega (arith, (start (words c)).pre.0, (start (words c)).pre.1)
+add-keep-chunks : tie.Need-overflow_add-start
+add-keep-chunks c = omega (arith, (start (words c)).requires.0, (start (words c)).requires.1)
 
-sub-keep-chunks : tie.Need-overflow-sub-keep-chunks
+sub-keep-chunks : tie.Need-overflow_sub-len
 sub-keep-chunks c = omega arith
 
-add-keep-chunks-2 : tie.Need-overflow-add-keep-chunks-2
-add-keep-chunks-2 c = omega (arith, (start (words c)).pre.0, (start (words c)).pre.1)
+add-keep-chunks-2 : tie.Need-overflow_add-at
+add-keep-chunks-2 c = omega (arith, (start (words c)).requires.0, (start (words c)).requires.1)
 
-keep-chunks-requires-2 : tie.Need-keep-chunks-requires-2
+keep-chunks-requires-2 : tie.Need-keep_chunks-requires-2
 keep-chunks-requires-2 c κs =
     let k = words c.before in
-    let p = (start k).pre in
-    let e = k.keep-whole.ensures in
+    let p = (start k).requires in
+    let e = k.keep_whole-reached.ensures in
     let long = rw laid_length at (ap length e.3) in
     (omega (arith, p.0), omega (arith, p.0), (omega (arith, p.1, long), omega (arith, p.1)), omega (arith, p.0, few k), e.1, e.2)
 
-same-length-2 : tie.Need-same-length-2
+same-length-2 : tie.Need-shape_of-out
 same-length-2 c = search rules
 
-returns-2 : tie.Need-returns-2
+returns-2 : tie.Need-returns
 returns-2 c =
     let e = ended c in
     let k = words (asked e) in
     let s = start k in
     let a = s.args in
     let r = in_runs (total s) (runs s) in (
-      e.keep-chunks2.ensures.0 ∙ ap (λ (x : ℕ). count (in_runs x (runs s))) (sum k) ∙ all_held s,
-      e.keep-chunks2.ensures.1
+      e.keep_chunks-2.ensures.0 ∙ ap (λ (x : ℕ). count (in_runs x (runs s))) (sum k) ∙ all_held s,
+      e.keep_chunks-2.ensures.1
           ∙ ap₂ (λ (l : List Bool) (o : List ℕ). laid (a.at + done k) (compose (view (a.start + done k) (rest k) (ws s)) l) o)
-          (ap₂ (λ (x y : ℕ). drop x (in_runs y (runs s))) k.keep-whole.ensures.0 (sum k))
-          (k.keep-whole.ensures.3 ∙ whole k)
-          ∙ whole_and_rest a.start a.at (done k) (rest k) (ws s) a.out.now r (omega (arith, s.pre.0.2))
+          (ap₂ (λ (x y : ℕ). drop x (in_runs y (runs s))) k.keep_whole-reached.ensures.0 (sum k))
+          (k.keep_whole-reached.ensures.3 ∙ whole k)
+          ∙ whole_and_rest a.start a.at (done k) (rest k) (ws s) a.out.now r (omega (arith, s.requires.0.2))
           ∙ ap (λ (i : ℕ). laid a.at (compose (view a.start i (ws s)) r) a.out.now) (all k),
     )
 

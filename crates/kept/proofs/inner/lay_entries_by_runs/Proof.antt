@@ -15,16 +15,16 @@ use Rattle.kept.proofs.inner.lay_entries_by_runs.Tie as tie
 
 -- ---- the places, each from the one after it
 
-abbrev entry : tie.After-slice-known → tie.Start
+abbrev entry : tie.After-slice_known-1 → tie.Start
 entry c = c.before.before.before
 
 abbrev start : tie.After-clear → tie.Start
 start c = entry c.before.before
 
-abbrev cleared : tie.After-mark-spans-arg → tie.After-clear
+abbrev cleared : tie.After-mark_spans-arg-1 → tie.After-clear
 cleared c = c.before.before.before
 
-abbrev marks : tie.After-slice-known3 → tie.After-mark-spans
+abbrev marks : tie.After-slice_known-3-1 → tie.After-mark_spans
 marks c = c.before.before
 
 -- ---- the answers
@@ -32,10 +32,10 @@ marks c = c.before.before
 clear-requires : tie.Need-clear-requires
 clear-requires c κs = search rules
 
-mark-spans-requires : tie.Need-mark-spans-requires
+mark-spans-requires : tie.Need-mark_spans-requires
 mark-spans-requires c κs = search rules
 
-same_length : tie.Need-same-length
+same_length : tie.Need-shape_of-out
 same_length c = search rules
 
 returns : tie.Need-returns
@@ -46,8 +46,8 @@ returns c =
     let rows = entries a.single a.rows.now in
     let self = listed a.len rows in
     let r = in_runs (length rows) a.ranks.now in (
-      m.mark-spans.ensures.0,
-      m.mark-spans.ensures.1 ∙ ap (marked a.at (set_rows 0 (compose self r))) z.clear.ensures
+      m.mark_spans.ensures.0,
+      m.mark_spans.ensures.1 ∙ ap (marked a.at (set_rows 0 (compose self r))) z.clear.ensures
           ∙ marked_compose a.at a.len self r a.out.now (tab_length 0 a.len (λ i. member i rows)),
     )
 

@@ -9,17 +9,17 @@ use Rattle.mask.proofs.JudgeLaws.{room_counted}
 use Rattle.mask.proofs.judge.judge_list.Statement.{statement}
 use Rattle.mask.proofs.judge.judge_list.Tie as tie
 
-check-requires : tie.Need-check-requires
+check-requires : tie.Need-check-checked-requires
 check-requires c κs = search rules
 
-with-room-requires : tie.Need-with-room-requires
+with-room-requires : tie.Need-with_room-requires
 with-room-requires c κs = search rules
 
 returns : tie.Need-returns
 returns c =
     let a = c.before.before.before.before.args in
     let o = lent a.form a.words.now a.rows.now in
-    c.with-room.ensures ∙ ap (λ (d : Checked). with_room d d.count a.room) c.before.check.ensures ∙ room_counted o a.room
+    c.with_room.ensures ∙ ap (λ (d : Checked). with_room d d.count a.room) c.before.check-checked.ensures ∙ room_counted o a.room
 
 pub judge_list_spec : {M : Type 1} → statement M
 judge_list_spec = tie.close (tie.spec check-requires with-room-requires returns)

@@ -11,16 +11,16 @@ use Rattle.mask.proofs.JudgeLaws.{room_judged}
 use Rattle.mask.proofs.judge.judge_words.Statement.{statement}
 use Rattle.mask.proofs.judge.judge_words.Tie as tie
 
-check-requires : tie.Need-check-requires
+check-requires : tie.Need-check-checked-requires
 check-requires c κs = search rules
 
-length-of-requires : tie.Need-length-of-requires
+length-of-requires : tie.Need-length_of-requires
 length-of-requires c κs = search rules
 
-words-for-requires : tie.Need-words-for-requires
+words-for-requires : tie.Need-words_for-requires
 words-for-requires c κs = search rules
 
-with-room-requires : tie.Need-with-room-requires
+with-room-requires : tie.Need-with_room-requires
 with-room-requires c κs = search rules
 
 returns : tie.Need-returns
@@ -29,8 +29,8 @@ returns c =
     let told = sized.before in
     let a = told.before.before.before.args in
     let o = lent a.form a.words.now a.rows.now in
-    let needed = c.before.words-for.ensures ∙ ap words_for sized.length-of.ensures in
-    c.with-room.ensures ∙ ap₂ (λ (d : Checked) (n : ℕ). with_room d n a.room) told.check.ensures needed ∙ room_judged o a.room (words_for (length_of a.form))
+    let needed = c.before.words_for.ensures ∙ ap words_for sized.length_of.ensures in
+    c.with_room.ensures ∙ ap₂ (λ (d : Checked) (n : ℕ). with_room d n a.room) told.check-checked.ensures needed ∙ room_judged o a.room (words_for (length_of a.form))
 
 pub judge_words_spec : {M : Type 1} → statement M
 judge_words_spec = tie.close (tie.spec check-requires length-of-requires words-for-requires with-room-requires returns)

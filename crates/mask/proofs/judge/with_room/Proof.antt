@@ -8,10 +8,10 @@ use Rattle.operand.specs.declared.inner.counts.Checked.{Checked}
 use Rattle.mask.proofs.judge.with_room.Statement.{statement}
 use Rattle.mask.proofs.judge.with_room.Tie as tie
 
-has-room-requires : tie.Need-has-room-requires
+has-room-requires : tie.Need-has_room-requires
 has-room-requires c κs = search rules
 
-then-requires : tie.Need-then-requires
+then-requires : tie.Need-then-joined-requires
 then-requires c κs = search rules
 
 -- what is told, by its verdict
@@ -21,7 +21,7 @@ told d v = record { verdict = v; count = d.count }
 returns : tie.Need-returns
 returns c =
     let d = c.before.before.args.checked in
-    let joined = c.then.ensures ∙ ap (λ (v : Verdict). if_fine d.verdict v d.verdict) c.before.has_room.ensures in
+    let joined = c.then-joined.ensures ∙ ap (λ (v : Verdict). if_fine d.verdict v d.verdict) c.before.has_room.ensures in
     ap (told d) joined
 
 pub with_room_spec : {M : Type 1} → statement M

@@ -1,6 +1,6 @@
 -- `runs::numbers::write_numbers` meets its contract: a turn writes one pair more.
 -- By what one pair and the rest come to. Assumes nothing.
-use Rattle.std.proofs.Common.{ℕ, suc, ◌≡◌, ◌+◌, ◌-◌, ◌<◌, ◌≤◌, List, [], ◌∷◌, length, drop, get_or, ap, ap₂, subst, sym, ◌∙◌, drop-cons, drop_of_length-le, add-one, arith}
+use Rattle.std.proofs.Common.{ℕ, suc, ◌≡◌, ◌+◌, ◌-◌, ◌<◌, List, [], ◌∷◌, length, drop, get_or, ap, ap₂, subst, sym, ◌∙◌, drop-cons, drop_of_length-le, add-one, arith}
 use Rattle.rules.specs.declared.Run.{Run}
 use Rattle.rules.specs.Records.{numbers_of}
 use Rattle.runs.specs.declared.numbers.Writing.{Writing}

@@ -1,6 +1,6 @@
 -- `runs::numbers::write_numbers` meets its contract.
 -- The invariant: what is left to write from run i on gives what all runs give from the start on. Assumes nothing.
-use Rattle.std.proofs.Common.{length, drop, ◌-◌, ◌≡◌, [], ◌∷◌, ℕ, ◌+◌, ◌*◌, ◌<◌, ◌≤◌}
+use Rattle.std.proofs.Common.{length, drop, ◌-◌, ◌≡◌, ◌≤◌}
 use Rattle.rules.specs.Records.{numbers_of}
 use Rattle.runs.specs.Numbered.{moved_by, spliced, HasRoom}
 use Rattle.runs.proofs.numbers.write_numbers.Given as goal

@@ -1,6 +1,6 @@
 -- `runs::records::write_records` meets its contract: a turn stores one record more.
 -- By the definition of the records of the first pairs. Assumes nothing.
-use Rattle.std.proofs.Common.{ℕ, suc, ◌≡◌, ◌+◌, List, set, ap, ap₂, sym, ◌∙◌, refl, add-one, arith}
+use Rattle.std.proofs.Common.{ℕ, ◌≡◌, ◌+◌, List, set, ap, ap₂, sym, ◌∙◌, refl, add-one, arith}
 use Rattle.rules.specs.declared.Run.{Run}
 use Rattle.runs.specs.Packed.{run_at, packed}
 use Rattle.runs.proofs.records.write_records.Goals as goal

@@ -3,12 +3,10 @@
 use Rattle.std.proofs.Common.{ℕ, ◌≡◌, ◌≤◌, List, [], ◌∷◌, length, refl, subst, arith}
 use Rattle.rows.specs.Words.{Below}
 use Rattle.rows.proofs.MarkLaws.{ascending_below}
-use Rattle.rows.proofs.WordsLaws.{view_length}
 use Rattle.rules.specs.declared.Form.{Form}
 use Rattle.rules.specs.declared.Form.TheVariants.{List as Listed}
 use Rattle.rules.specs.Operand.{lent, Accepted}
 use Rattle.rules.proofs.OperandLaws.{accepted_limit}
-use Rattle.operand.proofs.FlatLaws.{accepted_flat}
 use Rattle.operand.proofs.NumberLaws.{accepted_list}
 use Rattle.runs.specs.Searched.{left_by}
 use Rattle.runs.proofs.FoundLaws.{list_at}

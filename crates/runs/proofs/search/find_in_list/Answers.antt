@@ -1,6 +1,6 @@
 -- `runs::search::find_in_list` meets its contract: an entry that follows the last is passed, and another ends the run.
 -- By the laws of entries that follow each other. Assumes nothing.
-use Rattle.std.proofs.Common.{ℕ, suc, ◌+◌, ◌≡◌, ◌<◌, length, drop, get_or, ap₂, add-one, arith}
+use Rattle.std.proofs.Common.{ℕ, suc, ◌+◌, ◌≡◌, drop, get_or, ap₂, add-one, arith}
 use Rattle.rows.proofs.MarkLaws.{below_at}
 use Rattle.runs.specs.Searched.{run_on}
 use Rattle.runs.proofs.SearchLaws.{on_next}
@@ -37,4 +37,3 @@ loop-i-preserved c =
       rows = omega (arith, same, more, l.invariant.rows);
       entries = omega (arith, same, more, l.invariant.entries);
     }
-

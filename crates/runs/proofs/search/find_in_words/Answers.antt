@@ -1,6 +1,6 @@
 -- `runs::search::find_in_words` meets its contract: the next set row, and from there the next that is not.
 -- By what `seek` finds, which is within the rows. Assumes nothing.
-use Rattle.std.proofs.Common.{ℕ, ◌+◌, ◌≡◌, ◌≤◌, ◌*◌, Bool, true, false, length, List, arith}
+use Rattle.std.proofs.Common.{ℕ, ◌≡◌, ◌≤◌, Bool, true, false, List, arith}
 use Rattle.rows.specs.Words.{view}
 use Rattle.rows.specs.Asks.{InView}
 use Rattle.rows.proofs.WordsLaws.{view_length}

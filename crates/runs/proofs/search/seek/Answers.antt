@@ -1,15 +1,15 @@
 -- `runs::search::seek` meets its contract: a chunk in which nothing is found is passed, and in one in which something is the lowest bit is it.
 -- By the laws of a search of rows. Assumes nothing.
 use Rattle.std.proofs.Common.{ℕ, ◌+◌, ◌-◌, ◌≡◌, ◌≤◌, ◌<◌, ◌^◌, Bool, List, min, length, take, drop, sym, ap, subst, ◌∙◌, length-drop, length-take-le, arith}
-use Rattle.rows.specs.Asks.{InView, Chunk}
+use Rattle.rows.specs.Asks.{InView}
 use Rattle.rows.specs.Word.{bits_of, word_of}
 use Rattle.rows.specs.Words.{view, fit, bits_of_all}
 use Rattle.rows.proofs.ChunkLaws.{chunk_bits}
 use Rattle.rows.proofs.WordLaws.{word_of_lt}
 use Rattle.rows.proofs.WordsLaws.{view_length}
 use Rattle.turns.proofs.TurnedLaws.{view_word}
-use Rattle.runs.specs.Searched.{hits, seek_row}
-use Rattle.runs.proofs.SearchLaws.{seek_none, seek_hit, hit_within, seek_end}
+use Rattle.runs.specs.Searched.{hits}
+use Rattle.runs.proofs.SearchLaws.{seek_none, seek_hit}
 use Rattle.runs.proofs.search.seek.Goals as goal
 
 -- a chunk of n rows from `row` on, whose word is `here`

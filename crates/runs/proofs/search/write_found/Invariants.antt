@@ -1,6 +1,6 @@
 -- `runs::search::write_found` meets its contract.
 -- The invariant: the runs that are left to find, stored from record i on, give what all of them give. Assumes nothing.
-use Rattle.std.proofs.Common.{length, ◌-◌, ◌≡◌, ◌≤◌}
+use Rattle.std.proofs.Common.{◌-◌, ◌≡◌, ◌≤◌}
 use Rattle.runs.specs.Searched.{SearchReady, stored_from}
 use Rattle.runs.proofs.search.write_found.Given as goal
 

@@ -1,7 +1,6 @@
 -- `runs::words::begin_laying` meets its contract: 8 where the rows have no room, and else the last word cleared; by the case that the match
 -- tells. Assumes nothing.
-use Rattle.std.proofs.Common.{ℕ, ◌^◌, sym, ap, ◌∙◌, arith, rules}
-use Rattle.rows.specs.Words.{Below}
+use Rattle.std.proofs.Common.{◌^◌, sym, ap, ◌∙◌, arith, rules}
 use Rattle.rows.proofs.LaidLaws.{below_all}
 use Rattle.runs.specs.declared.words.Sweep.{Sweep}
 use Rattle.runs.specs.declared.words.Sweep.TheVariants.{Barred}

@@ -1,6 +1,6 @@
 -- `runs::words::lay_each` meets its contract: a turn lays one run more.
 -- By what one run and the rest come to. Assumes nothing.
-use Rattle.std.proofs.Common.{◌≡◌, List, ℕ, ◌+◌, [], ◌∷◌, length, drop, get_or, subst, sym, ap, ap₂, ◌∙◌, drop-cons, drop_of_length-le, add-one, arith}
+use Rattle.std.proofs.Common.{◌≡◌, List, ℕ, ◌+◌, [], ◌∷◌, drop, get_or, subst, sym, ap, ap₂, ◌∙◌, drop-cons, drop_of_length-le, add-one, arith}
 use Rattle.rules.specs.declared.Run.{Run}
 use Rattle.runs.specs.declared.words.Sweep.{Sweep}
 use Rattle.runs.specs.Numbered.{no_run}

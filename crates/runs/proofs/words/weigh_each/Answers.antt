@@ -1,6 +1,6 @@
 -- `runs::words::weigh_each` meets its contract: a turn weighs one run more.
 -- By the definition of runs that are weighed. Assumes nothing.
-use Rattle.std.proofs.Common.{ℕ, ◌+◌, ◌≡◌, List, [], ◌∷◌, length, drop, get_or, subst, sym, ap, ◌∙◌, drop-cons, drop_of_length-le, add-one, arith}
+use Rattle.std.proofs.Common.{ℕ, ◌+◌, ◌≡◌, List, [], ◌∷◌, drop, get_or, subst, sym, ap, ◌∙◌, drop-cons, drop_of_length-le, add-one, arith}
 use Rattle.rules.specs.declared.Run.{Run}
 use Rattle.runs.specs.Numbered.{no_run}
 use Rattle.runs.specs.Swept.{Small, weigh_runs}

@@ -15,22 +15,22 @@ use Rattle.under.proofs.inner.lay_entries_in_runs.Tie as tie
 
 -- ---- the places, each from the one after it
 
-abbrev entry : tie.After-slice-known → tie.Start
+abbrev entry : tie.After-slice_known-1 → tie.Start
 entry c = c.before.before.before
 
 abbrev few : tie.After-clear → tie.Start
 few c = entry c.before.before.before
 
-abbrev cleared : tie.After-mark-entries-arg → tie.After-clear
+abbrev cleared : tie.After-mark_entries-arg-1 → tie.After-clear
 cleared c = c.before.before.before
 
-abbrev marks : tie.After-slice-known4 → tie.After-mark-entries
+abbrev marks : tie.After-slice_known-3-1 → tie.After-mark_entries
 marks c = c.before.before
 
-abbrev many : tie.After-gather-under-runs → tie.Start
+abbrev many : tie.After-gather_under_runs → tie.Start
 many c = entry c.before.before.before
 
-abbrev gathered : tie.After-slice-known2 → tie.After-gather-under-runs
+abbrev gathered : tie.After-slice_known-then-listed-ranklen-1 → tie.After-gather_under_runs
 gathered c = c.before.before
 
 -- ---- as many rows are set as ranks are listed
@@ -41,27 +41,27 @@ listed_all s = entry_count s.args.runs.now s.args.ranks.now s.args.len s.require
 
 -- ---- the answers
 
-gather-under-runs-requires : tie.Need-gather-under-runs-requires
+gather-under-runs-requires : tie.Need-gather_under_runs-requires
 gather-under-runs-requires c κs = search rules
 
-same_length : tie.Need-same-length
+same_length : tie.Need-shape_of-out-then-listed-ranklen
 same_length c = search rules
 
-returns : tie.Need-returns
+returns : tie.Need-returns-then-listed-ranklen
 returns c =
     let g = gathered c in
-    (listed_all (many g), g.gather-under-runs.ensures)
+    (listed_all (many g), g.gather_under_runs.ensures)
 
 clear-requires : tie.Need-clear-requires
 clear-requires c κs = search rules
 
-mark-entries-requires : tie.Need-mark-entries-requires
+mark-entries-requires : tie.Need-mark_entries-requires
 mark-entries-requires c κs = search rules
 
-same-length-2 : tie.Need-same-length-2
+same-length-2 : tie.Need-shape_of-out
 same-length-2 c = search rules
 
-returns-2 : tie.Need-returns-2
+returns-2 : tie.Need-returns
 returns-2 c =
     let m = marks c in
     let z = cleared m.before in
@@ -70,7 +70,7 @@ returns-2 c =
     let self = in_runs a.len runs in
     let r = listed (run_lengths runs) a.ranks.now in (
       listed_all (few z),
-      m.mark-entries.ensures ∙ ap (marked a.at (set_rows 0 (compose self r))) z.clear.ensures
+      m.mark_entries.ensures ∙ ap (marked a.at (set_rows 0 (compose self r))) z.clear.ensures
           ∙ marked_compose a.at a.len self r a.out.now (tab_length 0 a.len (λ i. held i runs)),
     )
 

@@ -18,43 +18,43 @@ use Rattle.under.proofs.UnderLaws.{Sums, sums_none, sums_run, sums_few, sums_las
 use Rattle.under.proofs.inner.lay_ranks_under_runs.Statement.{statement}
 use Rattle.under.proofs.inner.lay_ranks_under_runs.Tie as tie
 
-abbrev invariant-loop : tie.invariant-loop
+abbrev invariant-loop : tie.invariant-loop-i
 invariant-loop runs ranks from len at out₀ done₀ rank₀ sum₀ i₀ out done rank sum i =
     Under runs (drop from (bits_of_all 64 ranks)) len at done i rank out₀ out × Sums runs (drop from (bits_of_all 64 ranks)) len at done i rank sum
 
-abbrev decreases-loop : tie.decreases-loop
+abbrev decreases-loop : tie.decreases-loop-i
 decreases-loop runs ranks from len at out₀ done₀ rank₀ sum₀ i₀ out done rank sum i = length runs - i
 
 -- ---- the places, each from the one after it
 
-abbrev entry : tie.After-slice-known invariant-loop decreases-loop → tie.Start invariant-loop decreases-loop
+abbrev entry : tie.After-slice_known-1 invariant-loop decreases-loop → tie.Start invariant-loop decreases-loop
 entry c = c.before.before.before
 
-abbrev start : tie.At-loop invariant-loop decreases-loop → tie.Start invariant-loop decreases-loop
+abbrev start : tie.At-loop-i invariant-loop decreases-loop → tie.Start invariant-loop decreases-loop
 start c = entry c.before
 
-abbrev head : tie.In-loop invariant-loop decreases-loop → tie.At-loop invariant-loop decreases-loop
+abbrev head : tie.In-loop-i invariant-loop decreases-loop → tie.At-loop-i invariant-loop decreases-loop
 head c = c.before
 
-abbrev both : tie.After-shared-slice-known4 invariant-loop decreases-loop → tie.In-loop invariant-loop decreases-loop
+abbrev both : tie.After-shared_slice_known-in-loop-i-2-1 invariant-loop decreases-loop → tie.In-loop-i invariant-loop decreases-loop
 both c = c.before.before
 
-abbrev turn : tie.After-clear-rows invariant-loop decreases-loop → tie.In-loop invariant-loop decreases-loop
+abbrev turn : tie.After-clear_rows invariant-loop decreases-loop → tie.In-loop-i invariant-loop decreases-loop
 turn c = both c.before.before
 
-abbrev gone : tie.After-copy-ranks-arg invariant-loop decreases-loop → tie.After-clear-rows invariant-loop decreases-loop
+abbrev gone : tie.After-copy_ranks-arg-1 invariant-loop decreases-loop → tie.After-clear_rows invariant-loop decreases-loop
 gone c = c.before.before.before
 
-abbrev back : tie.After-slice-known3 invariant-loop decreases-loop → tie.After-copy-ranks invariant-loop decreases-loop
+abbrev back : tie.After-slice_known-in-loop-i-2-1 invariant-loop decreases-loop → tie.After-copy_ranks-set invariant-loop decreases-loop
 back c = c.before.before
 
-abbrev around : tie.After-slice-known3 invariant-loop decreases-loop → tie.In-loop invariant-loop decreases-loop
+abbrev around : tie.After-slice_known-in-loop-i-2-1 invariant-loop decreases-loop → tie.In-loop-i invariant-loop decreases-loop
 around c = turn (gone (back c).before)
 
-abbrev last : tie.After-clear-rows2 invariant-loop decreases-loop → tie.At-loop invariant-loop decreases-loop
+abbrev last : tie.After-clear_rows-2 invariant-loop decreases-loop → tie.At-loop-i invariant-loop decreases-loop
 last c = c.before.before.before
 
-abbrev cleared : tie.After-slice-known4 invariant-loop decreases-loop → tie.After-clear-rows2 invariant-loop decreases-loop
+abbrev cleared : tie.After-slice_known-2-1 invariant-loop decreases-loop → tie.After-clear_rows-2 invariant-loop decreases-loop
 cleared c = c.before.before
 
 -- ---- the rank bits
@@ -64,11 +64,11 @@ module _ (s : tie.Start invariant-loop decreases-loop) where
   bits = drop s.args.from (bits_of_all 64 s.args.ranks.now)
 
   long : run_lengths s.args.runs.now ≤ length bits
-  long = read_long s.args.ranks.now s.args.from (run_lengths s.args.runs.now) s.pre.3
+  long = read_long s.args.ranks.now s.args.from (run_lengths s.args.runs.now) s.requires.3
 
 -- ---- a turn's run
 
-module _ (c : tie.In-loop invariant-loop decreases-loop) where
+module _ (c : tie.In-loop-i invariant-loop decreases-loop) where
   abbrev s : tie.Start invariant-loop decreases-loop
   s = start (head c)
 
@@ -79,163 +79,163 @@ module _ (c : tie.In-loop invariant-loop decreases-loop) where
   ranks = s.args.ranks.now
 
   abbrev i : ℕ
-  i = (head c).loop.i
+  i = (head c).loop-i.i
 
   abbrev first : ℕ
-  first = get_or (start (head c)).args.runs.now (head c).loop.i 0
+  first = get_or (start (head c)).args.runs.now (head c).loop-i.i 0
 
   abbrev held : ℕ
-  held = get_or (start (head c)).args.runs.now ((head c).loop.i + 1) 0 - first
+  held = get_or (start (head c)).args.runs.now ((head c).loop-i.i + 1) 0 - first
 
-  next : NextRun (head c).loop.done (start (head c)).args.len (head c).loop.i (start (head c)).args.runs.now
+  next : NextRun (head c).loop-i.done (start (head c)).args.len (head c).loop-i.i (start (head c)).args.runs.now
   next =
-      let l = (head c).loop in
+      let l = (head c).loop-i in
       let a = s.args in
-      under_next runs (bits s) a.len a.at l.done i l.rank a.out.now l.out l.inv.0 (omega arith)
+      under_next runs (bits s) a.len a.at l.done i l.rank a.out.now l.out l.invariant.0 (omega arith)
 
   -- its rank bits are there, and no more than the rows
-  read_room : s.args.from + (head c).loop.rank + held ≤ length ranks * 64
+  read_room : s.args.from + (head c).loop-i.rank + held ≤ length ranks * 64
   read_room =
-      let l = (head c).loop in
+      let l = (head c).loop-i in
       let a = s.args in
       omega (
         arith,
-        s.pre.3,
-        under_ranks runs (bits s) a.len a.at l.done i l.rank a.out.now l.out l.inv.0 (omega arith) (long s),
+        s.requires.3,
+        under_ranks runs (bits s) a.len a.at l.done i l.rank a.out.now l.out l.invariant.0 (omega arith) (long s),
       )
 
-  few : (head c).loop.rank + held ≤ s.args.len
+  few : (head c).loop-i.rank + held ≤ s.args.len
   few =
-      let l = (head c).loop in
+      let l = (head c).loop-i in
       let a = s.args in
-      under_few runs (bits s) a.len a.at l.done i l.rank a.out.now l.out l.inv.0 (omega arith) (long s) s.pre.0
+      under_few runs (bits s) a.len a.at l.done i l.rank a.out.now l.out l.invariant.0 (omega arith) (long s) s.requires.0
 
-  part : view (s.args.from + (head c).loop.rank) held ranks ≡ take held (drop (head c).loop.rank (bits s))
-  part = read_part ranks s.args.from (head c).loop.rank held
+  part : view (s.args.from + (head c).loop-i.rank) held ranks ≡ take held (drop (head c).loop-i.rank (bits s))
+  part = read_part ranks s.args.from (head c).loop-i.rank held
 
-  sum_few : (head c).loop.sum + count (view (s.args.from + (head c).loop.rank) held ranks) ≤ s.args.len
+  sum_few : (head c).loop-i.sum + count (view (s.args.from + (head c).loop-i.rank) held ranks) ≤ s.args.len
   sum_few =
-      let l = (head c).loop in
+      let l = (head c).loop-i in
       let a = s.args in
       omega (
         arith,
         ap count part,
-        sums_few runs (bits s) a.len a.at l.done i l.rank a.out.now l.out l.inv.0 (omega arith) (long s) l.sum l.inv.1,
+        sums_few runs (bits s) a.len a.at l.done i l.rank a.out.now l.out l.invariant.0 (omega arith) (long s) l.sum l.invariant.1,
       )
 
 -- ---- the answers
 
-loop-holds : tie.Need-loop-init invariant-loop decreases-loop
+loop-holds : tie.Need-loop-i-init invariant-loop decreases-loop
 loop-holds c =
     let s = entry c in
     let a = s.args in
     let out = a.out.now in
     let rs = a.runs.now in
-    let small = below_all (2 ^ 64) out (λ i. (c.slice-known.given i).fits) in
-    (under_none rs (bits s) a.len a.at out s.pre.0 small, sums_none rs (bits s) a.len a.at s.pre.0)
+    let small = below_all (2 ^ 64) out (λ i. (c.slice_known-1.given i).fits) in
+    (under_none rs (bits s) a.len a.at out s.requires.0 small, sums_none rs (bits s) a.len a.at s.requires.0)
 
-mul-first : tie.Need-overflow-mul-first invariant-loop decreases-loop
+mul-first : tie.Need-offset_bounds-runs-i invariant-loop decreases-loop
 mul-first c = omega arith
 
-shared-slice-read-first : tie.Need-shared-slice-read-first invariant-loop decreases-loop
+shared-slice-read-first : tie.Need-bounds-runs-i invariant-loop decreases-loop
 shared-slice-read-first c = omega arith
 
-cast-first : tie.Need-overflow-cast-first invariant-loop decreases-loop
-cast-first c = omega (arith, c.shared-slice-known3.given c.before.before.loop.i)
+cast-first : tie.Need-overflow_cast-first invariant-loop decreases-loop
+cast-first c = omega (arith, c.shared_slice_known-in-loop-i-1.given c.before.before.loop-i.i)
 
-add-past : tie.Need-overflow-add-past invariant-loop decreases-loop
+add-past : tie.Need-overflow_add-past invariant-loop decreases-loop
 add-past c = omega (arith, (next c.before).pair)
 
-mul-past : tie.Need-overflow-mul-past invariant-loop decreases-loop
+mul-past : tie.Need-offset_bounds-runs-i-in-loop-i invariant-loop decreases-loop
 mul-past c = omega (arith, (next c.before).pair)
 
-shared-slice-read-past : tie.Need-shared-slice-read-past invariant-loop decreases-loop
+shared-slice-read-past : tie.Need-bounds-runs-i-in-loop-i invariant-loop decreases-loop
 shared-slice-read-past c = (next c.before.before).pair
 
-cast-past : tie.Need-overflow-cast-past invariant-loop decreases-loop
-cast-past c = omega (arith, c.shared-slice-known4.given ((head (both c)).loop.i + 1))
+cast-past : tie.Need-overflow_cast-past invariant-loop decreases-loop
+cast-past c = omega (arith, c.shared_slice_known-in-loop-i-2-1.given ((head (both c)).loop-i.i + 1))
 
-sub-gap : tie.Need-overflow-sub-gap invariant-loop decreases-loop
+sub-gap : tie.Need-overflow_sub-gap invariant-loop decreases-loop
 sub-gap c = (next (both c)).from
 
-sub_held : tie.Need-overflow-sub-held invariant-loop decreases-loop
+sub_held : tie.Need-overflow_sub-held invariant-loop decreases-loop
 sub_held c = omega (arith, (next (both c)).some)
 
-clear-rows-requires : tie.Need-clear-rows-requires invariant-loop decreases-loop
+clear-rows-requires : tie.Need-clear_rows-requires invariant-loop decreases-loop
 clear-rows-requires c κs =
     let t = both c.before in
-    let room = (s t).pre.4 in
+    let room = (s t).requires.4 in
     let r = next t in
-    (omega (arith, r.from, r.some, r.within, (head t).loop.inv.0.progress.long, room.0), omega (arith, r.from, r.some, r.within, room.1))
+    (omega (arith, r.from, r.some, r.within, (head t).loop-i.invariant.0.progress.long, room.0), omega (arith, r.from, r.some, r.within, room.1))
 
-copy-ranks-requires : tie.Need-copy-ranks-requires invariant-loop decreases-loop
+copy-ranks-requires : tie.Need-copy_ranks-set-requires invariant-loop decreases-loop
 copy-ranks-requires c κs =
     let g = gone c in
     let t = turn g in
-    let room = (s t).pre.4 in
+    let room = (s t).requires.4 in
     let r = next t in
-    let l = (head t).loop in
+    let l = (head t).loop-i in
     let unset = replicate (first t - l.done) false in
-    let long = ap length g.clear-rows.ensures ∙ laid_length 64 ((s t).args.at + l.done) unset l.out ∙ l.inv.0.progress.long in (
-      (s t).pre.2,
-      omega (arith, few t, (s t).pre.1),
+    let long = ap length g.clear_rows.ensures ∙ laid_length 64 ((s t).args.at + l.done) unset l.out ∙ l.invariant.0.progress.long in (
+      (s t).requires.2,
+      omega (arith, few t, (s t).requires.1),
       read_room t,
       (omega (arith, r.some, r.within, long, room.0), omega (arith, r.some, r.within, room.1)),
     )
 
-add-sum : tie.Need-overflow-add-sum invariant-loop decreases-loop
+add-sum : tie.Need-overflow_add-sum invariant-loop decreases-loop
 add-sum c =
     let t = around c in
-    omega (arith, sum_few t, (back c).copy-ranks.ensures.0, (s t).pre.1)
+    omega (arith, sum_few t, (back c).copy_ranks-set.ensures.0, (s t).requires.1)
 
-add-rank : tie.Need-overflow-add-rank invariant-loop decreases-loop
+add-rank : tie.Need-overflow_add-rank invariant-loop decreases-loop
 add-rank c =
     let t = around c in
-    omega (arith, few t, (s t).pre.1)
+    omega (arith, few t, (s t).requires.1)
 
-add-i : tie.Need-overflow-add-i invariant-loop decreases-loop
+add-i : tie.Need-overflow_add-i invariant-loop decreases-loop
 add-i c = omega (arith, (next (around c)).pair)
 
-loop-less : tie.Need-loop-smaller invariant-loop decreases-loop
+loop-less : tie.Need-loop-i-smaller invariant-loop decreases-loop
 loop-less c = omega (arith, (next (around c)).pair)
 
-loop-again : tie.Need-loop-preserved invariant-loop decreases-loop
+loop-again : tie.Need-loop-i-preserved invariant-loop decreases-loop
 loop-again c =
     let t = around c in
-    let l = (head t).loop in
+    let l = (head t).loop-i in
     let a = (s t).args in
-    let e = (back c).copy-ranks.ensures in
-    let z = (gone (back c).before).clear-rows in
+    let e = (back c).copy_ranks-set.ensures in
+    let z = (gone (back c).before).clear_rows in
     let w = long (s t) in
-    let lies = e.1 ∙ ap (λ (p : List Bool). laid (a.at + first t) p z.last.0) (part t) in (
-      under_run (runs t) (bits (s t)) a.len a.at l.done (i t) l.rank a.out.now l.out l.inv.0 (omega arith) w z.last.0 _
+    let lies = e.1 ∙ ap (λ (p : List Bool). laid (a.at + first t) p z.new.out) (part t) in (
+      under_run (runs t) (bits (s t)) a.len a.at l.done (i t) l.rank a.out.now l.out l.invariant.0 (omega arith) w z.new.out _
           z.ensures lies,
-      sums_run (runs t) (bits (s t)) a.len a.at l.done (i t) l.rank a.out.now l.out l.inv.0 (omega arith) w l.sum
-          (back c).copy-ranks.result (e.0 ∙ ap count (part t)) l.inv.1,
+      sums_run (runs t) (bits (s t)) a.len a.at l.done (i t) l.rank a.out.now l.out l.invariant.0 (omega arith) w l.sum
+          (back c).copy_ranks-set.result (e.0 ∙ ap count (part t)) l.invariant.1,
     )
 
-sub-left : tie.Need-overflow-sub-left invariant-loop decreases-loop
-sub-left c = c.before.loop.invariant.0.within
+sub-left : tie.Need-overflow_sub-left invariant-loop decreases-loop
+sub-left c = c.before.loop-i.invariant.0.within
 
-clear-rows-requires-2 : tie.Need-clear-rows-requires-2 invariant-loop decreases-loop
+clear-rows-requires-2 : tie.Need-clear_rows-requires-2 invariant-loop decreases-loop
 clear-rows-requires-2 c κs =
     let h = c.before.before in
-    let l = h.loop.invariant.0 in
+    let l = h.loop-i.invariant.0 in
     let room = (start h).requires.4 in
     (omega (arith, l.within, l.progress.long, room.0), omega (arith, l.within, room.1))
 
-same_length : tie.Need-same-length invariant-loop decreases-loop
+same_length : tie.Need-shape_of-out invariant-loop decreases-loop
 same_length c = search rules
 
 returns : tie.Need-returns invariant-loop decreases-loop
 returns c =
     let h = last (cleared c) in
     let a = (start h).args in
-    let l = h.loop in
+    let l = h.loop-i in
     let rs = a.runs.now in
     let bs = bits (start h) in (
-      sums_last rs bs a.len a.at l.done l.i l.rank a.out.now l.out l.inv.0 l.sum (omega arith) l.inv.1,
-      under_last rs bs a.len a.at l.done l.i l.rank a.out.now l.out l.inv.0 _ (omega arith) (cleared c).clear-rows2.ensures,
+      sums_last rs bs a.len a.at l.done l.i l.rank a.out.now l.out l.invariant.0 l.sum (omega arith) l.invariant.1,
+      under_last rs bs a.len a.at l.done l.i l.rank a.out.now l.out l.invariant.0 _ (omega arith) (cleared c).clear_rows-2.ensures,
     )
 
 pub lay_ranks_under_runs_spec : {M : Type 1} → statement M

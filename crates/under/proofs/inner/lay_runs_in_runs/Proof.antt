@@ -13,16 +13,16 @@ use Rattle.under.proofs.inner.lay_runs_in_runs.Tie as tie
 
 -- ---- the places, each from the one after it
 
-abbrev entry : tie.After-slice-known → tie.Start
+abbrev entry : tie.After-slice_known-1 → tie.Start
 entry c = c.before.before.before
 
 abbrev start : tie.After-clear → tie.Start
 start c = entry c.before.before
 
-abbrev cleared : tie.After-mark-runs-arg → tie.After-clear
+abbrev cleared : tie.After-mark_runs-arg-1 → tie.After-clear
 cleared c = c.before.before.before
 
-abbrev marks : tie.After-slice-known3 → tie.After-mark-runs
+abbrev marks : tie.After-slice_known-3-1 → tie.After-mark_runs
 marks c = c.before.before
 
 -- ---- the answers
@@ -30,10 +30,10 @@ marks c = c.before.before
 clear-requires : tie.Need-clear-requires
 clear-requires c κs = search rules
 
-mark-runs-requires : tie.Need-mark-runs-requires
+mark-runs-requires : tie.Need-mark_runs-requires
 mark-runs-requires c κs = search rules
 
-same_length : tie.Need-same-length
+same_length : tie.Need-shape_of-out
 same_length c = search rules
 
 returns : tie.Need-returns
@@ -45,8 +45,8 @@ returns c =
     let ranks = a.ranks.now in
     let self = in_runs a.len runs in
     let r = in_runs (run_lengths runs) ranks in (
-      m.mark-runs.ensures.0,
-      m.mark-runs.ensures.1 ∙ ap (marked a.at (set_rows 0 (compose self r))) z.clear.ensures
+      m.mark_runs.ensures.0,
+      m.mark_runs.ensures.1 ∙ ap (marked a.at (set_rows 0 (compose self r))) z.clear.ensures
           ∙ marked_compose a.at a.len self r a.out.now (tab_length 0 a.len (λ i. held i runs)),
     )
 

@@ -8,7 +8,7 @@ use Rattle.rows.specs.Word.{bits_of}
 use Rattle.rows.specs.Lists.{select}
 use Rattle.network.specs.Lanes.{each}
 use Rattle.network.proofs.GatherLaws.{count_low, count_high}
-use Rattle.word.proofs.SelectWord.{skip_bits, in_bits, in_bits_le}
+use Rattle.word.proofs.SelectWord.{skip_bits, in_low_bits, in_bits_le}
 use Rattle.word.proofs.inner.select_bit_position.Statement.{statement}
 use Rattle.word.proofs.inner.select_bit_position.Tie as tie
 
@@ -106,7 +106,7 @@ returns-2 c =
     let v : 64 - at.bit_offset ≡ 8 + j = omega (arith, byte.room) in
     let held : at.left < ones (n % 256) = omega (arith, byte.count, c.before.if-left-count.true) in
     ap (λ (k : ℕ). at.bit_offset + k)
-    (c.place_in.ensures ∙ ap (λ (k : ℕ). select (bits_of 8 k) at.left) (and_mask n 8) ∙ sym (in_bits 8 j n at.left held)
+    (c.place_in.ensures ∙ ap (λ (k : ℕ). select (bits_of 8 k) at.left) (and_mask n 8) ∙ sym (in_low_bits 8 j n at.left held)
     ∙ ap (λ (k : ℕ). select (bits_of k n) at.left) (sym v))
     ∙ at.invariant.3
 

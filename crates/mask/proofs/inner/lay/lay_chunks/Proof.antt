@@ -17,39 +17,39 @@ use Rattle.rows.proofs.ChunkLaws.{chunk_bits, chunk_next}
 use Rattle.mask.proofs.inner.lay.lay_chunks.Statement.{statement}
 use Rattle.mask.proofs.inner.lay.lay_chunks.Tie as tie
 
-abbrev invariant-loop : tie.invariant-loop
+abbrev invariant-loop : tie.invariant-loop-row
 invariant-loop form words at out₀ len row₀ out row =
     (row ≤ len) × (len ≡ length_of form) × (length out ≡ length out₀) × (out ≡ laid at (take row (rows_of (lent form words []))) out₀)
 
-abbrev decreases-loop : tie.decreases-loop
+abbrev decreases-loop : tie.decreases-loop-row
 decreases-loop form words at out₀ len row₀ out row = len - row
 
 -- ---- the places, each from the one after it
 
-abbrev entry : tie.After-length-of invariant-loop decreases-loop → tie.Start invariant-loop decreases-loop
+abbrev entry : tie.After-length_of-len invariant-loop decreases-loop → tie.Start invariant-loop decreases-loop
 entry c = c.before.before.before
 
-abbrev start : tie.At-loop invariant-loop decreases-loop → tie.Start invariant-loop decreases-loop
+abbrev start : tie.At-loop-row invariant-loop decreases-loop → tie.Start invariant-loop decreases-loop
 start c = entry c.before
 
-abbrev head : tie.After-chunk-len invariant-loop decreases-loop → tie.At-loop invariant-loop decreases-loop
+abbrev head : tie.After-chunk_len-n invariant-loop decreases-loop → tie.At-loop-row invariant-loop decreases-loop
 head c = c.before.before
 
-abbrev asked : tie.After-put-arg invariant-loop decreases-loop → tie.After-chunk-len invariant-loop decreases-loop
+abbrev asked : tie.After-put-arg-1 invariant-loop decreases-loop → tie.After-chunk_len-n invariant-loop decreases-loop
 asked c = c.before
 
-abbrev read : tie.After-put invariant-loop decreases-loop → tie.After-chunk-of invariant-loop decreases-loop
+abbrev read : tie.After-put invariant-loop decreases-loop → tie.After-chunk_of invariant-loop decreases-loop
 read c = c.before
 
-abbrev put : tie.After-slice-known2 invariant-loop decreases-loop → tie.After-put invariant-loop decreases-loop
+abbrev put : tie.After-slice_known-in-loop-row-1 invariant-loop decreases-loop → tie.After-put invariant-loop decreases-loop
 put c = c.before.before
 
-abbrev turn : tie.After-chunk-of invariant-loop decreases-loop → tie.After-chunk-len invariant-loop decreases-loop
+abbrev turn : tie.After-chunk_of invariant-loop decreases-loop → tie.After-chunk_len-n invariant-loop decreases-loop
 turn c = asked c.before
 
 -- ---- what is laid, and what is known of it
 
-module _ (c : tie.At-loop invariant-loop decreases-loop) where
+module _ (c : tie.At-loop-row invariant-loop decreases-loop) where
   abbrev operand : Operand
   operand = lent (start c).args.form (start c).args.words.now []
 
@@ -60,97 +60,97 @@ module _ (c : tie.At-loop invariant-loop decreases-loop) where
   out = (start c).args.out.now
 
   abbrev row : ℕ
-  row = c.loop.row
+  row = c.loop-row.row
 
-  long : length rows ≡ c.before.length-of.result
-  long = flat_length operand (start c).requires.0 ∙ sym c.loop.invariant.1
+  long : length rows ≡ c.before.length_of-len.result
+  long = flat_length operand (start c).requires.0 ∙ sym c.loop-row.invariant.1
 
 -- a turn's rows
-module _ (c : tie.After-chunk-len invariant-loop decreases-loop) where
+module _ (c : tie.After-chunk_len-n invariant-loop decreases-loop) where
   abbrev n : ℕ
-  n = c.chunk-len.result
+  n = c.chunk_len-n.result
 
   abbrev part : List Bool
   part = take n (drop (row (head c)) (rows (head c)))
 
   room : row (head c) + n ≤ length (rows (head c))
-  room = omega (arith, long (head c), c.chunk-len.ensures)
+  room = omega (arith, long (head c), c.chunk_len-n.ensures)
 
-read_rows : (c : tie.After-chunk-of invariant-loop decreases-loop) → bits_of (n (turn c)) c.Chunk-of.result ≡ part (turn c)
+read_rows : (c : tie.After-chunk_of invariant-loop decreases-loop) → bits_of (n (turn c)) c.chunk_of.result ≡ part (turn c)
 read_rows c =
     let t = turn c in
-    ap (bits_of (n t)) c.Chunk-of.ensures ∙ chunk_bits (row (head t)) (n t) (rows (head t)) (room t)
+    ap (bits_of (n t)) c.chunk_of.ensures ∙ chunk_bits (row (head t)) (n t) (rows (head t)) (room t)
 
 -- laid after those before it
 module _ (c : tie.After-put invariant-loop decreases-loop) where
-  abbrev here : tie.At-loop invariant-loop decreases-loop
+  abbrev here : tie.At-loop-row invariant-loop decreases-loop
   here = head (turn (read c))
 
   abbrev next : ℕ
   next = row here + n (turn (read c))
 
-  laid_on : c.put.new.0 ≡ laid (start here).args.at (take next (rows here)) (out here)
+  laid_on : c.put.new.out ≡ laid (start here).args.at (take next (rows here)) (out here)
   laid_on =
-      let l = here.loop in
+      let l = here.loop-row in
       let t = turn (read c) in
       let at : ℕ = (start here).args.at in
       let done = take l.row (rows here) in
       let place = ap (λ (x : ℕ). at + x) (sym (length-take-le l.row (rows here) (omega (arith, room t)))) in
       c.put.ensures
-      ∙ ap₂ (laid (at + l.row)) (read_rows (read c)) l.inv.3
+      ∙ ap₂ (laid (at + l.row)) (read_rows (read c)) l.invariant.3
       ∙ laid_append 64 at (at + l.row) done (part t) (out here) place
       ∙ ap (λ (z : List Bool). laid at z (out here)) (sym (chunk_next l.row (n t) (rows here)))
 
 -- ---- the answers
 
-length-of-requires : tie.Need-length-of-requires invariant-loop decreases-loop
+length-of-requires : tie.Need-length_of-len-requires invariant-loop decreases-loop
 length-of-requires c κs = search rules
 
-loop-holds : tie.Need-loop-init invariant-loop decreases-loop
+loop-holds : tie.Need-loop-row-init invariant-loop decreases-loop
 loop-holds c =
     let a = (entry c).args in
     let out = a.out.now in
-    (omega arith, c.length-of.ensures, refl, sym (laid_nil 64 a.at out (below_all (2 ^ 64) out (λ i. (c.before.slice-known.given i).fits))))
+    (omega arith, c.length_of-len.ensures, refl, sym (laid_nil 64 a.at out (below_all (2 ^ 64) out (λ i. (c.before.slice_known-1.given i).fits))))
 
-chunk-len-requires : tie.Need-chunk-len-requires invariant-loop decreases-loop
+chunk-len-requires : tie.Need-chunk_len-n-requires invariant-loop decreases-loop
 chunk-len-requires c κs = omega arith
 
-add-put : tie.Need-overflow-add-put invariant-loop decreases-loop
-add-put c = omega (arith, (head (asked c)).loop.inv.1)
+add-put : tie.Need-overflow_add-at invariant-loop decreases-loop
+add-put c = omega (arith, (head (asked c)).loop-row.invariant.1)
 
-chunk-of-requires : tie.Need-chunk-of-requires invariant-loop decreases-loop
+chunk-of-requires : tie.Need-chunk_of-requires invariant-loop decreases-loop
 chunk-of-requires c κs =
     let h = head (asked c) in
-    ((start h).pre.0, (omega arith, omega arith), omega (arith, h.loop.inv.1))
+    ((start h).requires.0, (omega arith, omega arith), omega (arith, h.loop-row.invariant.1))
 
 put-requires : tie.Need-put-requires invariant-loop decreases-loop
 put-requires c κs =
-    let l = (head (turn c)).loop in
-    omega (arith, l.inv.1, l.inv.2)
+    let l = (head (turn c)).loop-row in
+    omega (arith, l.invariant.1, l.invariant.2)
 
-add_row : tie.Need-overflow-add-row invariant-loop decreases-loop
+add_row : tie.Need-overflow_add-row invariant-loop decreases-loop
 add_row c =
     let h = here (put c) in
-    omega (arith, h.loop.inv.1, (start h).pre.1.1)
+    omega (arith, h.loop-row.invariant.1, (start h).requires.1.1)
 
-loop-less : tie.Need-loop-smaller invariant-loop decreases-loop
+loop-less : tie.Need-loop-row-smaller invariant-loop decreases-loop
 loop-less c = omega arith
 
-loop-again : tie.Need-loop-preserved invariant-loop decreases-loop
+loop-again : tie.Need-loop-row-preserved invariant-loop decreases-loop
 loop-again c =
     let p = put c in
     let h = here p in
     let kept = laid_length 64 (start h).args.at (take (next p) (rows h)) (out h) in
-    (omega arith, h.loop.inv.1, ap length (laid_on p) ∙ kept, laid_on p)
+    (omega arith, h.loop-row.invariant.1, ap length (laid_on p) ∙ kept, laid_on p)
 
-same_length : tie.Need-same-length invariant-loop decreases-loop
+same_length : tie.Need-shape_of-out invariant-loop decreases-loop
 same_length c = search rules
 
 returns : tie.Need-returns invariant-loop decreases-loop
 returns c =
     let h = c.before in
     let all = take_all (row h) (rows h) (omega (arith, long h)) in
-    h.loop.invariant.3 ∙ ap (λ (z : List Bool). laid (start h).args.at z (out h)) all
+    h.loop-row.invariant.3 ∙ ap (λ (z : List Bool). laid (start h).args.at z (out h)) all
 
 pub lay_chunks_spec : {M : Type 1} → statement M
 lay_chunks_spec =

@@ -21,7 +21,7 @@ mark-requires c κs =
     let size = ap length e ∙ laid_length 64 s.args.at (replicate s.args.len false) s.args.out.now in
     (ascending_below 0 s.args.len s.args.rows.now s.requires.0, (omega (arith, size, s.requires.1.0), s.requires.1.1))
 
-same_length : tie.Need-same-length
+same_length : tie.Need-shape_of-out
 same_length c = search rules
 
 returns : tie.Need-returns

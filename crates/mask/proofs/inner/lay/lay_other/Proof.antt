@@ -16,25 +16,25 @@ use Rattle.mask.proofs.inner.lay.lay_other.Tie as tie
 
 -- ---- the places, each from the one after it: a list, or any other form
 
-abbrev entry : tie.After-slice-known → tie.Start
+abbrev entry : tie.After-slice_known-1 → tie.Start
 entry c = c.before.before.before
 
-abbrev start : tie.After-has-row-numbers → tie.Start
+abbrev start : tie.After-has_row_numbers → tie.Start
 start c = entry c.before
 
-abbrev listing : tie.After-length-of → tie.Then1
+abbrev listing : tie.After-length_of → tie.Then-has_row_numbers
 listing c = c.before
 
-abbrev measured : tie.After-lay-list → tie.After-length-of
+abbrev measured : tie.After-lay_list → tie.After-length_of
 measured c = c.before.before
 
-abbrev listed-out : tie.After-slice-known2 → tie.After-lay-list
+abbrev listed-out : tie.After-slice_known-then-has_row_numbers-1 → tie.After-lay_list
 listed-out c = c.before.before
 
-abbrev laying : tie.After-lay-flat → tie.Else1
+abbrev laying : tie.After-lay_flat → tie.Else-has_row_numbers
 laying c = c.before.before
 
-abbrev flat_out : tie.After-slice-known3 → tie.After-lay-flat
+abbrev flat_out : tie.After-slice_known-2-1 → tie.After-lay_flat
 flat_out c = c.before.before
 
 -- ---- what is known of the operand, of either kind
@@ -42,62 +42,62 @@ flat_out c = c.before.before
 abbrev operand : tie.Start → Operand
 operand s = lent s.args.form s.args.words.now s.args.rows.now
 
-module _ (c : tie.Then1) where
+module _ (c : tie.Then-has_row_numbers) where
   abbrev lists : tie.Start
   lists = start c.before
 
   numbered : has_row_numbers lists.args.form ≡ true
-  numbered = sym c.before.has-row-numbers.ensures ∙ c.if1.true
+  numbered = sym c.before.has_row_numbers.ensures ∙ c.if-has_row_numbers.true
 
-module _ (c : tie.Else1) where
+module _ (c : tie.Else-has_row_numbers) where
   abbrev lays : tie.Start
   lays = start c.before
 
   accepted : Flat (operand lays)
-  accepted = accepted_flat (operand lays) (sym c.before.has-row-numbers.ensures ∙ c.if1.false) lays.pre.2 lays.pre.0
+  accepted = accepted_flat (operand lays) (sym c.before.has_row_numbers.ensures ∙ c.if-has_row_numbers.false) lays.requires.2 lays.requires.0
 
-module _ (c : tie.After-lay-flat) where
+module _ (c : tie.After-lay_flat) where
   abbrev here : tie.Start
   here = lays (laying c)
 
-  rows_laid : c.lay-flat.new.1.1.1.0 ≡ laid here.args.at (rows_of (operand here)) here.args.out.now
+  rows_laid : c.lay_flat.new.out ≡ laid here.args.at (rows_of (operand here)) here.args.out.now
   rows_laid =
-      c.lay-flat.ensures
+      c.lay_flat.ensures
       ∙ ap (λ (z : List Bool). laid here.args.at z here.args.out.now) (sym (flat_rows (operand here) (accepted (laying c))))
 
 -- ---- the answers
 
-has-row-numbers-requires : tie.Need-has-row-numbers-requires
+has-row-numbers-requires : tie.Need-has_row_numbers-requires
 has-row-numbers-requires c κs = search rules
 
-length-of-requires : tie.Need-length-of-requires
+length-of-requires : tie.Need-length_of-requires
 length-of-requires c κs = search rules
 
-lay-list-requires : tie.Need-lay-list-requires
+lay-list-requires : tie.Need-lay_list-requires
 lay-list-requires c κs =
     let t = listing c.before in
     let s = lists t in
-    rw c.before.length-of.ensures (accepted_list (operand s) (numbered t) s.pre.0, s.pre.1)
+    rw c.before.length_of.ensures (accepted_list (operand s) (numbered t) s.requires.0, s.requires.1)
 
-same_length : tie.Need-same-length
+same_length : tie.Need-shape_of-out-then-has_row_numbers
 same_length c = search rules
 
-returns : tie.Need-returns
+returns : tie.Need-returns-then-has_row_numbers
 returns c =
     let l = listed-out c in
     let t = listing (measured l) in
     let a = (lists t).args in
-    l.lay-list.ensures
-    ∙ ap (λ (n : ℕ). laid a.at (listed n a.rows.now) a.out.now) (measured l).length-of.ensures
+    l.lay_list.ensures
+    ∙ ap (λ (n : ℕ). laid a.at (listed n a.rows.now) a.out.now) (measured l).length_of.ensures
     ∙ ap (λ (z : List Bool). laid a.at z a.out.now) (sym (list_rows (operand (lists t)) (numbered t)))
 
-lay-flat-requires : tie.Need-lay-flat-requires
-lay-flat-requires c κs = (accepted c.before, (lays c.before).pre.1)
+lay-flat-requires : tie.Need-lay_flat-requires
+lay-flat-requires c κs = (accepted c.before, (lays c.before).requires.1)
 
-same-length-2 : tie.Need-same-length-2
+same-length-2 : tie.Need-shape_of-out
 same-length-2 c = search rules
 
-returns-2 : tie.Need-returns-2
+returns-2 : tie.Need-returns
 returns-2 c = rows_laid (flat_out c)
 
 pub lay_other_spec : {M : Type 1} → statement M

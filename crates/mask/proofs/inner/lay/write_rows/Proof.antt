@@ -15,24 +15,24 @@ use Rattle.mask.proofs.inner.lay.write_rows.Tie as tie
 
 -- ---- the places, each from the one after it
 
-abbrev entry : tie.After-slice-known → tie.Start
+abbrev entry : tie.After-slice_known-1 → tie.Start
 entry c = c.before.before.before
 
-abbrev given : tie.After-length-of → tie.After-slice-known
+abbrev given : tie.After-length_of → tie.After-slice_known-1
 given c = c.before.before
 
-abbrev measured : tie.After-clear-last → tie.After-length-of
+abbrev measured : tie.After-clear_last → tie.After-length_of
 measured c = c.before
 
-abbrev cleared : tie.After-lay-rows-arg → tie.After-clear-last
+abbrev cleared : tie.After-lay_rows-arg-1 → tie.After-clear_last
 cleared c = c.before.before.before
 
-abbrev laid_out : tie.After-slice-known3 → tie.After-lay-rows
+abbrev laid_out : tie.After-slice_known-3-1 → tie.After-lay_rows
 laid_out c = c.before.before
 
 -- ---- what is lent, and what is known once the last word is cleared
 
-module _ (c : tie.After-slice-known) where
+module _ (c : tie.After-slice_known-1) where
   abbrev operand : Operand
   operand = lent (entry c).args.form (entry c).args.words.now (entry c).args.rows.now
 
@@ -44,34 +44,34 @@ module _ (c : tie.After-slice-known) where
 
   whole : laid 0 (rows_of operand) (last_cleared len out) ≡ written len (rows_of operand) out
   whole =
-      laid_written len (rows_of operand) out (below_all (2 ^ 64) out (λ i. (c.slice-known.given i).fits))
+      laid_written len (rows_of operand) out (below_all (2 ^ 64) out (λ i. (c.slice_known-1.given i).fits))
       (accepted_length operand (entry c).requires.0) (entry c).requires.1
 
-module _ (c : tie.After-clear-last) where
-  abbrev start : tie.After-slice-known
+module _ (c : tie.After-clear_last) where
+  abbrev start : tie.After-slice_known-1
   start = given (measured c)
 
   abbrev rows : List Bool
   rows = rows_of (operand start)
 
-  zeroed : c.clear-last.new.0 ≡ last_cleared (len start) (out start)
-  zeroed = c.clear-last.ensures ∙ ap (λ (n : ℕ). last_cleared n (out start)) (measured c).length-of.ensures
+  zeroed : c.clear_last.new.out ≡ last_cleared (len start) (out start)
+  zeroed = c.clear_last.ensures ∙ ap (λ (n : ℕ). last_cleared n (out start)) (measured c).length_of.ensures
 
-rows_laid : (c : tie.After-lay-rows) → c.lay-rows.new.1.1.1.1.0 ≡ laid 0 (rows (cleared c.before)) (cleared c.before).clear-last.new.0
-rows_laid c = c.lay-rows.ensures
+rows_laid : (c : tie.After-lay_rows) → c.lay_rows.new.out ≡ laid 0 (rows (cleared c.before)) (cleared c.before).clear_last.new.out
+rows_laid c = c.lay_rows.ensures
 
 -- ---- the answers
 
-length-of-requires : tie.Need-length-of-requires
+length-of-requires : tie.Need-length_of-requires
 length-of-requires c κs = search rules
 
-clear-last-requires : tie.Need-clear-last-requires
+clear-last-requires : tie.Need-clear_last-requires
 clear-last-requires c κs = search rules
 
-lay-rows-requires : tie.Need-lay-rows-requires
+lay-rows-requires : tie.Need-lay_rows-requires
 lay-rows-requires c κs = search rules
 
-same_length : tie.Need-same-length
+same_length : tie.Need-shape_of-out
 same_length c = search rules
 
 returns : tie.Need-returns

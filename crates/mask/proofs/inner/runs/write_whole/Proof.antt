@@ -14,33 +14,33 @@ use Rattle.mask.proofs.inner.runs.write_whole.Tie as tie
 
 -- ---- where there are rows: room for two numbers
 
-module _ (c : tie.Else1) where
+module _ (c : tie.Else-n-eq0) where
   some : 0 < c.before.args.n
-  some = omega (arith, c.if1.false)
+  some = omega (arith, c.if-n-eq0.false)
 
   room : 2 ≤ length c.before.args.out.now
   room = omega (arith, ap length (whole_run c.before.args.n some), c.before.requires.1)
 
 -- ---- the answers
 
-returns : tie.Need-returns
+returns : tie.Need-returns-then-n-eq0
 returns c =
     let s = c.before in
-    sym (ap (splice 0 s.args.out.now) (whole_none s.args.n c.if1.true) ∙ splice_nil 0 s.args.out.now)
+    sym (ap (splice 0 s.args.out.now) (whole_none s.args.n c.if-n-eq0.true) ∙ splice_nil 0 s.args.out.now)
 
-slice-write-out : tie.Need-slice-write-out
+slice-write-out : tie.Need-bounds-out-0
 slice-write-out c = omega (arith, room c)
 
-cast-out : tie.Need-overflow-cast-out
+cast-out : tie.Need-overflow_cast-out
 cast-out c = search rules
 
-slice-write-out-2 : tie.Need-slice-write-out-2
+slice-write-out-2 : tie.Need-bounds-out-1
 slice-write-out-2 c = omega (arith, room c, length-set c.before.args.out.now 0 0)
 
-same_length : tie.Need-same-length
+same_length : tie.Need-shape_of-out
 same_length c = search rules
 
-returns-2 : tie.Need-returns-2
+returns-2 : tie.Need-returns
 returns-2 c =
     let s = c.before in
     let out = s.args.out.now in
