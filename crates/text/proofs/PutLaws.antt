@@ -11,7 +11,7 @@ use native.Mathlib.Omega.{arith}
 use lib.ListN.{length, take, drop, set, length-append, length-drop, drop_of_length-le}
 use lib.Seq.{take_all, take-length, drop-drop}
 use borrow.Author.Tests.{lt-ltb, le-ltb}
-use borrow.Rule.Slice.PartMut.{mid_of, put_mid}
+use borrow.Rule.Slice.PartMut.{post_of}
 use Rattle.io.specs.Digits.{hex_digit_ascii, IsDigitCount}
 use Rattle.io.specs.Digits as ioText
 use Rattle.rows.specs.Rows.{splice}
@@ -32,13 +32,12 @@ use Rattle.lines.proofs.SaidLaws.{digits_length}
 pub one_more : (at i y : ℕ) (out done : List ℕ) → length done ≡ i → set (splice at out done) (at + i) y ≡ splice at out (done ++ y ∷ [])
 one_more at i y out done e = sym (splice_one (at + i) (splice at out done) y) ∙ ap (λ (k : ℕ). splice (at + k) (splice at out done) (y ∷ [])) (sym e) ∙ splice_append at out done (y ∷ [])
 
--- bytes copied to the front of the part from `at` on
-pub put_part : (at : ℕ) (out bytes : List ℕ) → at + length bytes ≤ length out
-    → put_mid at (length out - at) out (take (length bytes) bytes ++ drop (length bytes) (mid_of at (length out - at) out)) ≡ splice at out bytes
-put_part at out bytes h =
-    let few : length (drop at out) ≤ length out - at = omega (arith, length-drop at out) in
-    rw (splice_eq at out bytes h, take-length bytes, take_all (length out - at) (drop at out) few, drop_of_length-le (drop at out) few, append-nil, drop-drop)
-    (sym (append_assoc (take at out) bytes (drop (at + length bytes) out)))
+-- bytes copied to the part from `at` on that is as long as they are
+pub put_part : (at : ℕ) (out bytes copied : List ℕ) → at + length bytes ≤ length out → copied ≡ bytes
+    → take at out ++ (copied ++ post_of at (at + length bytes - at) out) ≡ splice at out bytes
+put_part at out bytes copied h e =
+    let n : at + length bytes - at ≡ length bytes = omega arith in
+    rw (e, n, drop-drop) (sym (append_assoc (take at out) bytes (drop (at + length bytes) out)) ∙ sym (splice_eq at out bytes h))
 
 -- parts one after the other: the next part stands where the last one ended
 pub put_after : (at next : ℕ) (out xs ys : List ℕ) → next ≡ at + length xs → splice next (splice at out xs) ys ≡ splice at out (xs ++ ys)

@@ -6,11 +6,11 @@ use Rattle.rows.proofs.TableLaws.{chosen, passed_over}
 use Rattle.text.proofs.put.shown.Statement.{statement}
 use Rattle.text.proofs.put.shown.Tie as tie
 
-returns : tie.Need-returns
-returns c = sym (chosen (ℕ_discrete c.before.args.refusal 0) c.before.args.n 0 c.if1.true)
+returns : tie.Need-returns-then-refusal-eq0
+returns c = sym (chosen (ℕ_discrete c.before.args.refusal 0) c.before.args.n 0 c.if-refusal-eq0.true)
 
-returns-2 : tie.Need-returns-2
-returns-2 c = sym (passed_over (ℕ_discrete c.before.args.refusal 0) c.before.args.n 0 c.if1.false)
+returns-2 : tie.Need-returns
+returns-2 c = sym (passed_over (ℕ_discrete c.before.args.refusal 0) c.before.args.n 0 c.if-refusal-eq0.false)
 
 pub shown_spec : {M : Type 1} → statement M
 shown_spec = tie.close (tie.spec returns returns-2)
