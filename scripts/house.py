@@ -63,7 +63,7 @@ def house():
     found = {}
     for line in (ROOT / "crates.txt").read_text(encoding="utf-8").splitlines():
         if line and not line.startswith("#"):
-            name, deps = line.split(":")
+            name, deps = line.replace(" staticlib:", ":").split(":")
             found[name] = deps.split()
     return {name: [dep for dep in deps if dep in found] for name, deps in found.items()}
 

@@ -1,5 +1,5 @@
 -- One answer for each input of the functions over runs as records: any two results, and any two contents of the output, that a contract
--- allows are the same. These functions are proved by hand, and no `Reads` is made of them: what each contract says is written out again.
+-- allows are the same. What each contract says is written out again.
 -- Assumes nothing.
 use Prim.Native.Nat.{ℕ}
 use mathlib.Core.Path.{◌≡◌, sym, ap, ◌∙◌}

@@ -5,9 +5,9 @@ ghost use Rattle.std.specs.Prelude.{◌≡◌, ◌<◌, get_or};
 ghost use Rattle.places.specs.Keys.{NoneBelow};
 ghost use Rattle.places.specs.Places.{places};
 
-// There is no other byte: this is never called.
+// Past the table there is no entry, and the list gives 0 there. No byte is past it: this is never called.
 fn no_other(byte: u32) -> u64
-    requires { (byte < 256) × NoneBelow 256 byte }
+    requires { NoneBelow 256 byte }
     ensures { result ≡ get_or places byte 0 }
 {
     0

@@ -4,10 +4,8 @@ use Prim.Native.Nat.{ℕ, zero, suc}
 use native.Mathlib.Decide.{ℕ_discrete, dec_le}
 use mathlib.Core.Path.{◌≡◌, refl, sym, ap, ◌∙◌}
 use mathlib.Core.Logic.{◌≢◌, ◌⊎◌, inl, inr}
-use mathlib.Core.Bool.{Bool}
-use mathlib.Core.List.{List, [], ◌∷◌}
+use mathlib.Core.List.{[], ◌∷◌}
 use native.Mathlib.Omega.{arith}
-use lib.ListN.{length}
 use Rattle.rows.specs.declared.Refusal.{Refusal}
 use Rattle.rows.specs.declared.Row.{Row}
 use Rattle.rows.specs.declared.Verdict.{Verdict}
@@ -15,8 +13,8 @@ use Rattle.rows.specs.declared.Verdict.TheVariants.{Fine, Refused}
 use Rattle.rows.specs.Rows.{count}
 use Rattle.rows.specs.Lists.{select}
 use Rattle.rows.specs.Laid.{words_for}
-use Rattle.rows.specs.Table.{Line, First, Met, first, need, in_order, refusal, if_fine}
-use Rattle.rows.proofs.TableLaws.{never, first_exactly, fine_exactly, then_told, last_told, then_then, then_fine, then_refuses, line_refuses, parts_first, parts_last, alone_refused, alone_fine, passed_over, chosen}
+use Rattle.rows.specs.Table.{First, Met, first, refusal, if_fine}
+use Rattle.rows.proofs.TableLaws.{first_exactly, fine_exactly, then_told, last_told, then_then, then_fine, then_refuses, line_refuses, parts_first, alone_refused, alone_fine, passed_over, chosen}
 use Rattle.rows.proofs.SelectLaws.{selects, select_none}
 use Rattle.rows.proofs.RecoverLaws.{outside_length}
 use Rattle.rules.specs.Operand.{Operand, rows_of, length_of, count_of, operand_checks, Accepted}
@@ -30,7 +28,7 @@ use Rattle.operand.specs.Counts.{checked_of}
 use Rattle.operand.proofs.PairLaws.{both_verdict, both_counts}
 use Rattle.recover.specs.declared.inner.judge.Found.{Found}
 use Rattle.recover.specs.declared.inner.judge.Judged.{Judged}
-use Rattle.recover.specs.Judged.{match_checks, last_checks, found_by, found_of, judged_by, judged_of}
+use Rattle.recover.specs.Judged.{match_checks, last_checks, found_by, found_of, judged_by}
 
 abbrev found : Verdict → Row → Found
 found v row = record { verdict = v; outside = row }

@@ -3,23 +3,22 @@
 use Prim.Native.Nat.{ℕ, ◌+◌, ◌≤◌, ◌<◌}
 use native.Mathlib.Decide.{ℕ_discrete, dec_le}
 use mathlib.Core.Path.{◌≡◌, refl, sym, ap, ◌∙◌}
-use mathlib.Core.Logic.{◌≢◌, ◌⊎◌, inl, inr}
-use mathlib.Core.List.{List, [], ◌∷◌}
+use mathlib.Core.Logic.{◌≢◌, inl, inr}
+use mathlib.Core.List.{[], ◌∷◌}
 use native.Mathlib.Omega.{arith}
 use Rattle.rows.specs.declared.Refusal.{Refusal}
 use Rattle.rows.specs.declared.Verdict.{Verdict}
 use Rattle.rows.specs.declared.Verdict.TheVariants.{Fine, Refused}
-use Rattle.rows.specs.Table.{Line, First, first, in_order, refusal, if_fine}
-use Rattle.rows.proofs.TableLaws.{never, same_refusal, first_exactly, fine_exactly, parts_first, parts_last, then_fine, then_then, then_told, alone_refused, alone_fine, passed_over}
+use Rattle.rows.specs.Table.{First, first, refusal, if_fine}
+use Rattle.rows.proofs.TableLaws.{never, same_refusal, first_exactly, fine_exactly, parts_first, then_fine, then_then, then_told, alone_refused, alone_fine, passed_over}
 use Rattle.rules.specs.declared.RecoveryState.{RecoveryState}
-use Rattle.rules.specs.Operand.{limit, length_of, count_of}
+use Rattle.rules.specs.Operand.{limit, count_of}
 use Rattle.rules.specs.Compose.{both_checks}
 use Rattle.rules.specs.Recover.{strays, lengths_checks, inside_checks, room_checks, row_told}
-use Rattle.rules.specs.RecoverStream.{Masks, long, set, state_checks, limit_checks, feed_checks, judged}
+use Rattle.rules.specs.RecoverStream.{Masks, long, set, state_checks, limit_checks, judged}
 use Rattle.operand.specs.Counts.{checked_of}
 use Rattle.recover.specs.declared.inner.judge.Found.{Found}
-use Rattle.recover.specs.declared.inner.judge.Judged.{Judged}
-use Rattle.recover.specs.Judged.{match_checks, last_checks, found_by, found_of, judged_by}
+use Rattle.recover.specs.Judged.{match_checks, last_checks, found_by}
 use Rattle.recover.proofs.JudgeLaws.{matched_parts, match_numbers, match_fine}
 use Rattle.recoverer.specs.Pieces.{piece_checks}
 

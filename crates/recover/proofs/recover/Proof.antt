@@ -24,30 +24,30 @@ use Rattle.recover.proofs.recover.Tie as tie
 
 -- ---- the places, each from the one after it: the verdict, and of it a refusal or none
 
-abbrev words-lent : tie.After-slice-known → tie.After-shared-slice-known2
+abbrev words-lent : tie.After-slice_known-1 → tie.After-shared_slice_known-2-1
 words-lent c = c.before.before.before
 
-abbrev start : tie.After-judge → tie.Start
+abbrev start : tie.After-judge-judged → tie.Start
 start c = (words-lent c.before).before.before
 
-abbrev barred : tie.After-verdict → tie.After-judge
-barred c = c.before.before
+abbrev barred : tie.In-Refused → tie.After-judge-judged
+barred c = c.before
 
-abbrev passed : tie.After-enum-told → tie.After-judge
-passed c = c.before.before
+abbrev passed : tie.In-Fine → tie.After-judge-judged
+passed c = c.before
 
-abbrev refusing : tie.After-refused → tie.After-verdict
-refusing c = c.before.before
+abbrev refusing : tie.After-refused → tie.In-Refused
+refusing c = c.before
 
-abbrev asked : tie.After-recover-within → tie.After-enum-told
+abbrev asked : tie.After-recover_within → tie.In-Fine
 asked c = c.before.before
 
-abbrev gave : tie.After-slice-known2 → tie.After-recover-within
+abbrev gave : tie.After-slice_known-in-Fine-1 → tie.After-recover_within
 gave c = c.before.before
 
 -- ---- what is asked, and what the verdict says of it
 
-module _ (c : tie.After-judge) where
+module _ (c : tie.After-judge-judged) where
   abbrev s : tie.Start
   s = start c
 
@@ -66,21 +66,21 @@ module _ (c : tie.After-judge) where
   abbrev to : List ℕ
   to = written (count_of self) (recovery self other) out
 
-  told : c.judge.result ≡ judged_of self other (length out)
-  told = c.judge.ensures
+  told : c.judge-judged.result ≡ judged_of self other (length out)
+  told = c.judge-judged.ensures
 
-fine : (c : tie.After-enum-told) → verdict (passed c) ≡ Fine
-fine c = sym (ap (λ (j : Judged). j.verdict) (told (passed c))) ∙ c.enum_told.given.1
+fine : (c : tie.In-Fine) → verdict (passed c) ≡ Fine
+fine c = sym (ap (λ (j : Judged). j.verdict) (told (passed c))) ∙ c.in-Fine.is
 
-refuses : (c : tie.After-verdict) → verdict (barred c) ≡ Refused c.verdict.given.0.0
-refuses c = sym (ap (λ (j : Judged). j.verdict) (told (barred c))) ∙ c.verdict.given.1
+refuses : (c : tie.In-Refused) → verdict (barred c) ≡ Refused c.in-Refused.refusal
+refuses c = sym (ap (λ (j : Judged). j.verdict) (told (barred c))) ∙ c.in-Refused.is
 
 -- ---- the answers
 
-judge-requires : tie.Need-judge-requires
+judge-requires : tie.Need-judge-judged-requires
 judge-requires c κs = search rules
 
-enum-known-verdict : tie.Need-enum-known-verdict
+enum-known-verdict : tie.Need-enum_known-verdict
 enum-known-verdict c = search rules
 
 refused-requires : tie.Need-refused-requires
@@ -89,25 +89,25 @@ refused-requires c κs = search rules
 tell-requires : tie.Need-tell-requires
 tell-requires c κs = search rules
 
-enum_told : tie.Need-enum-told
+enum_told : tie.Need-enum_told-1
 enum_told c = search rules
 
-recover-within-requires : tie.Need-recover-within-requires
+recover-within-requires : tie.Need-recover_within-requires
 recover-within-requires c κs =
     let j = passed c.before in
     let well = (recover_fine (self j) (other j) (length (out j))).0 (fine c.before) in
     let own = all_counts (self j) (other j) (length (out j)) (fine c.before) in
     (well.0, ap (λ (x : Judged). x.set) (told j) ∙ own.0, ap (λ (x : Judged). x.kept) (told j) ∙ own.1, well.1)
 
-returns : tie.Need-returns
+returns : tie.Need-returns-in-Refused
 unfolding recovered recovered_out
 returns c =
-    let v = refusing c.before in
+    let v = refusing c.before.before in
     let j = barred v in
     let rows = recovery (self j) (other j) in
     let row : Row = record { 0 = row_told (verdict j) (strays (self j) (other j)) } in (
       c.tell.ensures
-          ∙ (λ i. gives (c.before.refused.ensures i) (told j i).outside)
+          ∙ (λ i. gives (c.before.before.refused.ensures i) (told j i).outside)
           ∙ (λ i. gives (answered (sym (refuses v) i) rows 0) row),
       ap (λ (w : Verdict). if_fine w (to j) (out j)) (sym (refuses v)),
     )
@@ -115,17 +115,17 @@ returns c =
     gives : Answer → Row → Recovered
     gives a row = record { answer = a; outside = row }
 
-same_length : tie.Need-same-length
+same_length : tie.Need-shape_of-out
 same_length c = search rules
 
-returns-2 : tie.Need-returns-2
+returns-2 : tie.Need-returns-in-Fine
 unfolding recovered recovered_out
 returns-2 c =
     let g = gave c in
     let j = passed (asked g) in
     let v = sym (fine (asked g)) in (
-      g.recover-within.ensures.0 ∙ ap (λ (w : Verdict). recovered_by w (self j) (other j)) v,
-      g.recover-within.ensures.1 ∙ ap (λ (w : Verdict). if_fine w (to j) (out j)) v,
+      g.recover_within.ensures.0 ∙ ap (λ (w : Verdict). recovered_by w (self j) (other j)) v,
+      g.recover_within.ensures.1 ∙ ap (λ (w : Verdict). if_fine w (to j) (out j)) v,
     )
 
 pub recover_spec : {M : Type 1} → statement M

@@ -22,24 +22,24 @@ use Rattle.recoverer.proofs.feed.Tie as tie
 
 -- ---- the places, each from the one after it: the verdict, and of it a refusal or none
 
-abbrev words-lent : tie.After-slice-known → tie.After-shared-slice-known2
+abbrev words-lent : tie.After-slice_known-1 → tie.After-shared_slice_known-2-1
 words-lent c = c.before.before.before
 
-abbrev start : tie.After-judge → tie.Start
+abbrev start : tie.After-judge-judged → tie.Start
 start c = (words-lent c.before).before.before
 
-abbrev barred : tie.After-verdict → tie.After-judge
-barred c = c.before.before.before
+abbrev barred : tie.In-Refused → tie.After-judge-judged
+barred c = c.before.before
 
-abbrev passed : tie.After-enum-told → tie.After-judge
-passed c = c.before.before.before
+abbrev passed : tie.In-Fine → tie.After-judge-judged
+passed c = c.before.before
 
-abbrev stepped : tie.After-slice-known2 → tie.After-step
+abbrev stepped : tie.After-slice_known-in-Fine-1 → tie.After-step
 stepped c = c.before.before
 
 -- ---- the pieces that are fed, and what the verdict says of them
 
-module _ (c : tie.After-judge) where
+module _ (c : tie.After-judge-judged) where
   abbrev s : tie.Start
   s = start c
 
@@ -51,27 +51,27 @@ module _ (c : tie.After-judge) where
   abbrev verdict : Verdict
   verdict = judged s.args.state masks (length s.args.out.now)
 
-  told : c.judge.result ≡ judged_by verdict masks.self masks.kept
-  told = c.judge.ensures
+  told : c.judge-judged.result ≡ judged_by verdict masks.self masks.kept
+  told = c.judge-judged.ensures
 
-fine : (c : tie.After-enum-told) → verdict (passed c) ≡ Fine
-fine c = sym (ap (λ (j : Judged). j.verdict) (told (passed c))) ∙ c.enum_told.given.1
+fine : (c : tie.In-Fine) → verdict (passed c) ≡ Fine
+fine c = sym (ap (λ (j : Judged). j.verdict) (told (passed c))) ∙ c.in-Fine.is
 
-refuses : (c : tie.After-verdict) → verdict (barred c) ≡ Refused c.verdict.given.0.0
-refuses c = sym (ap (λ (j : Judged). j.verdict) (told (barred c))) ∙ c.verdict.given.1
+refuses : (c : tie.In-Refused) → verdict (barred c) ≡ Refused c.in-Refused.refusal
+refuses c = sym (ap (λ (j : Judged). j.verdict) (told (barred c))) ∙ c.in-Refused.is
 
 -- ---- the answers
 
-judge-requires : tie.Need-judge-requires
+judge-requires : tie.Need-judge-judged-requires
 judge-requires c κs = search rules
 
-enum-known-verdict : tie.Need-enum-known-verdict
+enum-known-verdict : tie.Need-enum_known-verdict
 enum-known-verdict c = search rules
 
 refused-requires : tie.Need-refused-requires
 refused-requires c κs = search rules
 
-enum_told : tie.Need-enum-told
+enum_told : tie.Need-enum_told-1
 enum_told c = search rules
 
 step-requires : tie.Need-step-requires
@@ -80,9 +80,9 @@ step-requires c κs =
     let own = judged_counts (s j).args.state (masks j) (length (s j).args.out.now) (fine c.before) in
     (fine c.before, ap (λ (x : Judged). x.set) (told j) ∙ own.0, ap (λ (x : Judged). x.kept) (told j) ∙ own.1)
 
-returns : tie.Need-returns
+returns : tie.Need-returns-in-Refused
 returns c =
-    let v = c.before.before in
+    let v = c.before in
     let j = barred v in
     let m = masks j in
     let st = (s j).args.state in
@@ -96,10 +96,10 @@ returns c =
     gives : Answer → Row → RecoveryState → RecoveryFed
     gives a row st = record { answer = a; outside = row; state = st }
 
-same_length : tie.Need-same-length
+same_length : tie.Need-shape_of-out
 same_length c = search rules
 
-returns-2 : tie.Need-returns-2
+returns-2 : tie.Need-returns-in-Fine
 returns-2 c =
     let k = stepped c in
     let t = k.before.before in

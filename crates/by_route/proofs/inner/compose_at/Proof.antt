@@ -27,67 +27,67 @@ use borrow.Author.Rules.{rules}
 
 -- ---- the places, each from the one after it: where the match stands, and each of its arms
 
-abbrev words-lent : tie.After-slice-known → tie.After-shared-slice-known2
+abbrev words-lent : tie.After-slice_known-1 → tie.After-shared_slice_known-2-1
 words-lent c = c.before.before.before
 
-abbrev entry : tie.After-slice-known → tie.Start
+abbrev entry : tie.After-slice_known-1 → tie.Start
 entry c = (words-lent c).before.before
 
-abbrev start : tie.After-start-of2 → tie.Start
+abbrev start : tie.After-start_of-from → tie.Start
 start c = entry c.before.before.before
 
-abbrev full-self : tie.After-enum-told → tie.After-start-of2
-full-self c = c.before.before
+abbrev full-self : tie.In-RankMask → tie.After-start_of-from
+full-self c = c.before
 
-abbrev full-self-laid : tie.After-slice-known2 → tie.After-lay-rows
+abbrev full-self-laid : tie.After-slice_known-in-RankMask-1 → tie.After-lay_rows
 full-self-laid c = c.before.before
 
-abbrev full-rank : tie.After-enum-told2 → tie.After-start-of2
-full-rank c = c.before.before
+abbrev full-rank : tie.In-SelfMask → tie.After-start_of-from
+full-rank c = c.before
 
-abbrev full-rank-laid : tie.After-slice-known3 → tie.After-lay-rows2
+abbrev full-rank-laid : tie.After-slice_known-in-SelfMask-1 → tie.After-lay_rows-in-SelfMask
 full-rank-laid c = c.before.before
 
-abbrev no_rows : tie.After-enum-told3 → tie.After-start-of2
-no_rows c = c.before.before
+abbrev no_rows : tie.In-NoRows → tie.After-start_of-from
+no_rows c = c.before
 
-abbrev no-rows-laid : tie.After-slice-known4 → tie.After-clear
+abbrev no-rows-laid : tie.After-slice_known-in-NoRows-1 → tie.After-clear
 no-rows-laid c = c.before.before
 
-abbrev at-rank : tie.After-enum-told4 → tie.After-start-of2
-at-rank c = c.before.before
+abbrev at-rank : tie.In-EntryAtRank → tie.After-start_of-from
+at-rank c = c.before
 
-abbrev at-rank-laid : tie.After-slice-known5 → tie.After-lay-at-ranks
+abbrev at-rank-laid : tie.After-slice_known-in-EntryAtRank-1 → tie.After-lay_at_ranks
 at-rank-laid c = c.before.before
 
-abbrev if-set : tie.After-enum-told5 → tie.After-start-of2
-if-set c = c.before.before
+abbrev if-set : tie.In-EntryIfSet → tie.After-start_of-from
+if-set c = c.before
 
-abbrev if-set-laid : tie.After-slice-known6 → tie.After-lay-if-set
+abbrev if-set-laid : tie.After-slice_known-in-EntryIfSet-1 → tie.After-lay_if_set
 if-set-laid c = c.before.before
 
-abbrev driven : tie.After-enum-told6 → tie.After-start-of2
-driven c = c.before.before
+abbrev driven : tie.In-MaskDriven → tie.After-start_of-from
+driven c = c.before
 
-abbrev driven-laid : tie.After-slice-known7 → tie.After-lay-mask-driven
+abbrev driven-laid : tie.After-slice_known-in-MaskDriven-1 → tie.After-lay_mask_driven
 driven-laid c = c.before.before
 
-abbrev gathered : tie.After-route → tie.After-start-of2
-gathered c = c.before.before
+abbrev gathered : tie.In-Gathered → tie.After-start_of-from
+gathered c = c.before
 
-abbrev gathering : tie.After-intersect-bit-buffer-by-rank-indices-arg → tie.After-route
-gathering c = c.before.before
+abbrev gathering : tie.After-intersect_bit_buffer_by_rank_indices-arg-1 → tie.In-Gathered
+gathering c = c.before
 
-abbrev gathered-laid : tie.After-slice-known8 → tie.After-intersect-bit-buffer-by-rank-indices
+abbrev gathered-laid : tie.After-slice_known-in-Gathered-1 → tie.After-intersect_bit_buffer_by_rank_indices
 gathered-laid c = c.before.before
 
-abbrev read : tie.After-route2 → tie.After-start-of2
-read c = c.before.before
+abbrev read : tie.In-Read → tie.After-start_of-from
+read c = c.before
 
-abbrev reading : tie.After-intersect-bit-buffers-arg → tie.After-route2
-reading c = c.before.before
+abbrev reading : tie.After-intersect_bit_buffers-arg-1 → tie.In-Read
+reading c = c.before
 
-abbrev read-laid : tie.After-slice-known9 → tie.After-intersect-bit-buffers
+abbrev read-laid : tie.After-slice_known-in-Read-1 → tie.After-intersect_bit_buffers
 read-laid c = c.before.before
 
 -- ---- the operands, and what is asked of them before the match
@@ -111,24 +111,24 @@ module _ (c : tie.Start) where
       → o ≡ laid c.args.at (result self rank) c.args.out.now
   laid_as rows p e = p ∙ ap (λ (z : List Bool). laid c.args.at z c.args.out.now) e
 
-module _ (c : tie.After-start-of2) where
+module _ (c : tie.After-start_of-from) where
   abbrev len : ℕ
-  len = c.before.before.length-of.result
+  len = c.before.before.length_of-len.result
 
   abbrev first : ℕ
-  first = c.before.start_of_lem.result
+  first = c.before.start_of-start.result
 
   abbrev from : ℕ
-  from = c.start-of2.result
+  from = c.start_of-from.result
 
   long : len ≡ length_of (start c).args.s
-  long = c.before.before.length-of.ensures
+  long = c.before.before.length_of-len.ensures
 
   self_from : first ≡ start_of (start c).args.s
-  self_from = c.before.start_of_lem.ensures
+  self_from = c.before.start_of-start.ensures
 
   rank_from : from ≡ start_of (start c).args.r
-  rank_from = c.start-of2.ensures
+  rank_from = c.start_of-from.ensures
 
   abbrev s : Operand
   s = self (start c)
@@ -144,11 +144,11 @@ module _ (c : tie.After-start-of2) where
 
 -- ---- what the kernels ask, and that what they lay is the composition
 
-cleared : (c : tie.After-start-of2) → Fits NoRows (s c) (r c) → replicate (len c) false ≡ result (s c) (r c)
+cleared : (c : tie.After-start_of-from) → Fits NoRows (s c) (r c) → replicate (len c) false ≡ result (s c) (r c)
 cleared c f = ap (λ (k : ℕ). replicate k false) (long c) ∙ by_empty (s c) (r c) (both c) f
 
 -- self a list, or runs
-module _ (c : tie.After-start-of2) where
+module _ (c : tie.After-start_of-from) where
   -- self without its words
   abbrev alone : Operand
   alone = lent (s c).form [] (s c).numbers
@@ -171,7 +171,7 @@ module _ (c : tie.After-start-of2) where
         ∙ alone_read (s c) (r c) (both c) l v
 
 -- self in words
-module _ (c : tie.After-start-of2) where
+module _ (c : tie.After-start_of-from) where
   abbrev shown : ℕ → ℕ → List Bool
   shown k n = view k n (s c).words
 
@@ -210,195 +210,195 @@ module _ (c : tie.After-start-of2) where
 
 -- ---- the line that each arm is told; a rank mask that counts as a list is one, since no runs are to be kept
 
-fits_at_rank : (c : tie.After-enum-told4) → AsList (s (at-rank c)) × (has_row_numbers (r (at-rank c)).form ≡ true)
+fits_at_rank : (c : tie.In-EntryAtRank) → AsList (s (at-rank c)) × (has_row_numbers (r (at-rank c)).form ≡ true)
 fits_at_rank c =
     let q = at-rank c in
-    let f = line (start q) c.enum-told4.given.1 in
-    (f.0, list_numbers (r q).form f.1 (bare (start q) c.enum-told4.given.1))
+    let f = line (start q) c.in-EntryAtRank.is in
+    (f.0, list_numbers (r q).form f.1 (bare (start q) c.in-EntryAtRank.is))
 
-fits_if_set : (c : tie.After-enum-told5) → Fits EntryIfSet (s (if-set c)) (r (if-set c))
-fits_if_set c = line (start (if-set c)) c.enum-told5.given.1
+fits_if_set : (c : tie.In-EntryIfSet) → Fits EntryIfSet (s (if-set c)) (r (if-set c))
+fits_if_set c = line (start (if-set c)) c.in-EntryIfSet.is
 
-fits_gathered : (c : tie.After-route) → InWords (s (gathered c)) × (has_row_numbers (r (gathered c)).form ≡ true)
+fits_gathered : (c : tie.In-Gathered) → InWords (s (gathered c)) × (has_row_numbers (r (gathered c)).form ≡ true)
 fits_gathered c =
     let q = gathered c in
-    let f = line (start q) c.route.given.1 in
-    (f.0, list_numbers (r q).form f.1 (bare (start q) c.route.given.1))
+    let f = line (start q) c.in-Gathered.is in
+    (f.0, list_numbers (r q).form f.1 (bare (start q) c.in-Gathered.is))
 
-fits_read : (c : tie.After-route2) → InWords (s (read c)) × InWords (r (read c))
-fits_read c = line (start (read c)) c.route2.given.1
+fits_read : (c : tie.In-Read) → InWords (s (read c)) × InWords (r (read c))
+fits_read c = line (start (read c)) c.in-Read.is
 
 -- ---- the answers
 
-length-of-requires : tie.Need-length-of-requires
+length-of-requires : tie.Need-length_of-len-requires
 length-of-requires c κs = search rules
 
-start-of-requires : tie.Need-start-of-requires
+start-of-requires : tie.Need-start_of-start-requires
 start-of-requires c κs = search rules
 
-start-of-requires-2 : tie.Need-start-of-requires-2
+start-of-requires-2 : tie.Need-start_of-from-requires
 start-of-requires-2 c κs = search rules
 
-enum_told : tie.Need-enum-told
+enum_told : tie.Need-enum_told-1
 enum_told c = search rules
 
-lay-rows-requires : tie.Need-lay-rows-requires
+lay-rows-requires : tie.Need-lay_rows-requires
 lay-rows-requires c κs =
     let q = full-self c.before in
-    let e = full_length (s q) (r q) (both q) (line (start q) c.before.enum_told.given.1) in
-    ((both q).rank, (omega (arith, e, (start q).pre.2.0), omega (arith, e, (start q).pre.2.1)))
+    let e = full_length (s q) (r q) (both q) (line (start q) c.before.in-RankMask.is) in
+    ((both q).rank, (omega (arith, e, (start q).requires.2.0), omega (arith, e, (start q).requires.2.1)))
 
-enum-told-2 : tie.Need-enum-told-2
+enum-told-2 : tie.Need-enum_told-in-SelfMask
 enum-told-2 c = search rules
 
-lay-rows-requires-2 : tie.Need-lay-rows-requires-2
+lay-rows-requires-2 : tie.Need-lay_rows-requires-in-SelfMask
 lay-rows-requires-2 c κs =
     let q = full-rank c.before in
-    ((both q).self, (start q).pre.2)
+    ((both q).self, (start q).requires.2)
 
-enum-told-3 : tie.Need-enum-told-3
+enum-told-3 : tie.Need-enum_told-in-NoRows
 enum-told-3 c = search rules
 
 clear-requires : tie.Need-clear-requires
 clear-requires c κs = room (no_rows c.before)
 
-enum-told-4 : tie.Need-enum-told-4
+enum-told-4 : tie.Need-enum_told-in-EntryAtRank
 enum-told-4 c = search rules
 
-length-of-requires-2 : tie.Need-length-of-requires-2
+length-of-requires-2 : tie.Need-length_of-requires
 length-of-requires-2 c κs = search rules
 
-lay-at-ranks-requires : tie.Need-lay-at-ranks-requires
+lay-at-ranks-requires : tie.Need-lay_at_ranks-requires
 lay-at-ranks-requires c κs =
     let held = c.before in
     let q = at-rank held.before in
     let f = fits_at_rank held.before in (
       alone_accepted (s q) (r q) (both q) f.0,
       f.0,
-      omega (arith, held.length-of2.ensures, (both q).ranks),
+      omega (arith, held.length_of.ensures, (both q).ranks),
       alone_ranks (s q) (r q) (both q) f.0 f.1,
-      (start q).pre.2,
+      (start q).requires.2,
     )
 
-enum-told-5 : tie.Need-enum-told-5
+enum-told-5 : tie.Need-enum_told-in-EntryIfSet
 enum-told-5 c = search rules
 
-length-of-requires-3 : tie.Need-length-of-requires-3
+length-of-requires-3 : tie.Need-length_of-requires-in-EntryIfSet
 length-of-requires-3 c κs = search rules
 
-lay-if-set-requires : tie.Need-lay-if-set-requires
+lay-if-set-requires : tie.Need-lay_if_set-requires
 lay-if-set-requires c κs =
     let held = c.before in
     let q = if-set held.before in
     let f = fits_if_set held.before in
-    let count : held.length-of3.result ≡ count_of (alone q) = omega (arith, held.length-of3.ensures, (both q).ranks) in
-    (alone_accepted (s q) (r q) (both q) f.0, f.0, count, (reach q f.0 f.1).0, (reach q f.0 f.1).1, (start q).pre.2)
+    let count : held.length_of-in-EntryIfSet.result ≡ count_of (alone q) = omega (arith, held.length_of-in-EntryIfSet.ensures, (both q).ranks) in
+    (alone_accepted (s q) (r q) (both q) f.0, f.0, count, (reach q f.0 f.1).0, (reach q f.0 f.1).1, (start q).requires.2)
 
-enum-told-6 : tie.Need-enum-told-6
+enum-told-6 : tie.Need-enum_told-in-MaskDriven
 enum-told-6 c = search rules
 
-lay-mask-driven-requires : tie.Need-lay-mask-driven-requires
+lay-mask-driven-requires : tie.Need-lay_mask_driven-requires
 lay-mask-driven-requires c κs =
     let q = driven c.before in
-    (both q, line (start q) c.before.enum-told6.given.1, (start q).pre.2, bare (start q) c.before.enum-told6.given.1)
+    (both q, line (start q) c.before.in-MaskDriven.is, (start q).requires.2, bare (start q) c.before.in-MaskDriven.is)
 
-enum-known-route : tie.Need-enum-known-route
+enum-known-route : tie.Need-enum_known-route
 enum-known-route c = search rules
 
 intersect_bit_buffer_by_rank_indices_requires :
-    tie.Need-intersect-bit-buffer-by-rank-indices-requires
+    tie.Need-intersect_bit_buffer_by_rank_indices-requires
 intersect_bit_buffer_by_rank_indices_requires c κs =
     let q = gathered (gathering c) in
     let f = fits_gathered (gathering c) in
     (in_view_lem q f.0, room q, ranks_ascend q f.0 f.1)
 
-enum-known-route-2 : tie.Need-enum-known-route-2
+enum-known-route-2 : tie.Need-enum_known-route-in-Read-1
 enum-known-route-2 c = search rules
 
-intersect-bit-buffers-requires : tie.Need-intersect-bit-buffers-requires
+intersect-bit-buffers-requires : tie.Need-intersect_bit_buffers-requires
 intersect-bit-buffers-requires c κs =
     let q = read (reading c) in
     let f = fits_read (reading c) in
     let m = (in_words (r q) f.1 (both q).rank).in_view in
     (in_view_lem q f.0, omega (arith, rank_from q, m.1), room q)
 
-same_length : tie.Need-same-length
+same_length : tie.Need-shape_of-out-in-RankMask
 same_length c = search rules
 
-returns : tie.Need-returns
+returns : tie.Need-returns-in-RankMask
 returns c =
     let gave = full-self-laid c in
     let told = gave.before.before in
     let q = full-self told in
-    laid_as (start q) (rows_of (r q)) gave.lay-rows.ensures (by_full_self (s q) (r q) (both q) (line (start q) told.enum_told.given.1))
+    laid_as (start q) (rows_of (r q)) gave.lay_rows.ensures (by_full_self (s q) (r q) (both q) (line (start q) told.in-RankMask.is))
 
-same-length-2 : tie.Need-same-length-2
+same-length-2 : tie.Need-shape_of-out-in-SelfMask
 same-length-2 c = search rules
 
-returns-2 : tie.Need-returns-2
+returns-2 : tie.Need-returns-in-SelfMask
 returns-2 c =
     let gave = full-rank-laid c in
     let told = gave.before.before in
     let q = full-rank told in
-    laid_as (start q) (rows_of (s q)) gave.lay-rows2.ensures (by_full_rank (s q) (r q) (both q) (line (start q) told.enum-told2.given.1))
+    laid_as (start q) (rows_of (s q)) gave.lay_rows-in-SelfMask.ensures (by_full_rank (s q) (r q) (both q) (line (start q) told.in-SelfMask.is))
 
-same-length-3 : tie.Need-same-length-3
+same-length-3 : tie.Need-shape_of-out-in-NoRows
 same-length-3 c = search rules
 
-returns-3 : tie.Need-returns-3
+returns-3 : tie.Need-returns-in-NoRows
 returns-3 c =
     let gave = no-rows-laid c in
     let told = gave.before.before in
     let q = no_rows told in
-    laid_as (start q) (replicate (len q) false) gave.clear.ensures (cleared q (line (start q) told.enum-told3.given.1))
+    laid_as (start q) (replicate (len q) false) gave.clear.ensures (cleared q (line (start q) told.in-NoRows.is))
 
-same-length-4 : tie.Need-same-length-4
+same-length-4 : tie.Need-shape_of-out-in-EntryAtRank
 same-length-4 c = search rules
 
-returns-4 : tie.Need-returns-4
+returns-4 : tie.Need-returns-in-EntryAtRank
 returns-4 c =
     let gave = at-rank-laid c in
     let told = gave.before.before.before in
     let q = at-rank told in
-    laid_as (start q) (rows_at_rank q) gave.lay-at-ranks.ensures (alone_listed (s q) (r q) (both q) (fits_at_rank told).0 (fits_at_rank told).1)
+    laid_as (start q) (rows_at_rank q) gave.lay_at_ranks.ensures (alone_listed (s q) (r q) (both q) (fits_at_rank told).0 (fits_at_rank told).1)
 
-same-length-5 : tie.Need-same-length-5
+same-length-5 : tie.Need-shape_of-out-in-EntryIfSet
 same-length-5 c = search rules
 
-returns-5 : tie.Need-returns-5
+returns-5 : tie.Need-returns-in-EntryIfSet
 returns-5 c =
     let gave = if-set-laid c in
     let told = gave.before.before.before in
     let q = if-set told in
-    laid_as (start q) (rows_if_set q) gave.lay-if-set.ensures (by_bit q (fits_if_set told).0 (fits_if_set told).1)
+    laid_as (start q) (rows_if_set q) gave.lay_if_set.ensures (by_bit q (fits_if_set told).0 (fits_if_set told).1)
 
-same-length-6 : tie.Need-same-length-6
+same-length-6 : tie.Need-shape_of-out-in-MaskDriven
 same-length-6 c = search rules
 
-returns-6 : tie.Need-returns-6
-returns-6 c = (driven-laid c).lay-mask-driven.ensures
+returns-6 : tie.Need-returns-in-MaskDriven
+returns-6 c = (driven-laid c).lay_mask_driven.ensures
 
-same-length-7 : tie.Need-same-length-7
+same-length-7 : tie.Need-shape_of-out-in-Gathered
 same-length-7 c = search rules
 
-returns-7 : tie.Need-returns-7
+returns-7 : tie.Need-returns-in-Gathered
 returns-7 c =
     let gave = gathered-laid c in
     let told = gathering gave.before in
     let q = gathered told in
     let f = fits_gathered told in
-    laid_as (start q) (rows_gathered q) gave.intersect-bit-buffer-by-rank-indices.ensures (by_list q f.0 f.1)
+    laid_as (start q) (rows_gathered q) gave.intersect_bit_buffer_by_rank_indices.ensures (by_list q f.0 f.1)
 
-same-length-8 : tie.Need-same-length-8
+same-length-8 : tie.Need-shape_of-out-in-Read
 same-length-8 c = search rules
 
-returns-8 : tie.Need-returns-8
+returns-8 : tie.Need-returns-in-Read
 returns-8 c =
     let gave = read-laid c in
     let told = reading gave.before in
     let q = read told in
     let f = fits_read told in
-    laid_as (start q) (rows_read q) gave.intersect-bit-buffers.ensures (by_words q f.0 f.1)
+    laid_as (start q) (rows_read q) gave.intersect_bit_buffers.ensures (by_words q f.0 f.1)
 
 pub compose_at_spec : {M : Type 1} → statement M
 compose_at_spec =

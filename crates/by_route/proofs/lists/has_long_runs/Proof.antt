@@ -9,20 +9,20 @@ use borrow.Author.Rules.{rules}
 use Rattle.by_route.proofs.lists.has_long_runs.Statement.{statement}
 use Rattle.by_route.proofs.lists.has_long_runs.Tie as tie
 
-abbrev start : tie.After-has-runs → tie.Start
+abbrev start : tie.After-has_runs → tie.Start
 start c = c.before.before
 
-abbrev more : tie.After-has-runs → Bool
+abbrev more : tie.After-has_runs → Bool
 more c = not (eqb (start c).args.count (length (start c).args.numbers.now / 2))
 
-has-runs-requires : tie.Need-has-runs-requires
+has-runs-requires : tie.Need-has_runs-requires
 has-runs-requires c κs = search rules
 
-returns : tie.Need-returns
-returns c = sym (ap (λ (b : Bool). b && more c.before) (sym c.before.has-runs.ensures ∙ c.if1.true))
+returns : tie.Need-returns-then-has_runs
+returns c = sym (ap (λ (b : Bool). b && more c.before) (sym c.before.has_runs.ensures ∙ c.if-has_runs.true))
 
-returns-2 : tie.Need-returns-2
-returns-2 c = sym (ap (λ (b : Bool). b && more c.before) (sym c.before.has-runs.ensures ∙ c.if1.false))
+returns-2 : tie.Need-returns
+returns-2 c = sym (ap (λ (b : Bool). b && more c.before) (sym c.before.has_runs.ensures ∙ c.if-has_runs.false))
 
 pub has_long_runs_spec : {M : Type 1} → statement M
 has_long_runs_spec = tie.close (tie.spec has-runs-requires returns returns-2)

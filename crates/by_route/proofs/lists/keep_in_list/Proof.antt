@@ -18,87 +18,87 @@ use Rattle.by_route.proofs.lists.keep_in_list.Tie as tie
 
 -- ---- the places, each from the one after it: runs, or entries
 
-abbrev entry : tie.After-slice-known → tie.Start
+abbrev entry : tie.After-slice_known-1 → tie.Start
 entry c = c.before.before.before
 
-abbrev start : tie.After-length-of → tie.Start
+abbrev start : tie.After-length_of-len → tie.Start
 start c = entry c.before
 
-abbrev asked : tie.After-has-long-runs → tie.After-length-of
+abbrev asked : tie.After-has_long_runs → tie.After-length_of-len
 asked c = c.before
 
-abbrev in_runs_lem : tie.After-lay-runs-in-runs → tie.Then1
+abbrev in_runs_lem : tie.After-lay_runs_in_runs → tie.Then-has_long_runs
 in_runs_lem c = c.before.before
 
-abbrev runs-laid : tie.After-slice-known2 → tie.After-lay-runs-in-runs
+abbrev runs-laid : tie.After-slice_known-then-has_long_runs-1 → tie.After-lay_runs_in_runs
 runs-laid c = c.before.before
 
-abbrev in-entries : tie.After-lay-entries-by-runs → tie.After-has-runs
+abbrev in-entries : tie.After-lay_entries_by_runs → tie.After-has_runs
 in-entries c = c.before.before
 
-abbrev entries-laid : tie.After-slice-known3 → tie.After-lay-entries-by-runs
+abbrev entries-laid : tie.After-slice_known-2-1 → tie.After-lay_entries_by_runs
 entries-laid c = c.before.before
 
 -- ---- self, and what is known of it
 
-module _ (c : tie.After-length-of) where
+module _ (c : tie.After-length_of-len) where
   abbrev self : Operand
   self = lent (start c).args.s [] (start c).args.srows.now
 
-  abbrev long : c.length-of.result ≡ length_of self.form
-  long = c.length-of.ensures
+  abbrev long : c.length_of-len.result ≡ length_of self.form
+  long = c.length_of-len.ensures
 
-module _ (c : tie.Then1) where
-  abbrev runs_of : tie.After-length-of
+module _ (c : tie.Then-has_long_runs) where
+  abbrev runs_of : tie.After-length_of-len
   runs_of = asked c.before
 
   runs : AsRuns (self runs_of)
   runs =
       let s = start runs_of in
-      as_runs (self runs_of) s.args.count s.pre.0 (sym c.before.has-long-runs.ensures ∙ c.if1.true)
+      as_runs (self runs_of) s.args.count s.requires.0 (sym c.before.has_long_runs.ensures ∙ c.if-has_long_runs.true)
 
-module _ (c : tie.After-has-runs) where
-  abbrev entries-of : tie.After-length-of
+module _ (c : tie.After-has_runs) where
+  abbrev entries-of : tie.After-length_of-len
   entries-of = asked c.before.before
 
   abbrev single : Bool
-  single = c.has-runs.result
+  single = c.has_runs.result
 
   found : AsEntries (self entries-of) single
   found =
       let s = start entries-of in
       let l = c.before in
-      subst (λ (b : Bool). AsEntries (self entries-of) b) (sym c.has-runs.ensures)
-      (as_entries (self entries-of) s.args.count s.pre.0 s.pre.1 s.pre.2 (sym l.before.has-long-runs.ensures ∙ l.if1.false))
+      subst (λ (b : Bool). AsEntries (self entries-of) b) (sym c.has_runs.ensures)
+      (as_entries (self entries-of) s.args.count s.requires.0 s.requires.1 s.requires.2 (sym l.before.has_long_runs.ensures ∙ l.if-has_long_runs.false))
 
 -- ---- the answers
 
-length-of-requires : tie.Need-length-of-requires
+length-of-requires : tie.Need-length_of-len-requires
 length-of-requires c κs = search rules
 
-has-long-runs-requires : tie.Need-has-long-runs-requires
+has-long-runs-requires : tie.Need-has_long_runs-requires
 has-long-runs-requires c κs = search rules
 
-has-runs-requires : tie.Need-has-runs-requires
+has-runs-requires : tie.Need-has_runs-requires
 has-runs-requires c κs = search rules
 
-same_length : tie.Need-same-length
+same_length : tie.Need-shape_of-out-then-has_long_runs
 same_length c = search rules
 
-same-length-2 : tie.Need-same-length-2
+same-length-2 : tie.Need-shape_of-out
 same-length-2 c = search rules
 
 -- ---- in runs
 
-lay-runs-in-runs-requires : tie.Need-lay-runs-in-runs-requires
+lay-runs-in-runs-requires : tie.Need-lay_runs_in_runs-requires
 lay-runs-in-runs-requires c κs =
     let t = c.before in
     let q = runs_of t in
     let s = start q in
     let o = runs t in
-    rw (long q) (o.apart, subst (λ (k : ℕ). Apart 0 k s.args.rruns.now) o.sum s.pre.3, o.limit, s.pre.4)
+    rw (long q) (o.apart, subst (λ (k : ℕ). Apart 0 k s.args.rruns.now) o.sum s.requires.3, o.limit, s.requires.4)
 
-returns : tie.Need-returns
+returns : tie.Need-returns-then-has_long_runs
 returns c =
     let l = runs-laid c in
     let t = in_runs_lem l in
@@ -106,21 +106,21 @@ returns c =
     let a = (start q).args in
     let ns = a.srows.now in
     let rs = a.rruns.now in
-    l.lay-runs-in-runs.ensures.1
+    l.lay_runs_in_runs.ensures.1
     ∙ ap (λ (n : ℕ). laid a.at (compose (in_runs n ns) (in_runs (run_lengths ns) rs)) a.out.now) (long q)
     ∙ ap₂ (λ (z : List Bool) (n : ℕ). laid a.at (compose z (in_runs n rs)) a.out.now) (runs t).rows (sym (runs t).sum)
 
 -- ---- by entries
 
-lay-entries-by-runs-requires : tie.Need-lay-entries-by-runs-requires
+lay-entries-by-runs-requires : tie.Need-lay_entries_by_runs-requires
 lay-entries-by-runs-requires c κs =
     let e = c.before in
     let q = entries-of e in
     let s = start q in
     let o = found e in
-    rw (long q) (o.up, subst (λ (k : ℕ). Apart 0 k s.args.rruns.now) o.many s.pre.3, s.pre.4)
+    rw (long q) (o.up, subst (λ (k : ℕ). Apart 0 k s.args.rruns.now) o.many s.requires.3, s.requires.4)
 
-returns-2 : tie.Need-returns-2
+returns-2 : tie.Need-returns
 returns-2 c =
     let l = entries-laid c in
     let e = in-entries l in
@@ -128,7 +128,7 @@ returns-2 c =
     let a = (start q).args in
     let es = entries (single e) a.srows.now in
     let rs = a.rruns.now in
-    l.lay-entries-by-runs.ensures.1
+    l.lay_entries_by_runs.ensures.1
     ∙ ap (λ (n : ℕ). laid a.at (compose (listed n es) (in_runs (length es) rs)) a.out.now) (long q)
     ∙ ap₂ (λ (z : List Bool) (n : ℕ). laid a.at (compose z (in_runs n rs)) a.out.now) (found e).rows (sym (found e).many)
 

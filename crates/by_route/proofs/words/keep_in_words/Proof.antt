@@ -20,21 +20,21 @@ use Rattle.by_route.proofs.words.keep_in_words.Tie as tie
 
 -- ---- the places, each from the one after it: self's start asked, its length, and its rows kept
 
-abbrev entry : tie.After-slice-known → tie.Start
+abbrev entry : tie.After-slice_known-1 → tie.Start
 entry c = c.before.before.before.before
 
-abbrev started : tie.After-length-of → tie.After-start-of
+abbrev started : tie.After-length_of → tie.After-start_of
 started c = c.before
 
-abbrev measured : tie.After-keep-words → tie.After-length-of
+abbrev measured : tie.After-keep_words → tie.After-length_of
 measured c = c.before.before
 
-abbrev kept : tie.After-slice-known2 → tie.After-keep-words
+abbrev kept : tie.After-slice_known-2-1 → tie.After-keep_words
 kept c = c.before.before
 
 -- ---- self
 
-module _ (c : tie.After-length-of) where
+module _ (c : tie.After-length_of) where
   abbrev s : tie.Start
   s = entry (started c).before
 
@@ -42,59 +42,59 @@ module _ (c : tie.After-length-of) where
   self = lent s.args.s s.args.swords.now s.args.srows.now
 
   abbrev well : Accepted self
-  well = s.pre.0
+  well = s.requires.0
 
   abbrev len : ℕ
-  len = c.length-of.result
+  len = c.length_of.result
 
   abbrev runs : List ℕ
   runs = s.args.rruns.now
 
   abbrev from : ℕ
-  from = (started c).start_of_lem.result
+  from = (started c).start_of.result
 
   long : len ≡ length_of self.form
-  long = c.length-of.ensures
+  long = c.length_of.ensures
 
   begins : from ≡ start_of self.form
-  begins = (started c).start_of_lem.ensures
+  begins = (started c).start_of.ensures
 
   -- its rows are those of its words in view
   shown : view from len self.words ≡ rows_of self
-  shown = ap₂ (λ (k n : ℕ). view k n self.words) begins long ∙ sym (in_words self s.pre.1 well).rows
+  shown = ap₂ (λ (k n : ℕ). view k n self.words) begins long ∙ sym (in_words self s.requires.1 well).rows
 
   in_view_lem : InView from len self.words
   in_view_lem =
-      let v = (in_words self s.pre.1 well).in_view in
+      let v = (in_words self s.requires.1 well).in_view in
       (omega (arith, long, v.0), omega (arith, begins, v.1), omega (arith, long, begins, v.2))
 
   counted : count (view from len self.words) ≡ count_of self
   counted = ap count shown ∙ accepted_count self well
 
   room : Room s.args.at len s.args.out.now
-  room = (omega (arith, long, s.pre.3.0), omega (arith, long, s.pre.3.1))
+  room = (omega (arith, long, s.requires.3.0), omega (arith, long, s.requires.3.1))
 
 -- ---- the answers
 
-start-of-requires : tie.Need-start-of-requires
+start-of-requires : tie.Need-start_of-requires
 start-of-requires c κs = search rules
 
-length-of-requires : tie.Need-length-of-requires
+length-of-requires : tie.Need-length_of-requires
 length-of-requires c κs = search rules
 
-keep-words-requires : tie.Need-keep-words-requires
+keep-words-requires : tie.Need-keep_words-requires
 keep-words-requires c κs =
     let m = c.before in
     (in_view_lem m, room m, subst (λ (k : ℕ). Apart 0 k (runs m)) (sym (counted m)) (s m).requires.2)
 
-same_length : tie.Need-same-length
+same_length : tie.Need-shape_of-out
 same_length c = search rules
 
 returns : tie.Need-returns
 returns c =
     let k = kept c in
     let m = measured k in
-    k.keep-words.ensures.1
+    k.keep_words.ensures.1
     ∙ ap₂ (λ (v : List Bool) (n : ℕ). laid (s m).args.at (compose v (in_runs n (runs m))) (s m).args.out.now) (shown m) (counted m)
 
 pub keep_in_words_spec : {M : Type 1} → statement M

@@ -18,11 +18,11 @@ use Rattle.in_runs.proofs.counts.count_rows.Tie as tie
 
 -- ---- the places, each from the one after it
 
-abbrev start : tie.After-form → tie.Start
-start c = c.before.before.before
+abbrev start : tie.In-Words → tie.Start
+start c = c.before.before
 
-abbrev told : tie.After-struct-known → tie.After-form
-told c = c.before.before
+abbrev told : tie.After-struct_known-1 → tie.In-Words
+told c = c.before
 
 -- ---- what is asked of the operand, and what is to be counted, by what is known of its form
 
@@ -35,66 +35,66 @@ asked s e = subst (Asked s) e s.requires
 abbrev counted : tie.Start → Form → ℕ
 counted s f = count (take s.args.n (drop s.args.row.0 (rows_of (lent f s.args.words.now []))))
 
-module _ (c : tie.After-form) where
+module _ (c : tie.In-Words) where
   abbrev first : ℕ
-  first = c.form.given.0.0
+  first = c.in-Words.start
 
   abbrev len : ℕ
-  len = c.form.given.0.1.0
+  len = c.in-Words.length
 
   required : InView first len (start c).args.words.now × ((start c).args.row.0 + (start c).args.n ≤ len)
-  required = asked (start c) c.form.given.1
+  required = asked (start c) c.in-Words.is
 
 -- ---- the answers
 
-enum_told : tie.Need-enum-told
+enum_told : tie.Need-enum_told-1
 enum_told c = search rules
 
-enum-told-2 : tie.Need-enum-told-2
+enum-told-2 : tie.Need-enum_told-in-None
 enum-told-2 c = search rules
 
-enum-known-form : tie.Need-enum-known-form
+enum-known-form : tie.Need-enum_known-form
 enum-known-form c = search rules
 
-add-count-from : tie.Need-overflow-add-count-from
+add-count-from : tie.Need-overflow_add-start
 add-count-from c =
     let q = required (told c) in
     omega (arith, q.0.0, q.0.1, q.1)
 
-count-from-requires : tie.Need-count-from-requires
+count-from-requires : tie.Need-count_from-requires
 count-from-requires c κs =
     let q = required (told c) in
     (omega (arith, q.0.0, q.1), omega (arith, q.0.2, q.1))
 
-enum-told-3 : tie.Need-enum-told-3
+enum-told-3 : tie.Need-enum_told-in-List
 enum-told-3 c = search rules
 
-enum-told-4 : tie.Need-enum-told-4
+enum-told-4 : tie.Need-enum_told-in-Runs
 enum-told-4 c = search rules
 
-returns : tie.Need-returns
+returns : tie.Need-returns-in-All
 returns c =
-    let s = c.before.before.before in
-    let e = c.enum_told.given.1 in
+    let s = c.before.before in
+    let e = c.in-All.is in
     all_count s.args.row.0 s.args.n _ (asked s e).1 ∙ sym (ap (counted s) e)
 
-returns-2 : tie.Need-returns-2
+returns-2 : tie.Need-returns-in-None
 returns-2 c =
-    let s = c.before.before.before in
-    none_count s.args.row.0 s.args.n c.enum-told2.given.0.0 ∙ sym (ap (counted s) c.enum-told2.given.1)
+    let s = c.before.before in
+    none_count s.args.row.0 s.args.n c.in-None.length ∙ sym (ap (counted s) c.in-None.is)
 
-returns-3 : tie.Need-returns-3
+returns-3 : tie.Need-returns-in-Words
 returns-3 c =
     let t = told c.before in
     let s = start t in
-    c.count-from.ensures ∙ ap count (read_under (first t) (len t) s.args.row.0 s.args.n s.args.words.now (required t).1)
-    ∙ sym (ap (counted s) t.form.given.1)
+    c.count_from.ensures ∙ ap count (read_under (first t) (len t) s.args.row.0 s.args.n s.args.words.now (required t).1)
+    ∙ sym (ap (counted s) t.in-Words.is)
 
-returns-4 : tie.Need-returns-4
-returns-4 c = absurd (asked c.before.before.before c.enum-told3.given.1).0
+returns-4 : tie.Need-returns-in-List
+returns-4 c = absurd (asked c.before.before c.in-List.is).0
 
-returns-5 : tie.Need-returns-5
-returns-5 c = absurd (asked c.before.before.before c.enum-told4.given.1).0
+returns-5 : tie.Need-returns-in-Runs
+returns-5 c = absurd (asked c.before.before c.in-Runs.is).0
 
 pub count_rows_spec : {M : Type 1} → statement M
 count_rows_spec =

@@ -20,46 +20,46 @@ use Rattle.in_runs.proofs.FillLaws.{Filling, filling_none, filling_few, filling_
 use Rattle.in_runs.proofs.inner.recover_runs.Statement.{statement}
 use Rattle.in_runs.proofs.inner.recover_runs.Tie as tie
 
-abbrev invariant-loop : tie.invariant-loop
+abbrev invariant-loop : tie.invariant-loop-i
 invariant-loop s total swords srows runs at out₀ row₀ rank₀ own₀ i₀ out row rank own i =
     Came (lent s swords srows) own row.0 × Filling (rows_of (lent s swords srows)) runs (length_of s) at row.0 i rank.0 out₀ out
 
-abbrev decreases-loop : tie.decreases-loop
+abbrev decreases-loop : tie.decreases-loop-i
 decreases-loop s total swords srows runs at out₀ row₀ rank₀ own₀ i₀ out row rank own i = length runs - i
 
 -- ---- the places, each from the one after it
 
-abbrev lent-known : tie.After-shared-slice-known3 invariant-loop decreases-loop → tie.Start invariant-loop decreases-loop
+abbrev lent-known : tie.After-shared_slice_known-3-1 invariant-loop decreases-loop → tie.Start invariant-loop decreases-loop
 lent-known c = c.before.before.before
 
-abbrev entry : tie.After-slice-known invariant-loop decreases-loop → tie.Start invariant-loop decreases-loop
+abbrev entry : tie.After-slice_known-1 invariant-loop decreases-loop → tie.Start invariant-loop decreases-loop
 entry c = lent-known c.before
 
-abbrev start : tie.At-loop invariant-loop decreases-loop → tie.Start invariant-loop decreases-loop
+abbrev start : tie.At-loop-i invariant-loop decreases-loop → tie.Start invariant-loop decreases-loop
 start c = entry c.before
 
-abbrev head : tie.In-loop invariant-loop decreases-loop → tie.At-loop invariant-loop decreases-loop
+abbrev head : tie.In-loop-i invariant-loop decreases-loop → tie.At-loop-i invariant-loop decreases-loop
 head c = c.before
 
-abbrev both : tie.After-shared-slice-known5 invariant-loop decreases-loop → tie.In-loop invariant-loop decreases-loop
+abbrev both : tie.After-shared_slice_known-in-loop-i-2-1 invariant-loop decreases-loop → tie.In-loop-i invariant-loop decreases-loop
 both c = c.before.before
 
-abbrev turn : tie.After-skip-rows invariant-loop decreases-loop → tie.In-loop invariant-loop decreases-loop
+abbrev turn : tie.After-skip_rows-skipped invariant-loop decreases-loop → tie.In-loop-i invariant-loop decreases-loop
 turn c = both c.before.before
 
-abbrev gone : tie.After-lay-ranks invariant-loop decreases-loop → tie.After-skip-rows invariant-loop decreases-loop
+abbrev gone : tie.After-lay_ranks-rank invariant-loop decreases-loop → tie.After-skip_rows-skipped invariant-loop decreases-loop
 gone c = c.before.before
 
-abbrev written : tie.After-slice-known2 invariant-loop decreases-loop → tie.After-lay-ranks invariant-loop decreases-loop
+abbrev written : tie.After-slice_known-in-loop-i-1 invariant-loop decreases-loop → tie.After-lay_ranks-rank invariant-loop decreases-loop
 written c = c.before.before
 
-abbrev back : tie.After-skip-set invariant-loop decreases-loop → tie.After-lay-ranks invariant-loop decreases-loop
+abbrev back : tie.After-skip_set-own invariant-loop decreases-loop → tie.After-lay_ranks-rank invariant-loop decreases-loop
 back c = written c.before
 
-abbrev last : tie.After-struct-known2 invariant-loop decreases-loop → tie.At-loop invariant-loop decreases-loop
+abbrev last : tie.After-struct_known-2-1 invariant-loop decreases-loop → tie.At-loop-i invariant-loop decreases-loop
 last c = c.before.before
 
-abbrev cleared : tie.After-slice-known3 invariant-loop decreases-loop → tie.After-clear-ranks invariant-loop decreases-loop
+abbrev cleared : tie.After-slice_known-2-1 invariant-loop decreases-loop → tie.After-clear_ranks invariant-loop decreases-loop
 cleared c = c.before.before
 
 -- ---- self
@@ -79,7 +79,7 @@ module _ (c : tie.Start invariant-loop decreases-loop) where
 
 -- ---- a turn's run
 
-module _ (c : tie.In-loop invariant-loop decreases-loop) where
+module _ (c : tie.In-loop-i invariant-loop decreases-loop) where
   abbrev b : tie.Start invariant-loop decreases-loop
   b = start (head c)
 
@@ -87,151 +87,151 @@ module _ (c : tie.In-loop invariant-loop decreases-loop) where
   runs = b.args.runs.now
 
   abbrev row : ℕ
-  row = (head c).loop.row.0
+  row = (head c).loop-i.row.0
 
   abbrev first : ℕ
-  first = get_or runs (head c).loop.i 0
+  first = get_or runs (head c).loop-i.i 0
 
   abbrev past : ℕ
-  past = get_or runs ((head c).loop.i + 1) 0
+  past = get_or runs ((head c).loop-i.i + 1) 0
 
-  next : NextRun row (length_of b.args.s) (head c).loop.i runs
+  next : NextRun row (length_of b.args.s) (head c).loop-i.i runs
   next =
-      let l = (head c).loop in
+      let l = (head c).loop-i in
       let a = b.args in
-      filling_next (s b) runs (length_of a.s) a.at (long b) row l.i l.rank.0 a.out.now l.out l.inv.1 (omega arith)
+      filling_next (s b) runs (length_of a.s) a.at (long b) row l.i l.rank.0 a.out.now l.out l.invariant.1 (omega arith)
 
   full : count (take (past - first) (drop first (s b))) ≡ past - first
   full =
-      let l = (head c).loop in
+      let l = (head c).loop-i in
       let a = b.args in
-      run_full (s b) runs (length_of a.s) a.at (long b) row l.i l.rank.0 a.out.now l.out l.inv.1 b.pre.3 (omega arith)
+      run_full (s b) runs (length_of a.s) a.at (long b) row l.i l.rank.0 a.out.now l.out l.invariant.1 b.requires.3 (omega arith)
 
 -- ---- what self has before it
 
-module _ (c : tie.After-skip-rows invariant-loop decreases-loop) where
-  abbrev t : tie.In-loop invariant-loop decreases-loop
+module _ (c : tie.After-skip_rows-skipped invariant-loop decreases-loop) where
+  abbrev t : tie.In-loop-i invariant-loop decreases-loop
   t = turn c
 
   abbrev set : ℕ
-  set = c.skip-rows.result.set
+  set = c.skip_rows-skipped.result.set
 
-  room : (head t).loop.rank.0 + set + (past t - first t) ≤ count (s (b t))
+  room : (head t).loop-i.rank.0 + set + (past t - first t) ≤ count (s (b t))
   room =
-      let l = (head t).loop in
+      let l = (head t).loop-i in
       let a = (b t).args in
-      filling_room (s (b t)) (runs t) (length_of a.s) a.at (long (b t)) (row t) l.i l.rank.0 a.out.now l.out l.inv.1
-      (b t).pre.3 (omega arith) set c.skip-rows.ensures.0
+      filling_room (s (b t)) (runs t) (length_of a.s) a.at (long (b t)) (row t) l.i l.rank.0 a.out.now l.out l.invariant.1
+      (b t).requires.3 (omega arith) set c.skip_rows-skipped.ensures.0
 
   -- the walk has come to the run
-  came : Came (self (b t)) c.skip-rows.result.next (first t)
+  came : Came (self (b t)) c.skip_rows-skipped.result.next (first t)
   came =
       let place : row t + (first t - row t) ≡ first t = omega (arith, (next t).from) in
-      subst (λ (x : ℕ). Came (self (b t)) c.skip-rows.result.next x) place c.skip-rows.ensures.1
+      subst (λ (x : ℕ). Came (self (b t)) c.skip_rows-skipped.result.next x) place c.skip_rows-skipped.ensures.1
 
 -- ---- the answers
 
-loop-holds : tie.Need-loop-init invariant-loop decreases-loop
+loop-holds : tie.Need-loop-i-init invariant-loop decreases-loop
 loop-holds c =
     let e = entry c in
     let a = e.args in
     let out = a.out.now in
-    let known = below_all (2 ^ 64) out (λ i. (c.slice-known.given i).fits) in
-    (came_first (self e) e.pre.0, filling_none (s e) a.runs.now (length_of a.s) a.at out e.pre.2 known)
+    let known = below_all (2 ^ 64) out (λ i. (c.slice_known-1.given i).fits) in
+    (came_first (self e) e.requires.0, filling_none (s e) a.runs.now (length_of a.s) a.at out e.requires.2 known)
 
-mul-first : tie.Need-overflow-mul-first invariant-loop decreases-loop
+mul-first : tie.Need-offset_bounds-runs-i invariant-loop decreases-loop
 mul-first c = omega arith
 
-shared-slice-read-first : tie.Need-shared-slice-read-first invariant-loop decreases-loop
+shared-slice-read-first : tie.Need-bounds-runs-i invariant-loop decreases-loop
 shared-slice-read-first c = omega arith
 
-cast-first : tie.Need-overflow-cast-first invariant-loop decreases-loop
-cast-first c = omega (arith, c.shared-slice-known4.given (head c.before).loop.i)
+cast-first : tie.Need-overflow_cast-first invariant-loop decreases-loop
+cast-first c = omega (arith, c.shared_slice_known-in-loop-i-1.given (head c.before).loop-i.i)
 
-add-past : tie.Need-overflow-add-past invariant-loop decreases-loop
+add-past : tie.Need-overflow_add-past invariant-loop decreases-loop
 add-past c = omega (arith, (next c.before).pair)
 
-mul-past : tie.Need-overflow-mul-past invariant-loop decreases-loop
+mul-past : tie.Need-offset_bounds-runs-i-in-loop-i invariant-loop decreases-loop
 mul-past c = omega (arith, (next c.before).pair)
 
-shared-slice-read-past : tie.Need-shared-slice-read-past invariant-loop decreases-loop
-shared-slice-read-past c = (next (both c)).pair
+shared-slice-read-past : tie.Need-bounds-runs-i-in-loop-i invariant-loop decreases-loop
+shared-slice-read-past c = (next c.before.before).pair
 
-cast-past : tie.Need-overflow-cast-past invariant-loop decreases-loop
-cast-past c = omega (arith, c.shared-slice-known5.given ((head (both c)).loop.i + 1))
+cast-past : tie.Need-overflow_cast-past invariant-loop decreases-loop
+cast-past c = omega (arith, c.shared_slice_known-in-loop-i-2-1.given ((head (both c)).loop-i.i + 1))
 
-sub-gap : tie.Need-overflow-sub-gap invariant-loop decreases-loop
+sub-gap : tie.Need-overflow_sub-gap invariant-loop decreases-loop
 sub-gap c = (next (both c.before)).from
 
-sub_held : tie.Need-overflow-sub-held invariant-loop decreases-loop
+sub_held : tie.Need-overflow_sub-held invariant-loop decreases-loop
 sub_held c = omega (arith, (next (both c.before)).some)
 
-skip-rows-requires : tie.Need-skip-rows-requires invariant-loop decreases-loop
+skip-rows-requires : tie.Need-skip_rows-skipped-requires invariant-loop decreases-loop
 skip-rows-requires c κs =
     let t = both c.before in
     let r = next t in
-    ((b t).pre.0, omega (arith, r.from, r.some, r.within), (head t).loop.inv.0)
+    ((b t).requires.0, omega (arith, r.from, r.some, r.within), (head t).loop-i.invariant.0)
 
-lay-ranks-requires : tie.Need-lay-ranks-requires invariant-loop decreases-loop
+lay-ranks-requires : tie.Need-lay_ranks-rank-requires invariant-loop decreases-loop
 lay-ranks-requires c κs =
     let m = c.before in
-    let p = (b (t m)).pre.4 in
-    let l = (head (t m)).loop in
+    let p = (b (t m)).requires.4 in
+    let l = (head (t m)).loop-i in
     let few = room m in
-    (omega (arith, few, p.0, counted (b (t m)), l.inv.1.recovering.progress.long), omega (arith, few, p.1, counted (b (t m))))
+    (omega (arith, few, p.0, counted (b (t m)), l.invariant.1.recovering.progress.long), omega (arith, few, p.1, counted (b (t m))))
 
-skip-set-requires : tie.Need-skip-set-requires invariant-loop decreases-loop
+skip-set-requires : tie.Need-skip_set-own-requires invariant-loop decreases-loop
 skip-set-requires c κs = λ e.
     (let m = gone (written c) in
     let o = self (b (t m)) in
-    let a = (b (t m)).pre.0 in
-    let within = (list_came o m.skip-rows.result.next (first (t m)) e (came m)).within in
+    let a = (b (t m)).requires.0 in
+    let within = (list_came o m.skip_rows-skipped.result.next (first (t m)) e (came m)).within in
     omega (arith, within, list_count o e, accepted_few o a, accepted_limit o a, (next (t m)).within))
 
-add-i : tie.Need-overflow-add-i invariant-loop decreases-loop
+add-i : tie.Need-overflow_add-i invariant-loop decreases-loop
 add-i c = omega (arith, (next (t (gone (back c)))).pair)
 
-loop-less : tie.Need-loop-smaller invariant-loop decreases-loop
+loop-less : tie.Need-loop-i-smaller invariant-loop decreases-loop
 loop-less c = omega (arith, (next (t (gone (back c)))).pair)
 
-loop-again : tie.Need-loop-preserved invariant-loop decreases-loop
+loop-again : tie.Need-loop-i-preserved invariant-loop decreases-loop
 loop-again c =
     let m = gone (back c) in
     let h = t m in
-    let l = (head h).loop in
+    let l = (head h).loop-i in
     let a = (b h).args in
     let r = next h in
     let o = self (b h) in
     let held : ℕ = past h - first h in
     let place : first h + held ≡ past h = omega (arith, r.some) in
-    let on = came_behind o (first h) held m.skip-rows.result.next (omega (arith, r.some, r.within)) (b h).pre.0 (full h) (came m) in
-    let e = (back c).lay-ranks.ensures in (
-      subst (λ (x : ℕ). Came o c.skip-set.result x) place (subst (λ (j : ℕ). Came o j (first h + held)) (sym c.skip-set.ensures) on),
-      filling_run (s (b h)) (runs h) (length_of a.s) a.at (long (b h)) (row h) l.i l.rank.0 a.out.now l.out l.inv.1
-          (b h).pre.3 (omega arith) (set m) _ _ m.skip-rows.ensures.0 e.0 e.1,
+    let on = came_behind o (first h) held m.skip_rows-skipped.result.next (omega (arith, r.some, r.within)) (b h).requires.0 (full h) (came m) in
+    let e = (back c).lay_ranks-rank.ensures in (
+      subst (λ (x : ℕ). Came o c.skip_set-own.result x) place (subst (λ (j : ℕ). Came o j (first h + held)) (sym c.skip_set-own.ensures) on),
+      filling_run (s (b h)) (runs h) (length_of a.s) a.at (long (b h)) (row h) l.i l.rank.0 a.out.now l.out l.invariant.1
+          (b h).requires.3 (omega arith) (set m) _ _ m.skip_rows-skipped.ensures.0 e.0 e.1,
     )
 
-sub-left : tie.Need-overflow-sub-left invariant-loop decreases-loop
+sub-left : tie.Need-overflow_sub-left invariant-loop decreases-loop
 sub-left c =
     let h = last c in
     let a = (start h).args in
-    let l = h.loop in
+    let l = h.loop-i in
     omega (
       arith,
-      filling_few (s (start h)) a.runs.now (length_of a.s) a.at (long (start h)) l.row.0 l.i l.rank.0 a.out.now l.out l.inv.1,
+      filling_few (s (start h)) a.runs.now (length_of a.s) a.at (long (start h)) l.row.0 l.i l.rank.0 a.out.now l.out l.invariant.1,
       counted (start h),
-      (start h).pre.1,
+      (start h).requires.1,
     )
 
-clear-ranks-requires : tie.Need-clear-ranks-requires invariant-loop decreases-loop
+clear-ranks-requires : tie.Need-clear_ranks-requires invariant-loop decreases-loop
 clear-ranks-requires c κs =
     let t = c.before in
     let h = last t in
-    let p = (start h).pre in
+    let p = (start h).requires in
     let few = sub-left t in
-    (omega (arith, few, p.1, p.4.0, h.loop.inv.1.recovering.progress.long), omega (arith, few, p.1, p.4.1))
+    (omega (arith, few, p.1, p.4.0, h.loop-i.invariant.1.recovering.progress.long), omega (arith, few, p.1, p.4.1))
 
-same_length : tie.Need-same-length invariant-loop decreases-loop
+same_length : tie.Need-shape_of-out invariant-loop decreases-loop
 same_length c = search rules
 
 returns : tie.Need-returns invariant-loop decreases-loop
@@ -239,9 +239,9 @@ returns c =
     let k = cleared c in
     let h = last k.before.before in
     let a = (start h).args in
-    let l = h.loop in
-    filling_end (s (start h)) a.runs.now (length_of a.s) a.at (long (start h)) l.row.0 l.i l.rank.0 a.out.now l.out l.inv.1
-    a.total _ (omega arith) ((start h).pre.1 ∙ sym (counted (start h))) k.clear-ranks.ensures
+    let l = h.loop-i in
+    filling_end (s (start h)) a.runs.now (length_of a.s) a.at (long (start h)) l.row.0 l.i l.rank.0 a.out.now l.out l.invariant.1
+    a.total _ (omega arith) ((start h).requires.1 ∙ sym (counted (start h))) k.clear_ranks.ensures
 
 pub recover_runs_spec : {M : Type 1} → statement M
 recover_runs_spec =

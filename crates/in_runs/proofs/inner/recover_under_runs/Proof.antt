@@ -16,30 +16,30 @@ use Rattle.in_runs.proofs.UnderRunLaws.{Taking, taking_none, taking_next, taking
 use Rattle.in_runs.proofs.inner.recover_under_runs.Statement.{statement}
 use Rattle.in_runs.proofs.inner.recover_under_runs.Tie as tie
 
-abbrev invariant-loop : tie.invariant-loop
+abbrev invariant-loop : tie.invariant-loop-i
 invariant-loop runs kept from len at out₀ rank₀ i₀ out rank i = Taking runs (view from len kept) len at i rank out₀ out
 
-abbrev decreases-loop : tie.decreases-loop
+abbrev decreases-loop : tie.decreases-loop-i
 decreases-loop runs kept from len at out₀ rank₀ i₀ out rank i = length runs - i
 
 -- ---- the places, each from the one after it
 
-abbrev entry : tie.After-slice-known invariant-loop decreases-loop → tie.Start invariant-loop decreases-loop
+abbrev entry : tie.After-slice_known-1 invariant-loop decreases-loop → tie.Start invariant-loop decreases-loop
 entry c = c.before.before.before
 
-abbrev start : tie.At-loop invariant-loop decreases-loop → tie.Start invariant-loop decreases-loop
+abbrev start : tie.At-loop-i invariant-loop decreases-loop → tie.Start invariant-loop decreases-loop
 start c = entry c.before
 
-abbrev head : tie.In-loop invariant-loop decreases-loop → tie.At-loop invariant-loop decreases-loop
+abbrev head : tie.In-loop-i invariant-loop decreases-loop → tie.At-loop-i invariant-loop decreases-loop
 head c = c.before
 
-abbrev both : tie.After-shared-slice-known4 invariant-loop decreases-loop → tie.In-loop invariant-loop decreases-loop
+abbrev both : tie.After-shared_slice_known-in-loop-i-2-1 invariant-loop decreases-loop → tie.In-loop-i invariant-loop decreases-loop
 both c = c.before.before
 
-abbrev back : tie.After-slice-known2 invariant-loop decreases-loop → tie.After-copy-rows invariant-loop decreases-loop
+abbrev back : tie.After-slice_known-in-loop-i-1 invariant-loop decreases-loop → tie.After-copy_rows invariant-loop decreases-loop
 back c = c.before.before
 
-abbrev around : tie.After-slice-known2 invariant-loop decreases-loop → tie.In-loop invariant-loop decreases-loop
+abbrev around : tie.After-slice_known-in-loop-i-1 invariant-loop decreases-loop → tie.In-loop-i invariant-loop decreases-loop
 around c = both (back c).before.before
 
 -- ---- the second mask
@@ -49,11 +49,11 @@ module _ (s : tie.Start invariant-loop decreases-loop) where
   k = view s.args.from s.args.len s.args.kept.now
 
   long : length k ≡ s.args.len
-  long = view_length s.args.from s.args.len s.args.kept.now s.pre.1.2
+  long = view_length s.args.from s.args.len s.args.kept.now s.requires.1.2
 
 -- ---- a turn's run
 
-module _ (c : tie.In-loop invariant-loop decreases-loop) where
+module _ (c : tie.In-loop-i invariant-loop decreases-loop) where
   abbrev s : tie.Start invariant-loop decreases-loop
   s = start (head c)
 
@@ -61,94 +61,94 @@ module _ (c : tie.In-loop invariant-loop decreases-loop) where
   runs = s.args.runs.now
 
   abbrev first : ℕ
-  first = get_or runs (head c).loop.i 0
+  first = get_or runs (head c).loop-i.i 0
 
   abbrev held : ℕ
-  held = get_or runs ((head c).loop.i + 1) 0 - first
+  held = get_or runs ((head c).loop-i.i + 1) 0 - first
 
-  next : NextRun (head c).loop.invariant.row s.args.len (head c).loop.i runs
+  next : NextRun (head c).loop-i.invariant.row s.args.len (head c).loop-i.i runs
   next =
-      let l = (head c).loop in
+      let l = (head c).loop-i in
       let a = s.args in
-      taking_next runs (k s) a.len a.at (long s) l.i l.rank a.out.now l.out l.inv (omega arith)
+      taking_next runs (k s) a.len a.at (long s) l.i l.rank a.out.now l.out l.invariant (omega arith)
 
-  room : (head c).loop.rank + held ≤ run_lengths runs
+  room : (head c).loop-i.rank + held ≤ run_lengths runs
   room =
-      let l = (head c).loop in
+      let l = (head c).loop-i in
       let a = s.args in
-      taking_room runs (k s) a.len a.at (long s) l.i l.rank a.out.now l.out l.inv (omega arith) s.pre.0
+      taking_room runs (k s) a.len a.at (long s) l.i l.rank a.out.now l.out l.invariant (omega arith) s.requires.0
 
 -- ---- the answers
 
-loop-holds : tie.Need-loop-init invariant-loop decreases-loop
+loop-holds : tie.Need-loop-i-init invariant-loop decreases-loop
 loop-holds c =
     let s = entry c in
     let a = s.args in
     let out = a.out.now in
-    taking_none a.runs.now (k s) a.len a.at out s.pre.0 (below_all (2 ^ 64) out (λ i. (c.slice-known.given i).fits))
+    taking_none a.runs.now (k s) a.len a.at out s.requires.0 (below_all (2 ^ 64) out (λ i. (c.slice_known-1.given i).fits))
 
-mul-first : tie.Need-overflow-mul-first invariant-loop decreases-loop
+mul-first : tie.Need-offset_bounds-runs-i invariant-loop decreases-loop
 mul-first c = omega arith
 
-shared-slice-read-first : tie.Need-shared-slice-read-first invariant-loop decreases-loop
+shared-slice-read-first : tie.Need-bounds-runs-i invariant-loop decreases-loop
 shared-slice-read-first c = omega arith
 
-cast-first : tie.Need-overflow-cast-first invariant-loop decreases-loop
-cast-first c = omega (arith, c.shared-slice-known3.given (head c.before).loop.i)
+cast-first : tie.Need-overflow_cast-first invariant-loop decreases-loop
+cast-first c = omega (arith, c.shared_slice_known-in-loop-i-1.given (head c.before).loop-i.i)
 
-add-past : tie.Need-overflow-add-past invariant-loop decreases-loop
+add-past : tie.Need-overflow_add-past invariant-loop decreases-loop
 add-past c = omega (arith, (next c.before).pair)
 
-mul-past : tie.Need-overflow-mul-past invariant-loop decreases-loop
+mul-past : tie.Need-offset_bounds-runs-i-in-loop-i invariant-loop decreases-loop
 mul-past c = omega (arith, (next c.before).pair)
 
-shared-slice-read-past : tie.Need-shared-slice-read-past invariant-loop decreases-loop
-shared-slice-read-past c = (next (both c)).pair
+shared-slice-read-past : tie.Need-bounds-runs-i-in-loop-i invariant-loop decreases-loop
+shared-slice-read-past c = (next c.before.before).pair
 
-cast-past : tie.Need-overflow-cast-past invariant-loop decreases-loop
-cast-past c = omega (arith, c.shared-slice-known4.given ((head (both c)).loop.i + 1))
+cast-past : tie.Need-overflow_cast-past invariant-loop decreases-loop
+cast-past c = omega (arith, c.shared_slice_known-in-loop-i-2-1.given ((head (both c)).loop-i.i + 1))
 
-sub_held : tie.Need-overflow-sub-held invariant-loop decreases-loop
+sub_held : tie.Need-overflow_sub-held invariant-loop decreases-loop
 sub_held c = omega (arith, (next (both c)).some)
 
-copy-rows-requires : tie.Need-copy-rows-requires invariant-loop decreases-loop
+copy-rows-requires : tie.Need-copy_rows-requires invariant-loop decreases-loop
 copy-rows-requires c κs =
     let t = both c.before in
     let r = next t in
-    let p = (s t).pre in (
+    let p = (s t).requires in (
       p.1.1,
       omega (arith, r.some, r.within, p.1.0),
       omega (arith, r.some, r.within, p.1.2),
-      (omega (arith, room t, p.2.0, (head t).loop.inv.recovering.progress.long), omega (arith, room t, p.2.1)),
+      (omega (arith, room t, p.2.0, (head t).loop-i.invariant.recovering.progress.long), omega (arith, room t, p.2.1)),
     )
 
-add-rank : tie.Need-overflow-add-rank invariant-loop decreases-loop
-add-rank c = omega (arith, room (around c), (s (around c)).pre.2.1)
+add-rank : tie.Need-overflow_add-rank invariant-loop decreases-loop
+add-rank c = omega (arith, room (around c), (s (around c)).requires.2.1)
 
-add-i : tie.Need-overflow-add-i invariant-loop decreases-loop
+add-i : tie.Need-overflow_add-i invariant-loop decreases-loop
 add-i c = omega (arith, (next (around c)).pair)
 
-loop-less : tie.Need-loop-smaller invariant-loop decreases-loop
+loop-less : tie.Need-loop-i-smaller invariant-loop decreases-loop
 loop-less c = omega (arith, (next (around c)).pair)
 
-loop-again : tie.Need-loop-preserved invariant-loop decreases-loop
+loop-again : tie.Need-loop-i-preserved invariant-loop decreases-loop
 loop-again c =
     let t = around c in
-    let l = (head t).loop in
+    let l = (head t).loop-i in
     let a = (s t).args in
     let r = next t in
     let under = read_under a.from a.len (first t) (held t) a.kept.now (omega (arith, r.some, r.within)) in
-    taking_run (runs t) (k (s t)) a.len a.at (long (s t)) l.i l.rank a.out.now l.out l.inv (omega arith) _
-    ((back c).copy-rows.ensures ∙ ap (λ (b : List Bool). laid (a.at + l.rank) b l.out) under)
+    taking_run (runs t) (k (s t)) a.len a.at (long (s t)) l.i l.rank a.out.now l.out l.invariant (omega arith) _
+    ((back c).copy_rows.ensures ∙ ap (λ (b : List Bool). laid (a.at + l.rank) b l.out) under)
 
-same_length : tie.Need-same-length invariant-loop decreases-loop
-same_length c = c.before.loop.invariant.recovering.progress.long
+same_length : tie.Need-shape_of-out invariant-loop decreases-loop
+same_length c = c.before.loop-i.invariant.recovering.progress.long
 
 returns : tie.Need-returns invariant-loop decreases-loop
 returns c =
     let h = c.before in
     let a = (start h).args in
-    let l = h.loop in
+    let l = h.loop-i in
     taking_end a.runs.now (k (start h)) a.len a.at (long (start h)) l.i l.rank a.out.now l.out l.invariant (omega arith)
 
 pub recover_under_runs_spec : {M : Type 1} → statement M

@@ -19,13 +19,13 @@ use Rattle.in_runs.proofs.skips.skip_rows.Tie as tie
 
 -- ---- the places, each from the one after it
 
-abbrev start : tie.After-has-row-numbers → tie.Start
+abbrev start : tie.After-has_row_numbers → tie.Start
 start c = c.before.before.before
 
-abbrev other : tie.After-has-runs → tie.After-has-row-numbers
+abbrev other : tie.After-has_runs → tie.After-has_row_numbers
 other c = c.before.before
 
-abbrev asked : tie.After-struct-known → tie.After-has-row-numbers
+abbrev asked : tie.After-struct_known-1 → tie.After-has_row_numbers
 asked c = c.before.before
 
 -- ---- the operand
@@ -37,37 +37,37 @@ module _ (c : tie.Start) where
   few : c.args.row.0 + c.args.n ≤ 1048576
   few = omega (arith, accepted_limit o c.requires.0, c.requires.1)
 
-listed : (c : tie.Then1) → has_row_numbers (start c.before).args.form ≡ true
-listed c = sym c.before.has-row-numbers.ensures ∙ c.if1.true
+listed : (c : tie.Then-has_row_numbers) → has_row_numbers (start c.before).args.form ≡ true
+listed c = sym c.before.has_row_numbers.ensures ∙ c.if-has_row_numbers.true
 
-unlisted : (c : tie.Else1) → has_row_numbers (start c.before).args.form ≡ false
-unlisted c = sym c.before.has-row-numbers.ensures ∙ c.if1.false
+unlisted : (c : tie.Else-has_row_numbers) → has_row_numbers (start c.before).args.form ≡ false
+unlisted c = sym c.before.has_row_numbers.ensures ∙ c.if-has_row_numbers.false
 
-in_runs_lem : (c : tie.Then2) → has_runs (start (other c.before)).args.form ≡ true
-in_runs_lem c = sym c.before.has-runs.ensures ∙ c.if2.true
+in_runs_lem : (c : tie.Then-has_runs) → has_runs (start (other c.before)).args.form ≡ true
+in_runs_lem c = sym c.before.has_runs.ensures ∙ c.if-has_runs.true
 
-no_runs_lem : (c : tie.Else2) → has_runs (start (other c.before)).args.form ≡ false
-no_runs_lem c = sym c.before.has-runs.ensures ∙ c.if2.false
+no_runs_lem : (c : tie.Else-has_runs) → has_runs (start (other c.before)).args.form ≡ false
+no_runs_lem c = sym c.before.has_runs.ensures ∙ c.if-has_runs.false
 
-read : (c : tie.Else2) → Flat (o (start (other c.before)))
+read : (c : tie.Else-has_runs) → Flat (o (start (other c.before)))
 read c =
     let s = start (other c.before) in
-    accepted_flat (o s) (unlisted c.before.before) (no_runs_lem c) s.pre.0
+    accepted_flat (o s) (unlisted c.before.before) (no_runs_lem c) s.requires.0
 
-parted : (c : tie.Then1) → let a = (start c.before).args in Parted a.row.0 a.next a.numbers.now
+parted : (c : tie.Then-has_row_numbers) → let a = (start c.before).args in Parted a.row.0 a.next a.numbers.now
 parted c =
     let s = start c.before in
-    list_came (o s) s.args.next s.args.row.0 (listed c) s.pre.2
+    list_came (o s) s.args.next s.args.row.0 (listed c) s.requires.2
 
 -- ---- the answers
 
-has-row-numbers-requires : tie.Need-has-row-numbers-requires
+has-row-numbers-requires : tie.Need-has_row_numbers-requires
 has-row-numbers-requires c κs = search rules
 
-add-end : tie.Need-overflow-add-end
+add-end : tie.Need-overflow_add-end
 add-end c = omega (arith, few (start (asked c)))
 
-skip-entries-requires : tie.Need-skip-entries-requires
+skip-entries-requires : tie.Need-skip_entries-past-requires
 skip-entries-requires c κs =
     let a = (start (asked c)).args in
     let b = a.row.0 in
@@ -75,44 +75,44 @@ skip-entries-requires c κs =
     let es = a.numbers.now in
     (p.within, below_more b (b + a.n) (take a.next es) (omega arith) p.before, climbs_from 0 b (drop a.next es) (omega arith) p.after)
 
-sub-set : tie.Need-overflow-sub-set
-sub-set c = c.skip-entries.ensures.0
+sub-set : tie.Need-overflow_sub-set
+sub-set c = c.skip_entries-past.ensures.0
 
-returns : tie.Need-returns
+returns : tie.Need-returns-then-has_row_numbers
 returns c =
     let t = c.before.before in
     let s = start t.before in
     let a = s.args in
-    list_skipped (o s) a.row.0 a.n s.pre.1 a.next _ (listed t) s.pre.0 s.pre.2 c.skip-entries.ensures.1
+    list_skipped (o s) a.row.0 a.n s.requires.1 a.next _ (listed t) s.requires.0 s.requires.2 c.skip_entries-past.ensures.1
 
-has-runs-requires : tie.Need-has-runs-requires
+has-runs-requires : tie.Need-has_runs-requires
 has-runs-requires c κs = search rules
 
-skip-runs-requires : tie.Need-skip-runs-requires
+skip-runs-requires : tie.Need-skip_runs-requires
 skip-runs-requires c κs =
     let s = start (other c.before) in
     let a = s.args in
-    (runs_came (o s) a.next a.row.0 (in_runs_lem c) s.pre.2, few s)
+    (runs_came (o s) a.next a.row.0 (in_runs_lem c) s.requires.2, few s)
 
-returns-2 : tie.Need-returns-2
+returns-2 : tie.Need-returns-then-has_runs
 returns-2 c =
     let t = c.before in
     let s = start (other t.before) in
     let a = s.args in
-    let e = c.Skip-runs.ensures in
-    runs_skipped (o s) a.row.0 a.n s.pre.1 _ _ (in_runs_lem t) e.0 e.1
+    let e = c.skip_runs.ensures in
+    runs_skipped (o s) a.row.0 a.n s.requires.1 _ _ (in_runs_lem t) e.0 e.1
 
-count-rows-requires : tie.Need-count-rows-requires
+count-rows-requires : tie.Need-count_rows-set-requires
 count-rows-requires c κs =
     let s = start (other c.before) in
-    (read c, s.pre.1)
+    (read c, s.requires.1)
 
-returns-3 : tie.Need-returns-3
+returns-3 : tie.Need-returns
 returns-3 c =
     let t = c.before in
     let s = start (other t.before) in
     let a = s.args in
-    flat_skipped (o s) a.row.0 a.n s.pre.1 _ _ (unlisted t.before.before) (no_runs_lem t) (read t) c.count-rows.ensures
+    flat_skipped (o s) a.row.0 a.n s.requires.1 _ _ (unlisted t.before.before) (no_runs_lem t) (read t) c.count_rows-set.ensures
 
 pub skip_rows_spec : {M : Type 1} → statement M
 skip_rows_spec =

@@ -17,16 +17,16 @@ use Rattle.recoverer.proofs.step.step.Tie as tie
 
 -- ---- the places, each from the one after it
 
-abbrev entry : tie.After-shared-slice-known3 → tie.Start
+abbrev entry : tie.After-shared_slice_known-3-1 → tie.Start
 entry c = c.before.before.before
 
-abbrev start : tie.After-length-of → tie.Start
+abbrev start : tie.After-length_of → tie.Start
 start c = entry c.before.before.before
 
-abbrev measured : tie.After-lay-recovery-arg → tie.After-length-of
+abbrev measured : tie.After-lay_recovery-arg-1 → tie.After-length_of
 measured c = c.before.before
 
-abbrev laid_there : tie.After-slice-known2 → tie.After-lay-recovery
+abbrev laid_there : tie.After-slice_known-2-1 → tie.After-lay_recovery
 laid_there c = c.before.before
 
 -- ---- the pieces that are fed, and what acceptance gives
@@ -41,56 +41,56 @@ module _ (s : tie.Start) where
       masks_of (lent a.s.form a.swords.now a.srows.now) (lent a.k.form a.kwords.now a.krows.now)
 
   takes : Accepts state masks (length s.args.out.now)
-  takes = (feed_fine state masks (length s.args.out.now)).0 s.pre.0
+  takes = (feed_fine state masks (length s.args.out.now)).0 s.requires.0
 
 -- ---- the numbers that are counted, in the words of the state after the masks
 
-module _ (c : tie.After-length-of) where
+module _ (c : tie.After-length_of) where
   abbrev s : tie.Start
   s = start c
 
-  rows_counted : c.length-of.result ≡ length (rows_of (masks s).self)
-  rows_counted = c.length-of.ensures ∙ sym (self_length (masks s) (takes s).within)
+  rows_counted : c.length_of.result ≡ length (rows_of (masks s).self)
+  rows_counted = c.length_of.ensures ∙ sym (self_length (masks s) (takes s).within)
 
   set_counted : s.args.s.count ≡ count (rows_of (masks s).self)
-  set_counted = s.pre.1 ∙ sym (self_count (masks s) (takes s).within)
+  set_counted = s.requires.1 ∙ sym (self_count (masks s) (takes s).within)
 
   kept_counted : s.args.k.count ≡ count (ranks (masks s))
-  kept_counted = s.pre.2 ∙ sym (ranks_count (masks s) (takes s).within)
+  kept_counted = s.requires.2 ∙ sym (ranks_count (masks s) (takes s).within)
 
   ranks_long : s.args.s.count ≡ length (ranks (masks s))
-  ranks_long = s.pre.1 ∙ sym (ranks_length (masks s) (takes s).within)
+  ranks_long = s.requires.1 ∙ sym (ranks_length (masks s) (takes s).within)
 
-moved_to : (c : tie.After-moved) → c.moved.result ≡ moved (state (s c.before)) (masks (s c.before))
+moved_to : (c : tie.After-moved-next) → c.moved-next.result ≡ moved (state (s c.before)) (masks (s c.before))
 moved_to c =
     let n = c.before in
     let st = state (s n) in
-    c.moved.ensures ∙ (λ i. state_of (st.done.0 + rows_counted n i) (st.ranks.0 + set_counted n i) (st.kept + kept_counted n i))
+    c.moved-next.ensures ∙ (λ i. state_of (st.done.0 + rows_counted n i) (st.ranks.0 + set_counted n i) (st.kept + kept_counted n i))
 
 -- ---- the answers
 
-length-of-requires : tie.Need-length-of-requires
+length-of-requires : tie.Need-length_of-requires
 length-of-requires c κs = search rules
 
-moved-requires : tie.Need-moved-requires
+moved-requires : tie.Need-moved-next-requires
 moved-requires c κs =
     let w = moved_bounded (state (s c)) (masks (s c)) (length (s c).args.out.now) (takes (s c)) in
     (omega (arith, rows_counted c, w.2), omega (arith, set_counted c, w.1, w.2), omega (arith, kept_counted c, w.0, w.1, w.2))
 
-lay-recovery-requires : tie.Need-lay-recovery-requires
+lay-recovery-requires : tie.Need-lay_recovery-requires
 lay-recovery-requires c κs =
     let b = s (measured c) in
     let t = takes b in
     let few = accepted_few (masks b).self t.within.self in
-    (t.within, b.pre.1, (omega (arith, t.space), omega (arith, few, t.bounded)))
+    (t.within, b.requires.1, (omega (arith, t.space), omega (arith, few, t.bounded)))
 
-accepted-requires : tie.Need-accepted-requires
+accepted-requires : tie.Need-accepted-answer-requires
 accepted-requires c κs =
     let b = s (measured (laid_there c).before) in
     let w = (takes b).within in
-    (omega (arith, b.pre.2, accepted_few (masks b).kept w.kept), omega (arith, b.pre.1, accepted_few (masks b).self w.self))
+    (omega (arith, b.requires.2, accepted_few (masks b).kept w.kept), omega (arith, b.requires.1, accepted_few (masks b).self w.self))
 
-same_length : tie.Need-same-length
+same_length : tie.Need-shape_of-out
 same_length c = search rules
 
 returns : tie.Need-returns
@@ -98,8 +98,8 @@ returns c =
     let l = laid_there c.before in
     let k = l.before.before in
     let n = k.before in
-    let answer = c.accepted.ensures ∙ ap₂ (λ (x y : ℕ). accepted x 0 y) (kept_counted n) (ranks_long n) in
-    ((λ i. record { answer = answer i; outside = record { 0 = 0 }; state = moved_to k i }), l.lay-recovery.ensures)
+    let answer = c.accepted-answer.ensures ∙ ap₂ (λ (x y : ℕ). accepted x 0 y) (kept_counted n) (ranks_long n) in
+    ((λ i. record { answer = answer i; outside = record { 0 = 0 }; state = moved_to k i }), l.lay_recovery.ensures)
 
 pub step_spec : {M : Type 1} → statement M
 step_spec =

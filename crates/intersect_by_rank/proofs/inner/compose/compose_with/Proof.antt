@@ -22,28 +22,28 @@ use Rattle.intersect_by_rank.proofs.inner.compose.compose_with.Tie as tie
 
 -- ---- the places, each from the one after it: the verdict, and of it a refusal or none
 
-abbrev words-lent : tie.After-slice-known → tie.After-shared-slice-known2
+abbrev words-lent : tie.After-slice_known-1 → tie.After-shared_slice_known-2-1
 words-lent c = c.before.before.before
 
-abbrev entry : tie.After-slice-known → tie.Start
+abbrev entry : tie.After-slice_known-1 → tie.Start
 entry c = (words-lent c).before.before
 
-abbrev start : tie.After-judge → tie.Start
+abbrev start : tie.After-judge-judged → tie.Start
 start c = entry c.before
 
-abbrev barred : tie.After-verdict → tie.After-judge
-barred c = c.before.before
+abbrev barred : tie.In-Refused → tie.After-judge-judged
+barred c = c.before
 
-abbrev passed : tie.After-enum-told → tie.After-judge
-passed c = c.before.before
+abbrev passed : tie.In-Fine → tie.After-judge-judged
+passed c = c.before
 
-abbrev told : tie.After-refused → tie.After-verdict
-told c = c.before.before
+abbrev told : tie.After-refused → tie.In-Refused
+told c = c.before
 
-abbrev asked : tie.After-compose-accepted → tie.After-enum-told
+abbrev asked : tie.After-compose_accepted → tie.In-Fine
 asked c = c.before.before
 
-abbrev gave : tie.After-slice-known2 → tie.After-compose-accepted
+abbrev gave : tie.After-slice_known-in-Fine-1 → tie.After-compose_accepted
 gave c = c.before.before
 
 -- ---- what is asked, and what the verdict says of it
@@ -71,55 +71,55 @@ module _ (c : tie.Start) where
   abbrev to : List ℕ
   to = written (length_of c.args.s) rows out
 
-fine : (c : tie.After-enum-told) → verdict (start (passed c)) ≡ Fine
-fine c = sym (ap (λ (j : Judged). j.verdict) (passed c).judge.ensures) ∙ c.enum_told.given.1
+fine : (c : tie.In-Fine) → verdict (start (passed c)) ≡ Fine
+fine c = sym (ap (λ (j : Judged). j.verdict) (passed c).judge-judged.ensures) ∙ c.in-Fine.is
 
-refuses : (c : tie.After-verdict) → verdict (start (barred c)) ≡ Refused c.verdict.given.0.0
-refuses c = sym (ap (λ (j : Judged). j.verdict) (barred c).judge.ensures) ∙ c.verdict.given.1
+refuses : (c : tie.In-Refused) → verdict (start (barred c)) ≡ Refused c.in-Refused.refusal
+refuses c = sym (ap (λ (j : Judged). j.verdict) (barred c).judge-judged.ensures) ∙ c.in-Refused.is
 
-module _ (c : tie.After-compose-accepted) where
+module _ (c : tie.After-compose_accepted) where
   abbrev here : tie.Start
   here = start (passed (asked c))
 
-  answer : c.compose-accepted.result ≡ answered Fine (rows here) (route here)
-  answer = c.compose-accepted.ensures.0
+  answer : c.compose_accepted.result ≡ answered Fine (rows here) (route here)
+  answer = c.compose_accepted.ensures.0
 
-  left : c.compose-accepted.new.1.1.1.1.1.1.1.0 ≡ to here
-  left = c.compose-accepted.ensures.1
+  left : c.compose_accepted.new.out ≡ to here
+  left = c.compose_accepted.ensures.1
 
 -- ---- the answers
 
-judge-requires : tie.Need-judge-requires
+judge-requires : tie.Need-judge-judged-requires
 judge-requires c κs = search rules
 
-enum-known-verdict : tie.Need-enum-known-verdict
+enum-known-verdict : tie.Need-enum_known-verdict
 enum-known-verdict c = search rules
 
 refused-requires : tie.Need-refused-requires
 refused-requires c κs = search rules
 
-enum_told : tie.Need-enum-told
+enum_told : tie.Need-enum_told-1
 enum_told c = search rules
 
-compose-accepted-requires : tie.Need-compose-accepted-requires
+compose-accepted-requires : tie.Need-compose_accepted-requires
 compose-accepted-requires c κs =
     let j = passed c.before in
     let s = start j in
     let well = (compose_fine (self s) (rank s) (length (out s))).0 (fine c.before) in
     let own = all_counts (self s) (rank s) (length (out s)) (fine c.before) in
-    (well.0, ap (λ (x : Judged). x.rows) j.judge.ensures ∙ own.0, ap (λ (x : Judged). x.ranks) j.judge.ensures ∙ own.1, well.1)
+    (well.0, ap (λ (x : Judged). x.rows) j.judge-judged.ensures ∙ own.0, ap (λ (x : Judged). x.ranks) j.judge-judged.ensures ∙ own.1, well.1)
 
-returns : tie.Need-returns
+returns : tie.Need-returns-in-Refused
 unfolding composed composed_out
 returns c =
     let s = start (barred (told c)) in
     let p = by_refusal (verdict s) (rows s) (route s) (to s) (out s) _ (refuses (told c)) in
     (c.refused.ensures ∙ p.0, p.1)
 
-same_length : tie.Need-same-length
+same_length : tie.Need-shape_of-out
 same_length c = search rules
 
-returns-2 : tie.Need-returns-2
+returns-2 : tie.Need-returns-in-Fine
 unfolding composed composed_out
 returns-2 c =
     let g = gave c in

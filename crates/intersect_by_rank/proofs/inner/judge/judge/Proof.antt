@@ -17,19 +17,19 @@ use Rattle.intersect_by_rank.proofs.inner.judge.judge.Tie as tie
 
 -- ---- the places, each from the one after it: where each part has its verdict
 
-abbrev words-lent : tie.After-judge-both → tie.After-shared-slice-known2
+abbrev words-lent : tie.After-judge_both-both → tie.After-shared_slice_known-2-1
 words-lent c = c.before.before.before
 
-abbrev start : tie.After-judge-both → tie.Start
+abbrev start : tie.After-judge_both-both → tie.Start
 start c = (words-lent c).before.before
 
-abbrev judged : tie.After-equal → tie.After-judge-both
+abbrev judged : tie.After-equal-matched → tie.After-judge_both-both
 judged c = c.before.before
 
-abbrev matched : tie.After-has-room → tie.After-equal
+abbrev matched : tie.After-has_room-space → tie.After-equal-matched
 matched c = c.before.before.before
 
-abbrev roomed : tie.After-then → tie.After-has-room
+abbrev roomed : tie.After-then → tie.After-has_room-space
 roomed c = c.before
 
 -- ---- the operands, and the verdict of each part by what was told of both
@@ -54,29 +54,29 @@ module _ (c : tie.Start) where
   abbrev told : Judged → Verdict → Judged
   told j v = record { verdict = v; rows = j.rows; ranks = j.ranks }
 
-module _ (c : tie.After-equal) where
+module _ (c : tie.After-equal-matched) where
   abbrev asked : tie.Start
   asked = start (judged c)
 
-  ranks_told : c.equal.result ≡ seven asked (judged c).judge-both.result
-  ranks_told = c.equal.ensures ∙ ap (λ (x : ℕ). first (need (ℕ_discrete x (judged c).judge-both.result.rows) 7 0 ∷ [])) c.before.length-of.ensures
+  ranks_told : c.equal-matched.result ≡ seven asked (judged c).judge_both-both.result
+  ranks_told = c.equal-matched.ensures ∙ ap (λ (x : ℕ). first (need (ℕ_discrete x (judged c).judge_both-both.result.rows) 7 0 ∷ [])) c.before.length_of.ensures
 
-module _ (c : tie.After-has-room) where
+module _ (c : tie.After-has_room-space) where
   abbrev here : tie.Start
   here = asked (matched c)
 
-  space_told : c.has_room.result ≡ eight here
+  space_told : c.has_room-space.result ≡ eight here
   space_told =
-      c.has_room.ensures
+      c.has_room-space.ensures
       ∙ ap (λ (n : ℕ). first (need (dec_le n here.args.room) 8 0 ∷ []))
-      (c.before.words-for.ensures ∙ ap words_for c.before.before.length-of2.ensures)
+      (c.before.words_for.ensures ∙ ap words_for c.before.before.length_of-2.ensures)
 
 module _ (c : tie.After-then) where
   abbrev begun : tie.Start
   begun = here (roomed c)
 
   abbrev both : Judged
-  both = (judged (matched (roomed c))).judge-both.result
+  both = (judged (matched (roomed c))).judge_both-both.result
 
   joined : c.then.result ≡ if_fine (seven begun both) (eight begun) (seven begun both)
   joined =
@@ -84,32 +84,32 @@ module _ (c : tie.After-then) where
       c.then.ensures ∙ (λ i. if_fine (seventh i) (space_told (roomed c) i) (seventh i))
 
   both_told : both ≡ judged_both (self begun) (rank begun)
-  both_told = (judged (matched (roomed c))).judge-both.ensures
+  both_told = (judged (matched (roomed c))).judge_both-both.ensures
 
 -- ---- the answers
 
-judge-both-requires : tie.Need-judge-both-requires
+judge-both-requires : tie.Need-judge_both-both-requires
 judge-both-requires c κs = search rules
 
-length-of-requires : tie.Need-length-of-requires
+length-of-requires : tie.Need-length_of-requires
 length-of-requires c κs = search rules
 
-equal-requires : tie.Need-equal-requires
+equal-requires : tie.Need-equal-matched-requires
 equal-requires c κs = search rules
 
-length-of-requires-2 : tie.Need-length-of-requires-2
+length-of-requires-2 : tie.Need-length_of-requires-2
 length-of-requires-2 c κs = search rules
 
-words-for-requires : tie.Need-words-for-requires
+words-for-requires : tie.Need-words_for-requires
 words-for-requires c κs = search rules
 
-has-room-requires : tie.Need-has-room-requires
+has-room-requires : tie.Need-has_room-space-requires
 has-room-requires c κs = search rules
 
 then-requires : tie.Need-then-requires
 then-requires c κs = search rules
 
-then-requires-2 : tie.Need-then-requires-2
+then-requires-2 : tie.Need-then-verdict-requires
 then-requires-2 c κs = search rules
 
 returns : tie.Need-returns
@@ -117,7 +117,7 @@ returns c =
     let k = c.before in
     let j = both k in
     let s = begun k in
-    let all = c.then2.ensures ∙ ap (λ (v : Verdict). if_fine j.verdict v j.verdict) (joined k) in
+    let all = c.then-verdict.ensures ∙ ap (λ (v : Verdict). if_fine j.verdict v j.verdict) (joined k) in
     ap (told s j) all
     ∙ ap (λ (x : Judged). told s x (parts s x)) (both_told k)
     ∙ ap (λ (v : Verdict). judged_by v (self s) (rank s)) (told_verdict (self s) (rank s) s.args.room)

@@ -19,22 +19,22 @@ use borrow.Author.Rules.{rules}
 
 -- ---- the places, each from the one after it
 
-abbrev words-lent : tie.After-slice-known → tie.After-shared-slice-known2
+abbrev words-lent : tie.After-slice_known-1 → tie.After-shared_slice_known-2-1
 words-lent c = c.before.before.before
 
-abbrev entry : tie.After-slice-known → tie.Start
+abbrev entry : tie.After-slice_known-1 → tie.Start
 entry c = (words-lent c).before.before
 
-abbrev start : tie.After-choose-route → tie.Start
+abbrev start : tie.After-choose_route-route → tie.Start
 start c = entry c.before
 
-abbrev route : tie.After-lay-by-route → tie.After-choose-route
+abbrev route : tie.After-lay_by_route → tie.After-choose_route-route
 route c = c.before.before
 
-abbrev laid : tie.After-number → tie.After-lay-by-route
+abbrev laid : tie.After-number → tie.After-lay_by_route
 laid c = c.before.before.before
 
-abbrev numbered : tie.After-length-of → tie.After-number
+abbrev numbered : tie.After-length_of → tie.After-number
 numbered c = c.before
 
 -- ---- the operands, the route that was chosen, and what is told of the composition
@@ -46,7 +46,7 @@ module _ (c : tie.Start) where
   abbrev rank : Operand
   rank = lent c.args.r.form c.args.rwords.now c.args.rrows.now
 
-module _ (c : tie.After-choose-route) where
+module _ (c : tie.After-choose_route-route) where
   abbrev s : Operand
   s = self (start c)
 
@@ -62,14 +62,14 @@ module _ (c : tie.After-choose-route) where
   ranked : (start c).args.r.count ≡ count_of r
   ranked = (start c).requires.2
 
-  chosen : c.choose-route.result ≡ route_of (start c).args.factors s r
-  chosen = c.choose-route.ensures ∙ (λ i. route_by (start c).args.factors s.form (own i) r.form (ranked i))
+  chosen : c.choose_route-route.result ≡ route_of (start c).args.factors s r
+  chosen = c.choose_route-route.ensures ∙ (λ i. route_by (start c).args.factors s.form (own i) r.form (ranked i))
 
-  fits : Fits c.choose-route.result s r
+  fits : Fits c.choose_route-route.result s r
   fits = subst (λ (x : Route). Fits x s r) (sym chosen) (route_fits s r (start c).args.factors)
 
-module _ (c : tie.After-length-of) where
-  abbrev here : tie.After-choose-route
+module _ (c : tie.After-length_of) where
+  abbrev here : tie.After-choose_route-route
   here = route (laid (numbered c))
 
   count_told : (start here).args.r.count ≡ count (result (s here) (r here))
@@ -78,17 +78,17 @@ module _ (c : tie.After-length-of) where
   route_told : (numbered c).number.result ≡ routed (start here).args.factors (s here) (r here)
   route_told = (numbered c).number.ensures ∙ ap number_of (chosen here)
 
-  length_told : c.length-of.result ≡ length (result (s here) (r here))
-  length_told = c.length-of.ensures ∙ sym (result_length (s here) (r here) (both here))
+  length_told : c.length_of.result ≡ length (result (s here) (r here))
+  length_told = c.length_of.ensures ∙ sym (result_length (s here) (r here) (both here))
 
 -- ---- the answers
 
-choose-route-requires : tie.Need-choose-route-requires
+choose-route-requires : tie.Need-choose_route-route-requires
 choose-route-requires c κs =
     let e = entry c in
-    (omega (arith, e.pre.1, accepted_few (self e) e.pre.0.self), omega (arith, e.pre.2, accepted_few (rank e) e.pre.0.rank))
+    (omega (arith, e.requires.1, accepted_few (self e) e.requires.0.self), omega (arith, e.requires.2, accepted_few (rank e) e.requires.0.rank))
 
-lay-by-route-requires : tie.Need-lay-by-route-requires
+lay-by-route-requires : tie.Need-lay_by_route-requires
 lay-by-route-requires c κs =
     let q = c.before in
     (both q, fits q, (start q).requires.3)
@@ -96,7 +96,7 @@ lay-by-route-requires c κs =
 number-requires : tie.Need-number-requires
 number-requires c κs = search rules
 
-length-of-requires : tie.Need-length-of-requires
+length-of-requires : tie.Need-length_of-requires
 length-of-requires c κs = search rules
 
 accepted-requires : tie.Need-accepted-requires
@@ -105,17 +105,17 @@ accepted-requires c κs =
     -- both counts, so that the wrong one is refused at what it tells
     (
       omega (arith, own q, ranked q, accepted_few (r q) (both q).rank, accepted_few (s q) (both q).self),
-      omega (arith, c.length-of.ensures, accepted_limit (s q) (both q).self),
+      omega (arith, c.length_of.ensures, accepted_limit (s q) (both q).self),
     )
 
-same_length : tie.Need-same-length
+same_length : tie.Need-shape_of-out
 same_length c = search rules
 
 returns : tie.Need-returns
 returns c =
     let n = c.before in (
       c.accepted.ensures ∙ (λ i. accepted (count_told n i) (route_told n i) (length_told n i)),
-      (laid (numbered n)).lay-by-route.ensures,
+      (laid (numbered n)).lay_by_route.ensures,
     )
 
 pub lay_composition_spec : {M : Type 1} → statement M

@@ -18,16 +18,16 @@ use Rattle.recover.proofs.inner.judge.judge_masks.Tie as tie
 
 -- ---- the places, each from the one after it
 
-abbrev words-lent : tie.After-check → tie.After-shared-slice-known2
+abbrev words-lent : tie.After-check-one → tie.After-shared_slice_known-2-1
 words-lent c = c.before.before.before
 
-abbrev start : tie.After-check → tie.Start
+abbrev start : tie.After-check-one → tie.Start
 start c = (words-lent c).before.before
 
-abbrev one : tie.After-check2 → tie.After-check
+abbrev one : tie.After-check-two → tie.After-check-one
 one c = c.before
 
-abbrev two : tie.After-equal → tie.After-check2
+abbrev two : tie.After-equal-lengths → tie.After-check-two
 two c = c.before.before.before
 
 -- ---- the operands, and what is told of them by what was told of each
@@ -45,36 +45,36 @@ told d e v = record { verdict = v; set = d.count; kept = e.count }
 abbrev after : Checked → Checked → Verdict
 after d e = if_fine d.verdict e.verdict d.verdict
 
-module _ (c : tie.After-equal) where
+module _ (c : tie.After-equal-lengths) where
   abbrev here : tie.Start
   here = start (one (two c))
 
-  lengths : c.equal.result ≡ first (lengths_checks (self here) (other here))
+  lengths : c.equal-lengths.result ≡ first (lengths_checks (self here) (other here))
   lengths =
-      c.equal.ensures
-      ∙ ap₂ (λ (x y : ℕ). first (need (ℕ_discrete x y) 7 0 ∷ [])) c.before.before.length-of.ensures c.before.length-of2.ensures
+      c.equal-lengths.ensures
+      ∙ ap₂ (λ (x y : ℕ). first (need (ℕ_discrete x y) 7 0 ∷ [])) c.before.before.length_of.ensures c.before.length_of-2.ensures
 
 -- ---- the answers
 
-check-requires : tie.Need-check-requires
+check-requires : tie.Need-check-one-requires
 check-requires c κs = search rules
 
-check-requires-2 : tie.Need-check-requires-2
+check-requires-2 : tie.Need-check-two-requires
 check-requires-2 c κs = search rules
 
-length-of-requires : tie.Need-length-of-requires
+length-of-requires : tie.Need-length_of-requires
 length-of-requires c κs = search rules
 
-length-of-requires-2 : tie.Need-length-of-requires-2
+length-of-requires-2 : tie.Need-length_of-requires-2
 length-of-requires-2 c κs = search rules
 
-equal-requires : tie.Need-equal-requires
+equal-requires : tie.Need-equal-lengths-requires
 equal-requires c κs = search rules
 
 then-requires : tie.Need-then-requires
 then-requires c κs = search rules
 
-then-requires-2 : tie.Need-then-requires-2
+then-requires-2 : tie.Need-then-verdict-requires
 then-requires-2 c κs = search rules
 
 returns : tie.Need-returns
@@ -85,10 +85,10 @@ returns c =
     let a = one b in
     let s = self (here e) in
     let k = other (here e) in
-    ap (told a.check.result b.check2.result)
-    (c.then2.ensures ∙ (λ i. if_fine (joined.then.ensures i) (lengths e i) (joined.then.ensures i)))
-    ∙ (λ i. told (a.check.ensures i) (b.check2.ensures i)
-    (if_fine (after (a.check.ensures i) (b.check2.ensures i)) (first (lengths_checks s k)) (after (a.check.ensures i) (b.check2.ensures i))))
+    ap (told a.check-one.result b.check-two.result)
+    (c.then-verdict.ensures ∙ (λ i. if_fine (joined.then.ensures i) (lengths e i) (joined.then.ensures i)))
+    ∙ (λ i. told (a.check-one.ensures i) (b.check-two.ensures i)
+    (if_fine (after (a.check-one.ensures i) (b.check-two.ensures i)) (first (lengths_checks s k)) (after (a.check-one.ensures i) (b.check-two.ensures i))))
     ∙ ap (told (checked_of 1 s) (checked_of 2 k)) (match_verdict s k)
 
 pub judge_masks_spec : {M : Type 1} → statement M

@@ -1,7 +1,7 @@
 -- `recover::inner::whole::recover_within` meets its contract.
 -- The recovery laid from bit 0 on, where the last word was cleared, is the recovery written. Assumes nothing.
 use Prim.Native.Nat.{ℕ, ◌^◌, ◌≤◌}
-use mathlib.Core.Path.{◌≡◌, refl, sym, ap, ap₂, ◌∙◌}
+use mathlib.Core.Path.{◌≡◌, sym, ap, ap₂, ◌∙◌}
 use mathlib.Core.Bool.{Bool}
 use mathlib.Core.List.{List}
 use native.Mathlib.Omega.{arith}
@@ -23,24 +23,24 @@ use Rattle.recover.proofs.inner.whole.recover_within.Tie as tie
 
 -- ---- the places, each from the one after it
 
-abbrev words-lent : tie.After-slice-known → tie.After-shared-slice-known2
+abbrev words-lent : tie.After-slice_known-1 → tie.After-shared_slice_known-2-1
 words-lent c = c.before.before.before
 
-abbrev entry : tie.After-slice-known → tie.Start
+abbrev entry : tie.After-slice_known-1 → tie.Start
 entry c = (words-lent c).before.before
 
-abbrev given : tie.After-clear-last → tie.After-slice-known
+abbrev given : tie.After-clear_last → tie.After-slice_known-1
 given c = c.before.before
 
-abbrev cleared : tie.After-lay-recovery → tie.After-clear-last
+abbrev cleared : tie.After-lay_recovery → tie.After-clear_last
 cleared c = c.before.before.before.before
 
-abbrev laid_out : tie.After-slice-known3 → tie.After-lay-recovery
+abbrev laid_out : tie.After-slice_known-3-1 → tie.After-lay_recovery
 laid_out c = c.before.before
 
 -- ---- the operands, and what is known once the last word is cleared
 
-module _ (c : tie.After-slice-known) where
+module _ (c : tie.After-slice_known-1) where
   abbrev s : tie.Start
   s = entry c
 
@@ -57,32 +57,32 @@ module _ (c : tie.After-slice-known) where
   out = s.args.out.now
 
   few : s.args.s.count ≤ 1048576
-  few = omega (arith, s.pre.1, accepted_few self s.pre.0.self)
+  few = omega (arith, s.requires.1, accepted_few self s.requires.0.self)
 
   kept_few : s.args.k.count ≤ 1048576
-  kept_few = omega (arith, s.pre.2, accepted_few other s.pre.0.kept)
+  kept_few = omega (arith, s.requires.2, accepted_few other s.requires.0.kept)
 
   whole : laid 0 rows (last_cleared s.args.s.count out) ≡ written (count_of self) rows out
   whole =
-      ap (λ (n : ℕ). laid 0 rows (last_cleared n out)) s.pre.1
-      ∙ laid_written (count_of self) rows out (below_all (2 ^ 64) out (λ i. (c.slice-known.given i).fits)) (recovery_length self other s.pre.0) s.pre.3
+      ap (λ (n : ℕ). laid 0 rows (last_cleared n out)) s.requires.1
+      ∙ laid_written (count_of self) rows out (below_all (2 ^ 64) out (λ i. (c.slice_known-1.given i).fits)) (recovery_length self other s.requires.0) s.requires.3
 
   -- the second mask's count and self's are the result's count and length
   answer_is : accepted s.args.k.count 0 s.args.s.count ≡ accepted (count rows) 0 (length rows)
   answer_is =
-      ap₂ (λ (n len : ℕ). accepted n 0 len) (s.pre.2 ∙ sym (recovery_count self other s.pre.0)) (s.pre.1 ∙ sym (recovery_length self other s.pre.0))
+      ap₂ (λ (n len : ℕ). accepted n 0 len) (s.requires.2 ∙ sym (recovery_count self other s.requires.0)) (s.requires.1 ∙ sym (recovery_length self other s.requires.0))
 
 -- ---- the answers
 
-clear-last-requires : tie.Need-clear-last-requires
+clear-last-requires : tie.Need-clear_last-requires
 clear-last-requires c κs =
     let g = c.before in
     omega (arith, (s g).requires.1, (s g).requires.3)
 
-lay-recovery-requires : tie.Need-lay-recovery-requires
+lay-recovery-requires : tie.Need-lay_recovery-requires
 lay-recovery-requires c κs =
     let g = given c.before.before.before in
-    let p = (s g).pre in
+    let p = (s g).requires in
     (p.0, p.1, (omega (arith, p.3), omega (arith, accepted_few (self g) p.0.self)))
 
 accepted-requires : tie.Need-accepted-requires
@@ -93,7 +93,7 @@ accepted-requires c κs =
 tell-requires : tie.Need-tell-requires
 tell-requires c κs = search rules
 
-same_length : tie.Need-same-length
+same_length : tie.Need-shape_of-out
 same_length c = search rules
 
 returns : tie.Need-returns
@@ -102,7 +102,7 @@ returns c =
     let k = cleared l in
     let g = given k in (
       c.tell.ensures ∙ ap told (c.before.accepted.ensures ∙ answer_is g),
-      l.lay-recovery.ensures ∙ ap (laid 0 (rows g)) k.clear-last.ensures ∙ whole g,
+      l.lay_recovery.ensures ∙ ap (laid 0 (rows g)) k.clear_last.ensures ∙ whole g,
     )
   where
     told : Answer → Recovered
