@@ -1,0 +1,17 @@
+-- `intersect::main` is safe: what is written lies within the output.
+-- By the law that a text has room where it is told. Assumes nothing.
+use mathlib.Core.Path.{sym}
+use native.Mathlib.Omega.{arith}
+use lib.Seq.{length-take-le}
+use Rattle.lines.proofs.Theorems.{written_within}
+use Rattle.intersect.proofs.main.Goals as goal
+
+pub slice_bounds-out-end : goal.slice_bounds-out-end
+slice_bounds-out-end c =
+    let a = c.answer-written in
+    omega (arith, written_within _ _ a.result a.ensures.0, a.auto.out)
+
+pub slice_bounds-write_all-end : goal.slice_bounds-write_all-end
+slice_bounds-write_all-end c =
+    let a = c.answer-written in
+    sym (length-take-le a.result.len a.new.out (omega (arith, written_within _ _ a.result a.ensures.0, a.auto.out)))
