@@ -16,7 +16,7 @@ mod judge;
 mod step;
 
 // The composer itself: how many rows a stream may have, and the state of a stream that was fed nothing.
-#[derive(Drop)]
+#[derive(Clone, Copy)]
 pub struct Composer;
 
 impl Composer {

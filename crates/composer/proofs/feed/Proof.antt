@@ -14,19 +14,19 @@ use Rattle.composer.proofs.feed.Tie as tie
 
 -- ---- the places, each from the one after it: the verdict, and of it a refusal or none
 
-abbrev words-lent : tie.After-slice-known → tie.After-shared-slice-known2
+abbrev words-lent : tie.After-slice_known-1 → tie.After-shared_slice_known-2-1
 words-lent c = c.before.before.before
 
-abbrev start : tie.After-judge → tie.Start
+abbrev start : tie.After-judge-judged → tie.Start
 start c = (words-lent c.before).before.before
 
-abbrev barred : tie.After-verdict → tie.After-judge
-barred c = c.before.before
+abbrev barred : tie.In-Refused → tie.After-judge-judged
+barred c = c.before
 
-abbrev passed : tie.After-enum-told → tie.After-judge
-passed c = c.before.before
+abbrev passed : tie.In-Fine → tie.After-judge-judged
+passed c = c.before
 
-abbrev stepped : tie.After-slice-known2 → tie.After-step
+abbrev stepped : tie.After-slice_known-in-Fine-1 → tie.After-step
 stepped c = c.before.before
 
 -- ---- the pieces that are fed, and what the verdict says of them
@@ -38,24 +38,24 @@ module _ (c : tie.Start) where
   abbrev verdict : Verdict
   verdict = judged c.args.state pair (length c.args.out.now)
 
-fine : (c : tie.After-enum-told) → verdict (start (passed c)) ≡ Fine
-fine c = sym (ap (λ (j : Judged). j.verdict) (passed c).judge.ensures) ∙ c.enum_told.given.1
+fine : (c : tie.In-Fine) → verdict (start (passed c)) ≡ Fine
+fine c = sym (ap (λ (j : Judged). j.verdict) (passed c).judge-judged.ensures) ∙ c.in-Fine.is
 
-refuses : (c : tie.After-verdict) → verdict (start (barred c)) ≡ Refused c.verdict.given.0.0
-refuses c = sym (ap (λ (j : Judged). j.verdict) (barred c).judge.ensures) ∙ c.verdict.given.1
+refuses : (c : tie.In-Refused) → verdict (start (barred c)) ≡ Refused c.in-Refused.refusal
+refuses c = sym (ap (λ (j : Judged). j.verdict) (barred c).judge-judged.ensures) ∙ c.in-Refused.is
 
 -- ---- the answers
 
-judge-requires : tie.Need-judge-requires
+judge-requires : tie.Need-judge-judged-requires
 judge-requires c κs = search rules
 
-enum-known-verdict : tie.Need-enum-known-verdict
+enum-known-verdict : tie.Need-enum_known-verdict
 enum-known-verdict c = search rules
 
 refused-requires : tie.Need-refused-requires
 refused-requires c κs = search rules
 
-enum_told : tie.Need-enum-told
+enum_told : tie.Need-enum_told-1
 enum_told c = search rules
 
 step-requires : tie.Need-step-requires
@@ -63,17 +63,17 @@ step-requires c κs =
     let j = passed c.before in
     let s = start j in
     let own = judged_counts s.args.state (pair s) (length s.args.out.now) (fine c.before) in
-    (fine c.before, ap (λ (x : Judged). x.rows) j.judge.ensures ∙ own.0, ap (λ (x : Judged). x.ranks) j.judge.ensures ∙ own.1)
+    (fine c.before, ap (λ (x : Judged). x.rows) j.judge-judged.ensures ∙ own.0, ap (λ (x : Judged). x.ranks) j.judge-judged.ensures ∙ own.1)
 
-returns : tie.Need-returns
+returns : tie.Need-returns-in-Refused
 returns c =
-    let e = refuses c.before.before in
+    let e = refuses c.before in
     (rw (c.refused.ensures, e) refl, rw e refl)
 
-same_length : tie.Need-same-length
+same_length : tie.Need-shape_of-out
 same_length c = search rules
 
-returns-2 : tie.Need-returns-2
+returns-2 : tie.Need-returns-in-Fine
 returns-2 c =
     let k = stepped c in
     let e = fine k.before.before in

@@ -14,13 +14,13 @@ use Rattle.composer.proofs.judge.judge_lengths.Tie as tie
 
 -- ---- the places, each from the one after it: a statement more in the code changes one of these and no answer
 
-abbrev start : tie.After-at-most → tie.Start
+abbrev start : tie.After-at_most-limit → tie.Start
 start c = c.before.before
 
-abbrev limit-judged : tie.After-has-room → tie.After-at-most
+abbrev limit-judged : tie.After-has_room-space → tie.After-at_most-limit
 limit-judged c = c.before.before
 
-abbrev joined : tie.After-then2 → tie.After-has-room
+abbrev joined : tie.After-then-2 → tie.After-has_room-space
 joined c = c.before.before
 
 -- ---- the three lines, each as a table of its own
@@ -38,30 +38,30 @@ module _ (s : tie.Start) where
   abbrev later : List Line
   later = limited ++ space
 
-space_told : (c : tie.After-has-room) → c.has_room.result ≡ first (space (start (limit-judged c)))
+space_told : (c : tie.After-has_room-space) → c.has_room-space.result ≡ first (space (start (limit-judged c)))
 space_told c =
     let room = (start (limit-judged c)).args.room in
-    c.has_room.ensures ∙ ap (λ (n : ℕ). first (need (dec_le n room) 8 0 ∷ [])) c.before.words-for.ensures
+    c.has_room-space.ensures ∙ ap (λ (n : ℕ). first (need (dec_le n room) 8 0 ∷ [])) c.before.words_for.ensures
 
 later_told : (c : tie.After-then) → c.then.result ≡ first (later (start (limit-judged c.before)))
 later_told c =
     let h = c.before in
     let s = start (limit-judged h) in
-    let told = (limit-judged h).at_most.ensures in
+    let told = (limit-judged h).at_most-limit.ensures in
     c.then.ensures ∙ (λ i. if_fine (told i) (space_told h i) (told i)) ∙ sym (first_append (limited s) (space s))
 
 -- ---- the answers
 
-equal-requires : tie.Need-equal-requires
+equal-requires : tie.Need-equal-matched-requires
 equal-requires c κs = search rules
 
-at-most-requires : tie.Need-at-most-requires
+at-most-requires : tie.Need-at_most-limit-requires
 at-most-requires c κs = search rules
 
-words-for-requires : tie.Need-words-for-requires
+words-for-requires : tie.Need-words_for-requires
 words-for-requires c κs = search rules
 
-has-room-requires : tie.Need-has-room-requires
+has-room-requires : tie.Need-has_room-space-requires
 has-room-requires c κs = search rules
 
 then-requires : tie.Need-then-requires
@@ -74,8 +74,8 @@ returns : tie.Need-returns
 returns c =
     let m = limit-judged (joined c) in
     let s = start m in
-    let told = m.before.equal.ensures in
-    c.then2.ensures
+    let told = m.before.equal-matched.ensures in
+    c.then-2.ensures
     ∙ (λ i. if_fine (told i) (later_told c.before i) (told i))
     ∙ sym (first_append (matched s) (later s))
 

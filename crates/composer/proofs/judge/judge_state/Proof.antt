@@ -11,13 +11,13 @@ use borrow.Author.Rules.{rules}
 use Rattle.composer.proofs.judge.judge_state.Statement.{statement}
 use Rattle.composer.proofs.judge.judge_state.Tie as tie
 
-at-most-requires : tie.Need-at-most-requires
+at-most-requires : tie.Need-at_most-kept-requires
 at-most-requires c κs = search rules
 
-at-most-requires-2 : tie.Need-at-most-requires-2
+at-most-requires-2 : tie.Need-at_most-ranks-requires
 at-most-requires-2 c κs = search rules
 
-at-most-requires-3 : tie.Need-at-most-requires-3
+at-most-requires-3 : tie.Need-at_most-done-requires
 at-most-requires-3 c κs = search rules
 
 then-requires : tie.Need-then-requires
@@ -32,8 +32,8 @@ returns c =
     let kept : List Line = need (dec_le st.kept st.ranks.0) 10 0 ∷ [] in
     let ranks : List Line = need (dec_le st.ranks.0 st.done.0) 10 0 ∷ [] in
     let done : List Line = need (dec_le st.done.0 limit) 10 0 ∷ [] in
-    c.then2.ensures
-    ∙ rw (c.before.then.ensures, c.before.before.at-most3.ensures, c.before.before.before.at-most2.ensures, c.before.before.before.before.at_most.ensures)
+    c.then-2.ensures
+    ∙ rw (c.before.then.ensures, c.before.before.at_most-done.ensures, c.before.before.before.at_most-ranks.ensures, c.before.before.before.before.at_most-kept.ensures)
     (sym (first_append kept (need (dec_le st.ranks.0 st.done.0) 10 0 ∷ done) ∙ ap (λ (v : Verdict). if_fine (first kept) v (first kept)) (first_append ranks done)))
 
 pub judge_state_spec : {M : Type 1} → statement M
