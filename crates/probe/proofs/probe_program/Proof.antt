@@ -1,7 +1,6 @@
 -- `probe::probe_program` meets its contract: where there is room the call is made and its answer told, and else nothing is done.
 -- By what the call and `tell` ensure. Assumes nothing.
 use mathlib.Core.Path.{sym, ◌∙◌}
-use borrow.Author.Tests.{not-true, not-false}
 use Rattle.cells.specs.Probe.{memory}
 use Rattle.cells.proofs.TellLaws.{enough_room, does_over}
 use borrow.Author.Rules.{rules}
@@ -11,28 +10,28 @@ use Rattle.probe.proofs.probe_program.Tie as tie
 ready-requires : tie.Need-ready-requires
 ready-requires c κs = search rules
 
-returns : tie.Need-returns
-returns c = rw (sym c.before.ready.ensures ∙ not-true _ c.if1.true)
+returns : tie.Need-returns-then-not-ready
+returns c = rw (sym c.before.ready.ensures ∙ c.if-not-ready.true)
 
 program-requires : tie.Need-program-requires
 program-requires c κs = search rules
 
 tell-requires : tie.Need-tell-requires
-tell-requires c κs = enough_room _ _ (sym c.before.before.before.before.before.before.before.ready.ensures ∙ not-false _ c.before.before.before.before.before.before.if1.false)
+tell-requires c κs = enough_room _ _ (sym c.before.before.before.before.before.before.before.ready.ensures ∙ c.before.before.before.before.before.before.if-not-ready.false)
 
-same_length : tie.Need-same-length
+same_length : tie.Need-shape_of-out
 same_length c = search rules
 
-same-length-2 : tie.Need-same-length-2
+same-length-2 : tie.Need-shape_of-ans
 same-length-2 c = search rules
 
-same-length-3 : tie.Need-same-length-3
+same-length-3 : tie.Need-shape_of-den
 same-length-3 c = search rules
 
-returns-2 : tie.Need-returns-2
+returns-2 : tie.Need-returns
 returns-2 c =
     let a = c.before.before.before.before.before.before.before.before.before.before.before.before.before.before.before.before.before.args in
-    does_over _ _ _ (memory a.out.now a.ans.now a.den.now) _ (sym c.before.before.before.before.before.before.before.before.before.before.before.before.ready.ensures ∙ not-false _ c.before.before.before.before.before.before.before.before.before.before.before.if1.false) c.before.before.before.before.before.before.before.before.before.program.ensures c.before.before.before.before.tell.ensures
+    does_over _ _ _ (memory a.out.now a.ans.now a.den.now) _ (sym c.before.before.before.before.before.before.before.before.before.before.before.before.ready.ensures ∙ c.before.before.before.before.before.before.before.before.before.before.before.if-not-ready.false) c.before.before.before.before.before.before.before.before.before.program.ensures c.before.before.before.before.tell.ensures
 
 pub probe_program_spec : {M : Type 1} → statement M
 probe_program_spec =

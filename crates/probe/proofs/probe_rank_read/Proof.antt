@@ -2,7 +2,6 @@
 -- By what the call and `tell` ensure. Assumes nothing.
 use mathlib.Core.Path.{sym, ◌∙◌}
 use borrow.Author.Rules.{rules}
-use borrow.Author.Tests.{not-true, not-false}
 use Rattle.cells.specs.Probe.{answer_cells}
 use Rattle.cells.proofs.TellLaws.{enough_room, tells_over}
 use Rattle.probe.proofs.probe_rank_read.Statement.{statement}
@@ -11,26 +10,26 @@ use Rattle.probe.proofs.probe_rank_read.Tie as tie
 ready-requires : tie.Need-ready-requires
 ready-requires c κs = search rules
 
-returns : tie.Need-returns
-returns c = rw (sym c.before.ready.ensures ∙ not-true _ c.if1.true)
+returns : tie.Need-returns-then-not-ready
+returns c = rw (sym c.before.ready.ensures ∙ c.if-not-ready.true)
 
-rank-read-requires : tie.Need-rank-read-requires
+rank-read-requires : tie.Need-rank_read-requires
 rank-read-requires c κs = search rules
 
 tell-requires : tie.Need-tell-requires
-tell-requires c κs = enough_room _ _ (sym c.before.before.before.before.ready.ensures ∙ not-false _ c.before.before.before.if1.false)
+tell-requires c κs = enough_room _ _ (sym c.before.before.before.before.ready.ensures ∙ c.before.before.before.if-not-ready.false)
 
-same_length : tie.Need-same-length
+same_length : tie.Need-shape_of-ans
 same_length c = search rules
 
-same-length-2 : tie.Need-same-length-2
+same-length-2 : tie.Need-shape_of-den
 same-length-2 c = search rules
 
-returns-2 : tie.Need-returns-2
+returns-2 : tie.Need-returns
 returns-2 c =
     let a = c.before.before.before.before.before.before.before.before.before.before.before.before.before.args in
-    let room = sym c.before.before.before.before.before.before.before.before.before.ready.ensures ∙ not-false _ c.before.before.before.before.before.before.before.before.if1.false in
-    tells_over _ _ (answer_cells a.ans.now a.den.now) _ room c.before.before.before.before.before.before.before.rank-read.ensures c.before.before.before.before.tell.ensures
+    let room = sym c.before.before.before.before.before.before.before.before.before.ready.ensures ∙ c.before.before.before.before.before.before.before.before.if-not-ready.false in
+    tells_over _ _ (answer_cells a.ans.now a.den.now) _ room c.before.before.before.before.before.before.before.rank_read.ensures c.before.before.before.before.tell.ensures
 
 pub probe_rank_read_spec : {M : Type 1} → statement M
 probe_rank_read_spec =

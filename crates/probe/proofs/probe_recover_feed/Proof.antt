@@ -4,7 +4,6 @@ use mathlib.Core.Path.{◌≡◌, sym, ap₂, ◌∙◌}
 use mathlib.Core.Bool.{true}
 use mathlib.Core.Option.{Option}
 use borrow.Author.Rules.{rules}
-use borrow.Author.Tests.{not-true, not-false}
 use Rattle.rules.specs.Operand.{Operand}
 use Rattle.rules.specs.RecoverStream.{state_of}
 use Rattle.cells.specs.declared.Given.{Given}
@@ -15,22 +14,22 @@ use Rattle.probe.proofs.probe_recover_feed.Tie as tie
 
 -- ---- the places, each from the one after it
 
-abbrev told : tie.After-slice-known6 → tie.After-ans
+abbrev told : tie.After-slice_known-6-1 → tie.After-ans-1
 told c = c.before.before.before
 
-abbrev called : tie.After-tell-arg2 → tie.After-out
+abbrev called : tie.After-tell-arg-2-1 → tie.After-out-1
 called c = c.before.before.before
 
-abbrev formed : tie.After-out → tie.After-form-of2
+abbrev formed : tie.After-out-1 → tie.After-form_of-b
 formed c = c.before.before.before
 
-abbrev chosen : tie.After-form-of2 → tie.Else1
+abbrev chosen : tie.After-form_of-b → tie.Else-not-ready
 chosen c = c.before.before
 
-abbrev lent : tie.After-ready → tie.After-slice-known
+abbrev lent : tie.After-ready → tie.After-slice_known-1
 lent c = c.before.before.before
 
-abbrev shared : tie.After-slice-known → tie.After-shared-slice-known2
+abbrev shared : tie.After-slice_known-1 → tie.After-shared_slice_known-2-1
 shared c = c.before.before.before
 
 abbrev start : tie.After-ready → tie.Start
@@ -54,45 +53,45 @@ module _ (c : tie.After-ready) where
   abbrev done : Given → Given → Done
   done x y = recover_feed_done (state_of s.args.done s.args.ranks s.args.kept) (self x) (other y) s.args.out.now
 
-room : (c : tie.Else1) → ready (held c.before).answer ≡ true
-room c = sym c.before.ready.ensures ∙ not-false _ c.if1.false
+room : (c : tie.Else-not-ready) → ready (held c.before).answer ≡ true
+room c = sym c.before.ready.ensures ∙ c.if-not-ready.false
 
 -- ---- the answers
 
 ready-requires : tie.Need-ready-requires
 ready-requires c κs = search rules
 
-returns : tie.Need-returns
-returns c = rw (sym c.before.ready.ensures ∙ not-true _ c.if1.true)
+returns : tie.Need-returns-then-not-ready
+returns c = rw (sym c.before.ready.ensures ∙ c.if-not-ready.true)
 
-form-of-requires : tie.Need-form-of-requires
+form-of-requires : tie.Need-form_of-a-requires
 form-of-requires c κs = search rules
 
-form-of-requires-2 : tie.Need-form-of-requires-2
+form-of-requires-2 : tie.Need-form_of-b-requires
 form-of-requires-2 c κs = search rules
 
-recover-feed-requires : tie.Need-recover-feed-requires
+recover-feed-requires : tie.Need-recover_feed-requires
 recover-feed-requires c κs = search rules
 
 tell-requires : tie.Need-tell-requires
 tell-requires c κs = enough_room _ _ (room (chosen (formed (called c))))
 
-same_length : tie.Need-same-length
+same_length : tie.Need-shape_of-out
 same_length c = search rules
 
-same-length-2 : tie.Need-same-length-2
+same-length-2 : tie.Need-shape_of-ans
 same-length-2 c = search rules
 
-same-length-3 : tie.Need-same-length-3
+same-length-3 : tie.Need-shape_of-den
 same-length-3 c = search rules
 
-returns-2 : tie.Need-returns-2
+returns-2 : tie.Need-returns
 returns-2 c =
     let t = (told c).before in
     let k = called t.before in
     let f = formed k in
     let e = (chosen f).before in
-    let did = k.before.recover-feed.ensures ∙ ap₂ (done e) f.before.form_of.ensures f.form-of2.ensures in
+    let did = k.before.recover_feed.ensures ∙ ap₂ (done e) f.before.form_of-a.ensures f.form_of-b.ensures in
     does_over _ _ _ (held e) _ (room (chosen f)) did t.tell.ensures
 
 pub probe_recover_feed_spec : {M : Type 1} → statement M

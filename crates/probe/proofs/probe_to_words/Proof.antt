@@ -2,7 +2,6 @@
 -- By what the forms, the call and `tell` ensure. Assumes nothing.
 use mathlib.Core.Path.{sym, ◌∙◌}
 use borrow.Author.Rules.{rules}
-use borrow.Author.Tests.{not-true, not-false}
 use Rattle.cells.specs.Probe.{memory}
 use Rattle.cells.proofs.TellLaws.{enough_room, does_over}
 use Rattle.probe.proofs.probe_to_words.Statement.{statement}
@@ -11,32 +10,32 @@ use Rattle.probe.proofs.probe_to_words.Tie as tie
 ready-requires : tie.Need-ready-requires
 ready-requires c κs = search rules
 
-returns : tie.Need-returns
-returns c = rw (sym c.before.ready.ensures ∙ not-true _ c.if1.true)
+returns : tie.Need-returns-then-not-ready
+returns c = rw (sym c.before.ready.ensures ∙ c.if-not-ready.true)
 
-form-of-requires : tie.Need-form-of-requires
+form-of-requires : tie.Need-form_of-a-requires
 form-of-requires c κs = search rules
 
-to-words-requires : tie.Need-to-words-requires
+to-words-requires : tie.Need-to_words-requires
 to-words-requires c κs = search rules
 
 tell-requires : tie.Need-tell-requires
-tell-requires c κs = enough_room _ _ (sym c.before.before.before.before.before.before.before.before.ready.ensures ∙ not-false _ c.before.before.before.before.before.before.before.if1.false)
+tell-requires c κs = enough_room _ _ (sym c.before.before.before.before.before.before.before.before.ready.ensures ∙ c.before.before.before.before.before.before.before.if-not-ready.false)
 
-same_length : tie.Need-same-length
+same_length : tie.Need-shape_of-out
 same_length c = search rules
 
-same-length-2 : tie.Need-same-length-2
+same-length-2 : tie.Need-shape_of-ans
 same-length-2 c = search rules
 
-same-length-3 : tie.Need-same-length-3
+same-length-3 : tie.Need-shape_of-den
 same-length-3 c = search rules
 
-returns-2 : tie.Need-returns-2
+returns-2 : tie.Need-returns
 returns-2 c =
     let a = c.before.before.before.before.before.before.before.before.before.before.before.before.before.before.before.before.before.before.before.args in
-    let room = sym c.before.before.before.before.before.before.before.before.before.before.before.before.before.ready.ensures ∙ not-false _ c.before.before.before.before.before.before.before.before.before.before.before.before.if1.false in
-    let did = rw c.before.before.before.before.before.before.before.before.before.before.before.form_of.ensures at c.before.before.before.before.before.before.before.before.before.to-words.ensures in
+    let room = sym c.before.before.before.before.before.before.before.before.before.before.before.before.before.ready.ensures ∙ c.before.before.before.before.before.before.before.before.before.before.before.before.if-not-ready.false in
+    let did = rw c.before.before.before.before.before.before.before.before.before.before.before.form_of-a.ensures at c.before.before.before.before.before.before.before.before.before.to_words.ensures in
     does_over _ _ _ (memory a.out.now a.ans.now a.den.now) _ room did c.before.before.before.before.tell.ensures
 
 pub probe_to_words_spec : {M : Type 1} → statement M

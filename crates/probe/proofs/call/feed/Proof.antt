@@ -4,41 +4,41 @@ use borrow.Author.Rules.{rules}
 use Rattle.probe.proofs.call.feed.Statement.{statement}
 use Rattle.probe.proofs.call.feed.Tie as tie
 
-enum-known-a : tie.Need-enum-known-a
+enum-known-a : tie.Need-enum_known-a
 enum-known-a c = search rules
 
-enum_told : tie.Need-enum-told
+enum_told : tie.Need-enum_told-1
 enum_told c = search rules
 
-of-bad-form-requires : tie.Need-of-bad-form-requires
+of-bad-form-requires : tie.Need-of_bad_form-requires
 of-bad-form-requires c κs = search rules
 
-returns : tie.Need-returns
-returns c = rw (c.of-bad-form.ensures, c.before.enum_told.given.1)
+returns : tie.Need-returns-in_default
+returns c = rw (c.of_bad_form.ensures, c.before.in_default.is)
 
-enum-known-b : tie.Need-enum-known-b
+enum-known-b : tie.Need-enum_known-b
 enum-known-b c = search rules
 
-enum-told-2 : tie.Need-enum-told-2
+enum-told-2 : tie.Need-enum_told-in_default-b
 enum-told-2 c = search rules
 
-of-bad-form-requires-2 : tie.Need-of-bad-form-requires-2
+of-bad-form-requires-2 : tie.Need-of_bad_form-requires-in_default-b
 of-bad-form-requires-2 c κs = search rules
 
-returns-2 : tie.Need-returns-2
-returns-2 c = rw (c.of-bad-form2.ensures, c.before.before.before.before.a.given.1, c.before.enum-told2.given.1)
+returns-2 : tie.Need-returns-in_default-b
+returns-2 c = rw (c.of_bad_form-in_default-b.ensures, c.before.before.in-Good.is, c.before.in_default-b.is)
 
 feed-requires : tie.Need-feed-requires
 feed-requires c κs = search rules
 
-of-fed-requires : tie.Need-of-fed-requires
+of-fed-requires : tie.Need-of_fed-requires
 of-fed-requires c κs = search rules
 
-same_length : tie.Need-same-length
+same_length : tie.Need-shape_of-out
 same_length c = search rules
 
-returns-3 : tie.Need-returns-3
-returns-3 c = rw (c.of-fed.ensures, c.before.before.before.feed.ensures.0, c.before.before.before.feed.ensures.1, c.before.before.before.before.before.before.before.before.before.a.given.1, c.before.before.before.before.before.before.b.given.1)
+returns-3 : tie.Need-returns
+returns-3 c = rw (c.of_fed.ensures, c.before.before.before.feed.ensures.0, c.before.before.before.feed.ensures.1, c.before.before.before.before.before.before.in-Good.is, c.before.before.before.before.before.in-Good-b.is)
 
 pub feed_spec : {M : Type 1} → statement M
 feed_spec =

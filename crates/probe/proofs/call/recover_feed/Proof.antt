@@ -9,58 +9,58 @@ use Rattle.probe.proofs.call.recover_feed.Tie as tie
 
 -- ---- the places, each from the one after it: both forms are good, or the second is bad
 
-abbrev called : tie.After-of-recovery-fed → tie.After-feed
+abbrev called : tie.After-of_recovery_fed → tie.After-feed
 called c = c.before.before.before
 
-abbrev second : tie.After-feed → tie.After-b
-second c = c.before.before.before
+abbrev second : tie.After-feed → tie.In-Good-b
+second c = c.before.before
 
-abbrev first : tie.After-b → tie.After-a
-first c = c.before.before.before
+abbrev first : tie.In-Good-b → tie.In-Good
+first c = c.before
 
-abbrev alone : tie.After-enum-told2 → tie.After-a
-alone c = c.before.before.before
+abbrev alone : tie.In_default-b → tie.In-Good
+alone c = c.before
 
 -- ---- the answers
 
-enum-known-a : tie.Need-enum-known-a
+enum-known-a : tie.Need-enum_known-a
 enum-known-a c = search rules
 
-enum_told : tie.Need-enum-told
+enum_told : tie.Need-enum_told-1
 enum_told c = search rules
 
-of-bad-form-requires : tie.Need-of-bad-form-requires
+of-bad-form-requires : tie.Need-of_bad_form-requires
 of-bad-form-requires c κs = search rules
 
-returns : tie.Need-returns
-returns c = rw (c.of-bad-form.ensures, c.before.enum_told.given.1)
+returns : tie.Need-returns-in_default
+returns c = rw (c.of_bad_form.ensures, c.before.in_default.is)
 
-enum-known-b : tie.Need-enum-known-b
+enum-known-b : tie.Need-enum_known-b
 enum-known-b c = search rules
 
-enum-told-2 : tie.Need-enum-told-2
+enum-told-2 : tie.Need-enum_told-in_default-b
 enum-told-2 c = search rules
 
-of-bad-form-requires-2 : tie.Need-of-bad-form-requires-2
+of-bad-form-requires-2 : tie.Need-of_bad_form-requires-in_default-b
 of-bad-form-requires-2 c κs = search rules
 
-returns-2 : tie.Need-returns-2
-returns-2 c = second_bad _ _ _ _ _ _ _ _ c.of-bad-form2.ensures (alone c.before).a.given.1 c.before.enum-told2.given.1
+returns-2 : tie.Need-returns-in_default-b
+returns-2 c = second_bad _ _ _ _ _ _ _ _ c.of_bad_form-in_default-b.ensures (alone c.before).in-Good.is c.before.in_default-b.is
 
 feed-requires : tie.Need-feed-requires
 feed-requires c κs = search rules
 
-of-recovery-fed-requires : tie.Need-of-recovery-fed-requires
+of-recovery-fed-requires : tie.Need-of_recovery_fed-requires
 of-recovery-fed-requires c κs = search rules
 
-same_length : tie.Need-same-length
+same_length : tie.Need-shape_of-out
 same_length c = search rules
 
-returns-3 : tie.Need-returns-3
+returns-3 : tie.Need-returns
 returns-3 c =
     let k = called c in
-    let answer = c.of-recovery-fed.ensures ∙ (λ i. recovery_fed_told (k.feed.ensures.0 i)) in
-    (λ i. ended (answer i) (k.feed.ensures.1 i)) ∙ both_good _ _ _ _ _ _ _ _ (first (second k)).a.given.1 (second k).b.given.1
+    let answer = c.of_recovery_fed.ensures ∙ (λ i. recovery_fed_told (k.feed.ensures.0 i)) in
+    (λ i. ended (answer i) (k.feed.ensures.1 i)) ∙ both_good _ _ _ _ _ _ _ _ (first (second k)).in-Good.is (second k).in-Good-b.is
 
 pub recover_feed_spec : {M : Type 1} → statement M
 recover_feed_spec =

@@ -4,29 +4,29 @@ use borrow.Author.Rules.{rules}
 use Rattle.probe.proofs.call.to_list.Statement.{statement}
 use Rattle.probe.proofs.call.to_list.Tie as tie
 
-enum_told : tie.Need-enum-told
+enum_told : tie.Need-enum_told-1
 enum_told c = search rules
 
-of-bad-form-requires : tie.Need-of-bad-form-requires
+of-bad-form-requires : tie.Need-of_bad_form-requires
 of-bad-form-requires c κs = search rules
 
-enum-known-a : tie.Need-enum-known-a
+enum-known-a : tie.Need-enum_known-a
 enum-known-a c = search rules
 
-to-list-requires : tie.Need-to-list-requires
+to-list-requires : tie.Need-to_list-requires
 to-list-requires c κs = search rules
 
-of-answer-requires : tie.Need-of-answer-requires
+of-answer-requires : tie.Need-of_answer-requires
 of-answer-requires c κs = search rules
 
-returns : tie.Need-returns
-returns c = rw (c.of-bad-form.ensures, c.before.enum_told.given.1)
+returns : tie.Need-returns-in-Bad
+returns c = rw (c.of_bad_form.ensures, c.before.in-Bad.is)
 
-same_length : tie.Need-same-length
+same_length : tie.Need-shape_of-out
 same_length c = search rules
 
-returns-2 : tie.Need-returns-2
-returns-2 c = rw (c.of-answer.ensures, c.before.before.before.to-list.ensures.0, c.before.before.before.to-list.ensures.1, c.before.before.before.before.before.before.a.given.1)
+returns-2 : tie.Need-returns-in-Good
+returns-2 c = rw (c.of_answer.ensures, c.before.before.before.to_list.ensures.0, c.before.before.before.to_list.ensures.1, c.before.before.before.before.before.in-Good.is)
 
 pub to_list_spec : {M : Type 1} → statement M
 to_list_spec =

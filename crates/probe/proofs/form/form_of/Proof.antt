@@ -7,37 +7,37 @@ use Rattle.cells.specs.Probe.{form_of}
 use Rattle.probe.proofs.form.form_of.Statement.{statement}
 use Rattle.probe.proofs.form.form_of.Tie as tie
 
-returns : tie.Need-returns
+returns : tie.Need-returns-in-0
 unfolding form_of
 returns c =
     let k : ℕ = c.before.args.kind in
     rw (eq-eqb k 0 (omega arith))
 
-returns-2 : tie.Need-returns-2
+returns-2 : tie.Need-returns-in-1
 unfolding form_of
 returns-2 c =
     let k : ℕ = c.before.args.kind in
     rw (ne_eqb k 0 (λ e. omega arith), eq-eqb k 1 (omega arith))
 
-returns-3 : tie.Need-returns-3
+returns-3 : tie.Need-returns-in-2
 unfolding form_of
 returns-3 c =
     let k : ℕ = c.before.args.kind in
     rw (ne_eqb k 0 (λ e. omega arith), ne_eqb k 1 (λ e. omega arith), eq-eqb k 2 (omega arith))
 
-returns-4 : tie.Need-returns-4
+returns-4 : tie.Need-returns-in-3
 unfolding form_of
 returns-4 c =
     let k : ℕ = c.before.args.kind in
     rw (ne_eqb k 0 (λ e. omega arith), ne_eqb k 1 (λ e. omega arith), ne_eqb k 2 (λ e. omega arith), eq-eqb k 3 (omega arith))
 
-returns-5 : tie.Need-returns-5
+returns-5 : tie.Need-returns-in-4
 unfolding form_of
 returns-5 c =
     let k : ℕ = c.before.args.kind in
     rw (ne_eqb k 0 (λ e. omega arith), ne_eqb k 1 (λ e. omega arith), ne_eqb k 2 (λ e. omega arith), ne_eqb k 3 (λ e. omega arith), eq-eqb k 4 (omega arith))
 
-returns-6 : tie.Need-returns-6
+returns-6 : tie.Need-returns-in_default
 unfolding form_of
 returns-6 c =
     let k : ℕ = c.before.args.kind in

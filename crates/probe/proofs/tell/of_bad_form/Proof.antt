@@ -10,7 +10,7 @@ use Rattle.probe.proofs.tell.of_bad_form.Tie as tie
 refusal-requires : tie.Need-refusal-requires
 refusal-requires c κs = search rules
 
-of-word-requires : tie.Need-of-word-requires
+of-word-requires : tie.Need-of_word-requires
 of-word-requires c κs = search rules
 
 returns : tie.Need-returns

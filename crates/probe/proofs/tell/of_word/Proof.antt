@@ -6,10 +6,10 @@ use borrow.Author.Rules.{rules}
 use Rattle.probe.proofs.tell.of_word.Statement.{statement}
 use Rattle.probe.proofs.tell.of_word.Tie as tie
 
-cast-t3 : tie.Need-overflow-cast-t3
+cast-t3 : tie.Need-overflow_cast-result
 cast-t3 c = search rules
 
-cast-t4 : tie.Need-overflow-cast-t4
+cast-t4 : tie.Need-overflow_cast-result-2
 cast-t4 c = search rules
 
 returns : tie.Need-returns
