@@ -6,10 +6,10 @@ use native.Mathlib.Nat.{pow-suc, mod-eq_of_lt, mod-lt, zero-lt-suc, one-le-pow, 
 use native.Mathlib.Decide.{ℕ_discrete, dec_le}
 use mathlib.Core.Path.{◌≡◌, refl, sym, ap, ap₂, ◌∙◌}
 use mathlib.Core.Bool.{Bool, true, false}
-use mathlib.Core.List.{List, [], ◌∷◌, ◌++◌, append-nil, append_assoc}
+use mathlib.Core.List.{List, [], ◌∷◌, ◌++◌, append_assoc}
 use native.Mathlib.Omega.{arith}
-use lib.ListN.{length, take, drop, set, length-append, length-drop, drop_of_length-le}
-use lib.Seq.{take_all, take-length, drop-drop}
+use lib.ListN.{length, take, drop, set, length-append}
+use lib.Seq.{drop-drop}
 use borrow.Author.Tests.{lt-ltb, le-ltb}
 use borrow.Rule.Slice.PartMut.{post_of}
 use Rattle.io.specs.Digits.{hex_digit_ascii, IsDigitCount}

@@ -1,10 +1,10 @@
 -- `text::tell::tell_masks` meets its contract: the digits packed, the words that have rows lent, and what they tell.
 -- By what was found, and by the law of packed digits. Assumes nothing.
-use Prim.Native.Nat.{ℕ, ◌+◌, ◌*◌, ◌≤◌}
+use Prim.Native.Nat.{ℕ, ◌+◌}
 use mathlib.Core.Path.{◌≡◌, sym, ap, ap₂, ◌∙◌}
 use mathlib.Core.List.{List}
 use native.Mathlib.Omega.{arith}
-use lib.ListN.{length, drop, take, replicate}
+use lib.ListN.{length, drop, replicate}
 use lib.Seq.{length-take-le}
 use Rattle.rows.specs.Rows.{splice}
 use Rattle.rows.specs.Laid.{words_for}
