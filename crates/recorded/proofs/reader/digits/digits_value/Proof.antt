@@ -4,34 +4,34 @@ use Rattle.std.proofs.Common.{◌-◌, length, rules}
 use Rattle.recorded.proofs.reader.digits.digits_value.Statement.{statement}
 use Rattle.recorded.proofs.reader.digits.digits_value.Tie as tie
 
-abbrev invariant-loop : tie.invariant-loop
+abbrev invariant-loop : tie.invariant-loop-at
 invariant-loop text from value₀ at₀ value at = Unit {0}
 
-abbrev decreases-loop : tie.decreases-loop
+abbrev decreases-loop : tie.decreases-loop-at
 decreases-loop text from value₀ at₀ value at = length text - at
 
-loop-holds : tie.Need-loop-init invariant-loop decreases-loop
+loop-holds : tie.Need-loop-at-init invariant-loop decreases-loop
 loop-holds c = tt
 
-shared-slice-read-digit : tie.Need-shared-slice-read-digit invariant-loop decreases-loop
+shared-slice-read-digit : tie.Need-bounds-text-at invariant-loop decreases-loop
 shared-slice-read-digit c = search rules
 
-digit-requires : tie.Need-digit-requires invariant-loop decreases-loop
+digit-requires : tie.Need-digit-next-requires invariant-loop decreases-loop
 digit-requires c κs = search rules
 
-returns : tie.Need-returns invariant-loop decreases-loop
+returns : tie.Need-returns-then-next-gt15 invariant-loop decreases-loop
 returns c = search rules
 
-add_at : tie.Need-overflow-add-at invariant-loop decreases-loop
+add_at : tie.Need-overflow_add-at invariant-loop decreases-loop
 add_at c = search rules
 
-loop-less : tie.Need-loop-smaller invariant-loop decreases-loop
+loop-less : tie.Need-loop-at-smaller invariant-loop decreases-loop
 loop-less c = search rules
 
-loop-again : tie.Need-loop-preserved invariant-loop decreases-loop
+loop-again : tie.Need-loop-at-preserved invariant-loop decreases-loop
 loop-again c = tt
 
-returns-2 : tie.Need-returns-2 invariant-loop decreases-loop
+returns-2 : tie.Need-returns invariant-loop decreases-loop
 returns-2 c = search rules
 
 pub digits_value_spec : {M : Type 1} → statement M

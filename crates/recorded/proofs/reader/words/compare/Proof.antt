@@ -4,43 +4,43 @@ use Rattle.std.proofs.Common.{rules}
 use Rattle.recorded.proofs.reader.words.compare.Statement.{statement}
 use Rattle.recorded.proofs.reader.words.compare.Tie as tie
 
-abbrev invariant-loop : tie.invariant-loop
+abbrev invariant-loop : tie.invariant-loop-left
 invariant-loop text slice next₀ same₀ at₀ left₀ next same at left = Unit {0}
 
-abbrev decreases-loop : tie.decreases-loop
+abbrev decreases-loop : tie.decreases-loop-left
 decreases-loop text slice next₀ same₀ at₀ left₀ next same at left = left
 
-read-number-requires : tie.Need-read-number-requires invariant-loop decreases-loop
+read-number-requires : tie.Need-read_number-stretches-requires invariant-loop decreases-loop
 read-number-requires c κs = search rules
 
-loop-holds : tie.Need-loop-init invariant-loop decreases-loop
+loop-holds : tie.Need-loop-left-init invariant-loop decreases-loop
 loop-holds c = tt
 
-read-stretch-requires : tie.Need-read-stretch-requires invariant-loop decreases-loop
+read-stretch-requires : tie.Need-read_stretch-stretch-requires invariant-loop decreases-loop
 read-stretch-requires c κs = search rules
 
-follow-requires : tie.Need-follow-requires invariant-loop decreases-loop
+follow-requires : tie.Need-follow-end-requires invariant-loop decreases-loop
 follow-requires c κs = search rules
 
-is-whole-requires : tie.Need-is-whole-requires invariant-loop decreases-loop
+is-whole-requires : tie.Need-is_whole-requires invariant-loop decreases-loop
 is-whole-requires c κs = search rules
 
-returns : tie.Need-returns invariant-loop decreases-loop
+returns : tie.Need-returns-then-not-next invariant-loop decreases-loop
 returns c = search rules
 
-sub-left : tie.Need-overflow-sub-left invariant-loop decreases-loop
+sub-left : tie.Need-overflow_sub-left invariant-loop decreases-loop
 sub-left c = search rules
 
-loop-less : tie.Need-loop-smaller invariant-loop decreases-loop
+loop-less : tie.Need-loop-left-smaller invariant-loop decreases-loop
 loop-less c = search rules
 
-loop-again : tie.Need-loop-preserved invariant-loop decreases-loop
+loop-again : tie.Need-loop-left-preserved invariant-loop decreases-loop
 loop-again c = tt
 
-returns-2 : tie.Need-returns-2 invariant-loop decreases-loop
+returns-2 : tie.Need-returns-then-at-slice invariant-loop decreases-loop
 returns-2 c = search rules
 
-returns-3 : tie.Need-returns-3 invariant-loop decreases-loop
+returns-3 : tie.Need-returns-else-at-slice invariant-loop decreases-loop
 returns-3 c = search rules
 
 pub compare_spec : {M : Type 1} → statement M
