@@ -2,9 +2,8 @@
 ghost use Rattle.std.specs.Prelude.{◌≡◌, ◌≤◌, length, take};
 
 use super::input::{Got, read_all};
-use std::fs;
 use std::rt::Files;
-use std::str;
+use std::{fs, str};
 
 fn unreadable() -> Got
     ensures { result.len ≡ 0 }
