@@ -42,13 +42,7 @@ pub fn probe_select(word: u64, rank: u64, ans: &mut [u64], den: &mut [f64])
 }
 
 // Rank read: 64 bits of lent words.
-pub fn probe_rank_read(
-    words: &[u64],
-    start: u64,
-    offset: u64,
-    ans: &mut [u64],
-    den: &mut [f64],
-)
+pub fn probe_rank_read(words: &[u64], start: u64, offset: u64, ans: &mut [u64], den: &mut [f64])
     ensures { answer_cells ans.new den.new ≡ tells (read_told words.now start offset) (answer_cells ans.old den.old) }
 {
     if !ready(ans.len(), den.len()) {

@@ -60,7 +60,9 @@ pub extern "C" fn probe_to_words(
         ≡ does (to_words_done (given (form_of aform alength astart aclaimed) awords.now arows.now) out.old)
         (memory out.old ans.old den.old) }
 {
-    probe::probe_to_words(aform, alength, astart, aclaimed, awords, arows, out, ans, den);
+    probe::probe_to_words(
+        aform, alength, astart, aclaimed, awords, arows, out, ans, den,
+    );
 }
 
 // Any form to a list.
@@ -80,7 +82,9 @@ pub extern "C" fn probe_to_list(
         ≡ does (to_list_done (given (form_of aform alength astart aclaimed) awords.now arows.now) out.old)
         (memory out.old ans.old den.old) }
 {
-    probe::probe_to_list(aform, alength, astart, aclaimed, awords, arows, out, ans, den);
+    probe::probe_to_list(
+        aform, alength, astart, aclaimed, awords, arows, out, ans, den,
+    );
 }
 
 // Any form to runs: numbers in pairs, and how many runs they are.
@@ -100,7 +104,9 @@ pub extern "C" fn probe_to_runs(
         ≡ does (to_runs_done (given (form_of aform alength astart aclaimed) awords.now arows.now) out.old)
         (memory out.old ans.old den.old) }
 {
-    probe::probe_to_runs(aform, alength, astart, aclaimed, awords, arows, out, ans, den);
+    probe::probe_to_runs(
+        aform, alength, astart, aclaimed, awords, arows, out, ans, den,
+    );
 }
 
 // Composition by rank: a is self, and b the rank mask.
@@ -127,21 +133,8 @@ pub extern "C" fn probe_compose(
         (memory out.old ans.old den.old) }
 {
     probe::probe_compose(
-        aform,
-        alength,
-        astart,
-        aclaimed,
-        awords,
-        arows,
-        bform,
-        blength,
-        bstart,
-        bclaimed,
-        bwords,
-        brows,
-        out,
-        ans,
-        den,
+        aform, alength, astart, aclaimed, awords, arows, bform, blength, bstart, bclaimed, bwords,
+        brows, out, ans, den,
     );
 }
 
@@ -170,22 +163,8 @@ pub extern "C" fn probe_set(
         (memory out.old ans.old den.old) }
 {
     probe::probe_set(
-        which,
-        aform,
-        alength,
-        astart,
-        aclaimed,
-        awords,
-        arows,
-        bform,
-        blength,
-        bstart,
-        bclaimed,
-        bwords,
-        brows,
-        out,
-        ans,
-        den,
+        which, aform, alength, astart, aclaimed, awords, arows, bform, blength, bstart, bclaimed,
+        bwords, brows, out, ans, den,
     );
 }
 
@@ -216,24 +195,8 @@ pub extern "C" fn probe_feed(
         (memory out.old ans.old den.old) }
 {
     probe::probe_feed(
-        done,
-        ranks,
-        kept,
-        aform,
-        alength,
-        astart,
-        aclaimed,
-        awords,
-        arows,
-        bform,
-        blength,
-        bstart,
-        bclaimed,
-        bwords,
-        brows,
-        out,
-        ans,
-        den,
+        done, ranks, kept, aform, alength, astart, aclaimed, awords, arows, bform, blength, bstart,
+        bclaimed, bwords, brows, out, ans, den,
     );
 }
 
@@ -261,21 +224,8 @@ pub extern "C" fn probe_recover(
         (memory out.old ans.old den.old) }
 {
     probe::probe_recover(
-        aform,
-        alength,
-        astart,
-        aclaimed,
-        awords,
-        arows,
-        bform,
-        blength,
-        bstart,
-        bclaimed,
-        bwords,
-        brows,
-        out,
-        ans,
-        den,
+        aform, alength, astart, aclaimed, awords, arows, bform, blength, bstart, bclaimed, bwords,
+        brows, out, ans, den,
     );
 }
 
@@ -306,24 +256,8 @@ pub extern "C" fn probe_recover_feed(
         (memory out.old ans.old den.old) }
 {
     probe::probe_recover_feed(
-        done,
-        ranks,
-        kept,
-        aform,
-        alength,
-        astart,
-        aclaimed,
-        awords,
-        arows,
-        bform,
-        blength,
-        bstart,
-        bclaimed,
-        bwords,
-        brows,
-        out,
-        ans,
-        den,
+        done, ranks, kept, aform, alength, astart, aclaimed, awords, arows, bform, blength, bstart,
+        bclaimed, bwords, brows, out, ans, den,
     );
 }
 
