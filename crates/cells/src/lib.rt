@@ -4,7 +4,7 @@
 use rules::Form;
 
 // The numbers that the cells have, and the density.
-#[derive(Drop)]
+#[derive(Clone, Copy)]
 pub struct Told {
     pub refusal: u64,
     pub operand: u64,
@@ -20,7 +20,7 @@ pub struct Told {
 }
 
 // An operand's form as its number gives it.
-#[derive(Drop)]
+#[derive(Clone, Copy)]
 pub enum Given {
     Good(Form),
     Bad,

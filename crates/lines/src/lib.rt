@@ -5,14 +5,14 @@ use rules::Answer;
 
 // What was written: the answer, and how long the text of its lines is. An output that is shorter than the text has refusal 8 and
 // length 0.
-#[derive(Drop)]
+#[derive(Clone, Copy)]
 pub struct Written {
     pub answer: Answer,
     pub len: usize,
 }
 
 // What an input has: so many digits for self and so many for the rank mask, or no two masks.
-#[derive(Drop)]
+#[derive(Clone, Copy)]
 pub enum Found {
     Masks { s: usize, r: usize },
     Malformed,
