@@ -4,10 +4,9 @@ ghost use Rattle.rules.specs.Operand.{lent};
 ghost use Rattle.rules.specs.SetOps.{row_of, combined, combined_out};
 
 use super::judge::judge_two;
-use operand::inner::answers::refused;
-use rows::Verdict;
+use rows::Refusal;
 use rowwise::inner::answer;
-use rules::{Answer, Form, Operation};
+use rules::{Form, Operation, Summary};
 
 // An operation on two operands, checked.
 pub fn combine(
@@ -19,12 +18,10 @@ pub fn combine(
     bwords: &[u64],
     brows: &[u32],
     out: &mut [u64],
-) -> Answer
+) -> Result<Summary, Refusal>
     ensures { (result ≡ combined (row_of op) (lent a awords.now arows.now) (lent b bwords.now brows.now) out.old)
         × (out.new ≡ combined_out (row_of op) (lent a awords.now arows.now) (lent b bwords.now brows.now) out.old) }
 {
-    match judge_two(a, awords, arows, b, bwords, brows, out.len() as u64) {
-        Verdict::Refused(refusal) => refused(refusal),
-        Verdict::Fine => answer(op, a, awords, b, bwords, out),
-    }
+    judge_two(a, awords, arows, b, bwords, brows, out.len() as u64)?;
+    Ok(answer(op, a, awords, b, bwords, out))
 }

@@ -7,10 +7,9 @@ ghost use Rattle.rules.specs.Operand.{lent};
 
 use combine::combine;
 use judge::judge_one;
-use operand::inner::answers::refused;
-use rows::Verdict;
+use rows::Refusal;
 use rowwise::inner::answer;
-use rules::{Answer, Form, Operation};
+use rules::{Form, Operation, Summary};
 
 mod combine;
 mod judge;
@@ -24,7 +23,7 @@ pub fn and(
     bwords: &[u64],
     brows: &[u32],
     out: &mut [u64],
-) -> Answer
+) -> Result<Summary, Refusal>
     ensures { (result ≡ combined ◌&&◌ (lent a awords.now arows.now) (lent b bwords.now brows.now) out.old)
         × (out.new ≡ combined_out ◌&&◌ (lent a awords.now arows.now) (lent b bwords.now brows.now) out.old) }
 {
@@ -40,7 +39,7 @@ pub fn or(
     bwords: &[u64],
     brows: &[u32],
     out: &mut [u64],
-) -> Answer
+) -> Result<Summary, Refusal>
     ensures { (result ≡ combined ◌||◌ (lent a awords.now arows.now) (lent b bwords.now brows.now) out.old)
         × (out.new ≡ combined_out ◌||◌ (lent a awords.now arows.now) (lent b bwords.now brows.now) out.old) }
 {
@@ -56,7 +55,7 @@ pub fn and_not(
     bwords: &[u64],
     brows: &[u32],
     out: &mut [u64],
-) -> Answer
+) -> Result<Summary, Refusal>
     ensures { (result ≡ combined and_not (lent a awords.now arows.now) (lent b bwords.now brows.now) out.old)
         × (out.new ≡ combined_out and_not (lent a awords.now arows.now) (lent b bwords.now brows.now) out.old) }
 {
@@ -64,12 +63,10 @@ pub fn and_not(
 }
 
 // The rows not in the one operand, which is lent to the loop twice.
-pub fn not(a: Form, awords: &[u64], arows: &[u32], out: &mut [u64]) -> Answer
+pub fn not(a: Form, awords: &[u64], arows: &[u32], out: &mut [u64]) -> Result<Summary, Refusal>
     ensures { (result ≡ negated (lent a awords.now arows.now) out.old)
         × (out.new ≡ negated_out (lent a awords.now arows.now) out.old) }
 {
-    match judge_one(a, awords, arows, out.len() as u64) {
-        Verdict::Refused(refusal) => refused(refusal),
-        Verdict::Fine => answer(Operation::Not, a, awords, a, awords, out),
-    }
+    judge_one(a, awords, arows, out.len() as u64)?;
+    Ok(answer(Operation::Not, a, awords, a, awords, out))
 }

@@ -76,16 +76,17 @@ pub fn entry_bits(entries: &[u32], next: usize, base: u64, n: u64) -> Gathered
     ensures { Gathers base n entries.now result.bits result.next }
 {
     let mut bits: u64 = 0;
-    let mut j = next;
-    while j < entries.len() {
+    for j in next..entries.len() {
         let entry = entries[j] as u64;
         if entry >= base + n {
             return Gathered { bits, next: j };
         }
         bits |= 1u64 << (entry - base);
-        j += 1;
     }
-    Gathered { bits, next: j }
+    Gathered {
+        bits,
+        next: entries.len(),
+    }
 }
 
 // The rank bits of a chunk that has so many rows set, from a rank on: gathered from a list of ranks, whose entries before next are of earlier ranks.
@@ -102,14 +103,7 @@ pub fn rank_bits_for_chunk(ranks: &[u32], next: usize, rank: Rank, set: u64) -> 
 pub fn into_window(base: u64, n: u64, number: u64) -> u64
     ensures { result ≡ into base n number }
 {
-    if number <= base {
-        return 0;
-    }
-    let passed = number - base;
-    if n < passed {
-        return n;
-    }
-    passed
+    number.saturating_sub(base).min(n)
 }
 
 // Which of the n numbers from base on are in a run.
@@ -133,17 +127,19 @@ pub fn run_bits(runs: &[u32], next: usize, base: u64, n: u64) -> Gathered
 {
     let end = base + n;
     let mut bits: u64 = 0;
-    let mut i = next;
-    while i < runs.len() {
+    for i in (next..runs.len()).step_by(2) {
         let first = runs[i] as u64;
         let past = runs[i + 1] as u64;
         bits |= bits_in_run(first, past, base, n);
         if end <= past {
             return Gathered { bits, next: i };
         }
-        i += 2;
     }
-    Gathered { bits, next: i }
+    // a walk may have come past the runs before
+    Gathered {
+        bits,
+        next: next.max(runs.len()),
+    }
 }
 
 // The rank bits of a chunk that has so many rows set, from a rank on: those of runs of ranks, from the run on that the walk has come to.

@@ -14,7 +14,8 @@ use Rattle.operand.specs.Flat.{has_runs}
 use Rattle.operand.proofs.NumberLaws.{list_numbers, accepted_list, list_rows, list_count, accepted_runs, runs_rows, runs_sum}
 use Rattle.marks.specs.Entries.{entries}
 use Rattle.marks.proofs.EntryLaws.{firsts_length, singles_listed, singles_ascending}
-use Rattle.by_route.specs.Fits.{has_long_runs}
+use Rattle.marks.specs.declared.inner.Numbers.{Numbers}
+use Rattle.by_route.specs.Fits.{has_long_runs, numbers_by, numbers_of}
 
 -- its runs
 pub record AsRuns (o : Operand) : Type 0 where
@@ -23,11 +24,11 @@ pub record AsRuns (o : Operand) : Type 0 where
   pub rows : in_runs (length_of o.form) o.numbers ≡ rows_of o
   pub sum : count_of o ≡ run_lengths o.numbers
 
--- its entries, where `single` tells how they lie
-pub record AsEntries (o : Operand) (single : Bool) : Type 0 where
-  pub up : Ascending 0 (length_of o.form) (entries single o.numbers)
-  pub rows : listed (length_of o.form) (entries single o.numbers) ≡ rows_of o
-  pub many : count_of o ≡ length (entries single o.numbers)
+-- its entries, as its numbers tell them
+pub record AsEntries (o : Operand) (numbers : Numbers) : Type 0 where
+  pub up : Ascending 0 (length_of o.form) (entries numbers o.numbers)
+  pub rows : listed (length_of o.form) (entries numbers o.numbers) ≡ rows_of o
+  pub many : count_of o ≡ length (entries numbers o.numbers)
 
 module _ (o : Operand) (count : ℕ) (well : Accepted o) where
   abbrev runs : ℕ
@@ -43,14 +44,14 @@ module _ (o : Operand) (count : ℕ) (well : Accepted o) where
       has : has_runs o.form ≡ true
       has = by (has_runs o.form) (not (eqb count runs)) e
 
-  pub as_entries : counts_as_list o.form ≡ true → count ≡ count_of o → has_long_runs o.form count o.numbers ≡ false → AsEntries o (has_runs o.form)
+  pub as_entries : counts_as_list o.form ≡ true → count ≡ count_of o → has_long_runs o.form count o.numbers ≡ false → AsEntries o (numbers_of o.form)
   as_entries l c e = by (has_runs o.form) refl e
     where
       equal : (x : Bool) → not x ≡ false → x ≡ true
       equal true f = refl
       equal false f = absurd (false≢true (sym f))
 
-      by : (b : Bool) → has_runs o.form ≡ b → (b && not (eqb count runs)) ≡ false → AsEntries o b
+      by : (b : Bool) → has_runs o.form ≡ b → (b && not (eqb count runs)) ≡ false → AsEntries o (numbers_by b)
       by true f g =
           let one = sym (runs_sum o f) ∙ sym c ∙ eqb-true count runs (equal (eqb count runs) g) ∙ sym (firsts_length o.numbers) in
           let a = accepted_runs o f well in

@@ -33,6 +33,7 @@ use Rattle.rules.proofs.ComposeLaws.{ranks_length}
 use Rattle.operand.specs.Flat.{has_row_numbers, has_runs, start_of}
 use Rattle.operand.proofs.NumberLaws.{accepted_list, list_numbers, list_rows, accepted_runs, runs_rows}
 use Rattle.by_route.specs.Fits.{AsList, InWords, Fits, keeps_runs}
+use Rattle.rows.specs.Table.{no_operand}
 
 -- ---- the chosen route's line fits, whatever the factors are
 
@@ -67,7 +68,7 @@ both_same (suc n) e h = false≢true (sym e ∙ ap₂ ◌&&◌ (lt-ltb 0 (suc n)
 pub in_words : (o : Operand) → InWords o → Accepted o → Viewed o
 in_words o w a = let v = by o.form w a in record { rows = v.0; in_view = v.1 }
   where
-    by : (f : Form) → (counts_as_list f ≡ false) × ((ltb 0 (length_of f) && eqb (count_by f o.numbers) (length_of f)) ≡ false) × (eqb (count_by f o.numbers) 0 ≡ false) → Met (checks_by f 0 o)
+    by : (f : Form) → (counts_as_list f ≡ false) × ((ltb 0 (length_of f) && eqb (count_by f o.numbers) (length_of f)) ≡ false) × (eqb (count_by f o.numbers) 0 ≡ false) → Met (checks_by f no_operand o)
         → (rows_by f o ≡ view (start_of f) (length_of f) o.words) × InView (start_of f) (length_of f) o.words
     by (All n) w m = absurd (both_same n w.1 w.2)
     by (None n) w m = absurd (false≢true (sym w.2))
@@ -90,7 +91,7 @@ bare_rows o = by o.form
 pub bare_accepted : (o : Operand) → AsList o → Accepted o → Accepted (lent o.form [] o.numbers)
 bare_accepted o = by o.form
   where
-    by : (f : Form) → counts_as_list f ≡ true → Met (checks_by f 0 o) → Met (checks_by f 0 (lent f [] o.numbers))
+    by : (f : Form) → counts_as_list f ≡ true → Met (checks_by f no_operand o) → Met (checks_by f no_operand (lent f [] o.numbers))
     by (All n) e m = m
     by (None n) e m = m
     by (Words start len claimed) e m = absurd (false≢true e)

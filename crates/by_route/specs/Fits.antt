@@ -6,6 +6,8 @@ use Rattle.rules.specs.declared.Route.{Route}
 use Rattle.rules.specs.declared.Route.TheVariants.{RankMask, SelfMask, NoRows, EntryAtRank, EntryIfSet, MaskDriven, Gathered, Read}
 use Rattle.rules.specs.Operand.{Operand, empty, full, counts_as_list}
 use Rattle.operand.specs.Flat.{has_runs}
+use Rattle.marks.specs.declared.inner.Numbers.{Numbers}
+use Rattle.marks.specs.declared.inner.Numbers.TheVariants.{List as Listed, Runs}
 
 -- a list, or runs, for the route
 abbrev pub AsList : Operand → Type 0
@@ -39,3 +41,11 @@ keeps_runs (Read way) r = has_runs r
 -- runs, of which one at least is longer than a row: they have more rows than they are
 abbrev pub has_long_runs : Form → ℕ → List ℕ → Bool
 has_long_runs s count ns = has_runs s && not (eqb count (length ns / 2))
+
+-- what its numbers are where no run is longer than a row: those of runs, or of a list
+abbrev pub numbers_by : Bool → Numbers
+numbers_by true = Runs
+numbers_by false = Listed
+
+abbrev pub numbers_of : Form → Numbers
+numbers_of s = numbers_by (has_runs s)

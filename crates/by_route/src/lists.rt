@@ -7,10 +7,10 @@ ghost use Rattle.rows.specs.Runs.{in_runs, Apart};
 ghost use Rattle.rows.specs.Laid.{laid};
 ghost use Rattle.rows.specs.Asks.{Room};
 ghost use Rattle.rules.specs.Operand.{lent, rows_of, length_of, count_of, counts_as_list, Accepted};
-ghost use Rattle.by_route.specs.Fits.{has_long_runs};
+ghost use Rattle.by_route.specs.Fits.{has_long_runs, numbers_of};
 
 use kept::inner::lay_entries_by_runs;
-use marks::inner::{lay_entry_at_rank, lay_entry_if_set};
+use marks::inner::{Numbers, lay_entry_at_rank, lay_entry_if_set};
 use operand::inner::forms::{has_runs, length_of};
 use rules::Form;
 use under::inner::{lay_entries_in_runs, lay_ranks_under_runs, lay_runs_in_runs};
@@ -26,6 +26,16 @@ fn has_long_runs(s: Form, count: u64, numbers: &[u32]) -> bool
     false
 }
 
+// What self's numbers are, where no run is longer than a row.
+fn numbers(s: Form) -> Numbers
+    ensures { result ≡ numbers_of s }
+{
+    if has_runs(s) {
+        return Numbers::Runs;
+    }
+    Numbers::List
+}
+
 // Route 4: self is a list, or runs, and the rank mask a list.
 pub fn lay_at_ranks(s: Form, count: u64, srows: &[u32], rrows: &[u32], at: u64, out: &mut [u64])
     requires { Accepted (lent s [] srows.now) × (counts_as_list s ≡ true) × (count ≡ count_of (lent s [] srows.now))
@@ -37,7 +47,7 @@ pub fn lay_at_ranks(s: Form, count: u64, srows: &[u32], rrows: &[u32], at: u64, 
         lay_entries_in_runs(srows, rrows, count, len, at, out);
         return;
     }
-    lay_entry_at_rank(srows, has_runs(s), rrows, len, at, out);
+    lay_entry_at_rank(srows, numbers(s), rrows, len, at, out);
 }
 
 // Route 5: self is a list, or runs, and the rank mask words.
@@ -59,7 +69,7 @@ pub fn lay_if_set(
         lay_ranks_under_runs(srows, rwords, from, len, at, out);
         return;
     }
-    lay_entry_if_set(srows, has_runs(s), rwords, from, len, at, out);
+    lay_entry_if_set(srows, numbers(s), rwords, from, len, at, out);
 }
 
 // Self is a list, or runs, and the rank mask runs.
@@ -73,5 +83,5 @@ pub fn keep_in_list(s: Form, count: u64, srows: &[u32], rruns: &[u32], at: u64, 
         lay_runs_in_runs(srows, rruns, len, at, out);
         return;
     }
-    lay_entries_by_runs(srows, has_runs(s), rruns, len, at, out);
+    lay_entries_by_runs(srows, numbers(s), rruns, len, at, out);
 }

@@ -1,2 +1,2 @@
-pub mod TellLaws
+pub mod OutsideLaws
 pub mod Theorems

@@ -1,32 +1,27 @@
 -- What is right of a call of the C boundary: what it tells, cell by cell, and what it leaves of the memory that is lent to it. Each call
 -- tells what the entry point's own definition says.
 -- Assumes nothing.
-use Rattle.std.specs.Prelude.{ℕ, Bool, cond, ◌&&◌, ◌||◌, List, [], ◌∷◌, ◌++◌, leb, eqb, Float, length, drop}
-use Rattle.std.proofs.Math.Option.{Option, none, some}
+use Rattle.std.specs.Prelude.{ℕ, Bool, cond, ◌&&◌, ◌||◌, List, [], ◌∷◌, ◌++◌, leb, eqb, Float, length, drop, Option, Some, None, Result}
 use Rattle.rows.specs.declared.Refusal.{Refusal}
-use Rattle.rows.specs.Table.{refusal}
-use Rattle.rows.specs.WordAnswer.{deposited, selected, rank_read}
-use Rattle.rules.specs.declared.Answer.{Answer}
-use Rattle.rules.specs.declared.Form.TheVariants.{All, None, Words, List as Listed, Runs}
+use Rattle.rows.specs.Table.{number_told, operand_told, row_told}
+use Rattle.rows.specs.WordAnswer.{deposited, selected, rank_read, value_told}
+use Rattle.rules.specs.declared.Form.{Form}
+use Rattle.rules.specs.declared.Form.TheVariants.{All, None as NoRows, Words, List as Listed, Runs}
 use Rattle.rules.specs.declared.State.{State}
 use Rattle.rules.specs.declared.Fed.{Fed}
-use Rattle.rules.specs.declared.Recovered.{Recovered}
 use Rattle.rules.specs.declared.RecoveryState.{RecoveryState}
-use Rattle.rules.specs.declared.RecoveryFed.{RecoveryFed}
 use Rattle.rules.specs.declared.Written.{Written as InRuns}
 use Rattle.rules.specs.Operand.{Operand, lent}
-use Rattle.rules.specs.Answer.{no_density}
-use Rattle.rules.specs.Convert.{to_words, to_words_out, to_list, to_list_out, to_runs, to_runs_out}
+use Rattle.rules.specs.Answer.{Answer, no_density, summary_told}
+use Rattle.rules.specs.Convert.{to_words, to_words_out, to_list, to_list_out, to_runs, to_runs_out, answer_of, runs_told as runs_number}
 use Rattle.rules.specs.SetOps.{and_not, combined, combined_out, negated, negated_out}
-use Rattle.rules.specs.Route.{published}
+use Rattle.rules.specs.Route.{published, route_number}
 use Rattle.rules.specs.Compose.{composed, composed_out}
 use Rattle.rules.specs.Stream.{pair_of, fed, fed_out}
 use Rattle.rules.specs.Recover.{recovered, recovered_out}
 use Rattle.rules.specs.RecoverStream.{masks_of, fed as recoveryFed, fed_out as recoveryFedOut}
 use Rattle.lines.specs.declared.Written.{Written}
 use Rattle.lines.specs.Text.{written_for, text_out}
-use Rattle.cells.specs.declared.Given.{Given}
-use Rattle.cells.specs.declared.Given.TheVariants.{Good, Bad}
 use Rattle.cells.specs.declared.Told.{Told}
 
 -- ---- the answer, into `ans` and `den`
@@ -98,14 +93,14 @@ does d m = cond (ready m.answer) (record { out = d.out; answer = over d.told m.a
 -- ---- what is told: a cell that a call does not speak of is 0
 
 -- a word or a position
-abbrev pub word_told : Refusal → ℕ → Told
-word_told r word =
+abbrev pub word_told : Result ℕ Refusal → Told
+word_told r =
     record {
-      refusal = r.number;
-      operand = r.operand;
+      refusal = number_told r;
+      operand = operand_told r;
       count = 0;
       route = 0;
-      word = word;
+      word = value_told r;
       done = 0;
       ranks = 0;
       kept = 0;
@@ -114,68 +109,77 @@ word_told r word =
       density = no_density;
     }
 
--- an answer, a state's three numbers, a row outside self, and how many bytes or runs were written
-abbrev pub state_told : Answer → ℕ → ℕ → ℕ → ℕ → ℕ → Told
-state_told a done ranks kept outside number =
+-- an answer with the row outside self that 17 has, a state's three numbers, and how many bytes or runs were written
+abbrev pub state_told : Answer → ℕ → ℕ → ℕ → ℕ → Told
+state_told a done ranks kept number =
     record {
-      refusal = a.refusal.number;
-      operand = a.refusal.operand;
-      count = a.summary.count;
-      route = a.summary.route;
+      refusal = number_told a;
+      operand = operand_told a;
+      count = (summary_told a).count;
+      route = route_number (summary_told a).route;
       word = 0;
       done = done;
       ranks = ranks;
       kept = kept;
-      outside = outside;
+      outside = row_told a;
       number = number;
-      density = a.summary.density;
+      density = (summary_told a).density;
     }
 
 abbrev pub answer_told : Answer → Told
-answer_told a = state_told a 0 0 0 0 0
+answer_told a = state_told a 0 0 0 0
 
-abbrev pub fed_told : Fed → Told
-fed_told f = state_told f.answer f.state.done.0 f.state.ranks.0 f.state.kept 0 0
+abbrev pub fed_told : Fed State → Told
+fed_told f = state_told f.answer f.state.done.0 f.state.ranks.0 f.state.kept 0
 
--- the first row outside self too, which is 0 without 17
-abbrev pub recovered_told : Recovered → Told
-recovered_told r = state_told r.answer 0 0 0 r.outside.0 0
-
-abbrev pub recovery_fed_told : RecoveryFed → Told
-recovery_fed_told f = state_told f.answer f.state.done.0 f.state.ranks.0 f.state.kept f.outside.0 0
+abbrev pub recovery_fed_told : Fed RecoveryState → Told
+recovery_fed_told r = state_told r.answer r.state.done.0 r.state.ranks.0 r.state.kept 0
 
 -- the answer that the lines tell, and how many bytes they are
 abbrev pub written_told : Written → Told
-written_told w = state_told w.answer 0 0 0 0 w.len
+written_told w = state_told w.answer 0 0 0 w.len
 
 -- the answer of the writer of runs, and how many they are
-abbrev pub runs_told : InRuns → Told
-runs_told w = state_told w.answer 0 0 0 0 w.runs
+abbrev pub runs_told : Result InRuns Refusal → Told
+runs_told w = state_told (answer_of w) 0 0 0 (runs_number w)
 
 -- ---- an operand's form: 0 all, 1 none, 2 words, 3 list, 4 runs; any other number is bad
 
 -- start and claimed are of words alone
-unfoldable pub form_of : ℕ → ℕ → ℕ → ℕ → Given
+unfoldable pub form_of : ℕ → ℕ → ℕ → ℕ → Option Form
 form_of kind length start claimed =
-    cond (eqb kind 0) (Good (All length))
-    (cond (eqb kind 1) (Good (None length))
-    (cond (eqb kind 2) (Good (Words start length claimed))
-    (cond (eqb kind 3) (Good (Listed length))
-    (cond (eqb kind 4) (Good (Runs length)) Bad))))
+    cond (eqb kind 0) (Some (All length))
+    (cond (eqb kind 1) (Some (NoRows length))
+    (cond (eqb kind 2) (Some (Words start length claimed))
+    (cond (eqb kind 3) (Some (Listed length))
+    (cond (eqb kind 4) (Some (Runs length)) None))))
 
--- a bad form: 99 in cell 0, 0 in all others, density 0.0
+-- a bad form: 99 in cell 0, 0 in all others, density 0.0. It is no refusal of a table
 abbrev pub bad_told : Told
-bad_told = word_told (refusal 99 0) 0
+bad_told =
+    record {
+      refusal = 99;
+      operand = 0;
+      count = 0;
+      route = 0;
+      word = 0;
+      done = 0;
+      ranks = 0;
+      kept = 0;
+      outside = 0;
+      number = 0;
+      density = no_density;
+    }
 
 -- an operand as it comes in: a good form with what is lent beside it, and none where the form is bad
-abbrev pub given : Given → List ℕ → List ℕ → Option Operand
-given (Good f) ws es = some (lent f ws es)
-given Bad ws es = none
+abbrev pub given : Option Form → List ℕ → List ℕ → Option Operand
+given (Some f) ws es = Some (lent f ws es)
+given None ws es = None
 
 -- the call of the operand, or a bad one told, and no other memory changes
 abbrev pub if_good : Option Operand → (Operand → Done) → List ℕ → Done
-if_good (some o) call out = call o
-if_good none call out = ended bad_told out
+if_good (Some o) call out = call o
+if_good None call out = ended bad_told out
 
 -- the same of two operands, also where the call ignores one
 abbrev pub if_both : Option Operand → Option Operand → (Operand → Operand → Done) → List ℕ → Done
@@ -185,13 +189,13 @@ if_both a b call out = if_good a (λ x. if_good b (λ y. call x y) out) out
 
 -- by any way
 abbrev pub deposit_told : ℕ → ℕ → ℕ → Told
-deposit_told source mask claimed = word_told (deposited source mask claimed).refusal (deposited source mask claimed).word
+deposit_told source mask claimed = word_told (deposited source mask claimed)
 
 abbrev pub select_told : ℕ → ℕ → Told
-select_told word rank = word_told (selected word rank).refusal (selected word rank).position
+select_told word rank = word_told (selected word rank)
 
 abbrev pub read_told : List ℕ → ℕ → ℕ → Told
-read_told words start offset = word_told (rank_read words start offset).refusal (rank_read words start offset).word
+read_told words start offset = word_told (rank_read words start offset)
 
 abbrev pub to_words_done : Option Operand → List ℕ → Done
 to_words_done a out = if_good a (λ x. ended (answer_told (to_words x out)) (to_words_out x out)) out
@@ -221,7 +225,7 @@ abbrev pub feed_done : State → Option Operand → Option Operand → List ℕ 
 feed_done st a b out = if_both a b (λ x y. ended (fed_told (fed st (pair_of x y) out)) (fed_out st (pair_of x y) out)) out
 
 abbrev pub recover_done : Option Operand → Option Operand → List ℕ → Done
-recover_done a b out = if_both a b (λ x y. ended (recovered_told (recovered x y out)) (recovered_out x y out)) out
+recover_done a b out = if_both a b (λ x y. ended (answer_told (recovered x y out)) (recovered_out x y out)) out
 
 -- the state after it, as given where it is refused
 abbrev pub recover_feed_done : RecoveryState → Option Operand → Option Operand → List ℕ → Done

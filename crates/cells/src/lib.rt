@@ -1,8 +1,6 @@
 // The C boundary for tests, no code: what a call tells, cell by cell, and what it leaves of the memory lent to it. include/probe.h says it in C.
 #![tactic(auto)]
 
-use rules::Form;
-
 // The numbers that the cells have, and the density.
 #[derive(Clone, Copy)]
 pub struct Told {
@@ -17,11 +15,4 @@ pub struct Told {
     pub outside: u64,
     pub number: u64,
     pub density: f64,
-}
-
-// An operand's form as its number gives it.
-#[derive(Clone, Copy)]
-pub enum Given {
-    Good(Form),
-    Bad,
 }

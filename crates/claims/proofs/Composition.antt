@@ -12,7 +12,7 @@ use borrow.Fn.Kinds.{Dens, res_t, ended_of}
 use denote.Triple.Clauses.{Lasts, at_exit}
 use Rattle.rows.specs.declared.Refusal.{Refusal}
 use Rattle.rows.specs.Rows.{rank_at}
-use Rattle.rules.specs.declared.Answer.{Answer}
+use Rattle.rules.specs.Answer.{Answer}
 use Rattle.rules.specs.Operand.{Operand, lent, rows_of, length_of}
 use Rattle.rules.specs.Route.{published}
 use Rattle.rules.specs.Compose.{routed, composed_out}
@@ -25,6 +25,9 @@ use Rattle.intersect_by_rank.proofs.inner.compose.compose_with.Reads as with-rea
 use Rattle.intersect_by_rank.proofs.intersect_by_rank.Kinds as kinds
 use Rattle.intersect_by_rank.proofs.intersect_by_rank.Reads as reads
 use Rattle.claims.proofs.Densities.{written_nearest}
+use Rattle.rows.specs.Table.{number_told}
+use Rattle.rules.specs.Answer.{summary_told}
+use Rattle.std.specs.Prelude.{Err}
 
 module _ (κs : Lfts 5) (a : Dens κs kinds.ps) (x : (res_t kinds.r κs).Denot) (v : Lasts (ended_of 5 kinds.ps kinds.r) κs a) (allowed : reads.Post κs a x (at_exit (ended_of 5 kinds.ps kinds.r) κs a v)) where
   abbrev s : Operand
@@ -43,15 +46,15 @@ module _ (κs : Lfts 5) (a : Dens κs kinds.ps) (x : (res_t kinds.r κs).Denot) 
   after = v.1.1.1.1.1.1.0
 
   -- each refusal, its number and its operand, exactly when document 01 says, in its order
-  pub refuses_exactly : (x : Refusal) → zero < x.number → (answer.refusal ≡ x) ↔ Refuses s r (length out) x
+  pub refuses_exactly : (x : Refusal) → (answer ≡ Err x) ↔ Refuses s r (length out) x
   refuses_exactly = rw allowed.0 (composed_refuses s r published out)
 
   -- accepted exactly otherwise
-  pub accepts_exactly : (answer.refusal.number ≡ 0) ↔ Accepts s r (length out)
+  pub accepts_exactly : ((number_told answer) ≡ 0) ↔ Accepts s r (length out)
   accepts_exactly = rw allowed.0 (composed_accepts s r published out)
 
   -- a refusal changes no lent word, and reports count 0, route 0 and density 0.0
-  pub refused_changes_nothing : answer.refusal.number ≢ 0 → (after ≡ out) × Bare answer
+  pub refused_changes_nothing : (number_told answer) ≢ 0 → (after ≡ out) × Bare answer
   refused_changes_nothing = rw (allowed.0, allowed.1) (composed_refused s r published out)
 
   -- accepted: the rows, the count of the rows written, the route of the table, the density, the tail and the later words
@@ -59,7 +62,7 @@ module _ (κs : Lfts 5) (a : Dens κs kinds.ps) (x : (res_t kinds.r κs).Denot) 
   accepted_writes = rw (allowed.0, allowed.1) (composed_writes s r published out)
 
   -- the density told is the value of the format nearest to the told count over self's length
-  pub accepted_density : Accepts s r (length out) → 0 < length_of s.form → Nearest answer.summary.count (length_of s.form) answer.summary.density
+  pub accepted_density : Accepts s r (length out) → 0 < length_of s.form → Nearest (summary_told answer).count (length_of s.form) (summary_told answer).density
   accepted_density t = written_nearest (accepted_writes t)
 
   -- row i of the result is set exactly if self has i and the rank mask has i's rank

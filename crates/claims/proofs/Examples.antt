@@ -7,15 +7,12 @@ use mathlib.Core.List.{List, [], ◌∷◌}
 use contract.Lifetimes.{Lfts}
 use borrow.Fn.Kinds.{Dens, ended_of}
 use denote.Triple.Clauses.{Lasts, at_exit}
-use Rattle.rows.specs.declared.Deposited.{Deposited}
-use Rattle.rows.specs.declared.Read.{Read}
-use Rattle.rows.specs.declared.Selected.{Selected}
 use Rattle.rows.specs.Rows.{count}
 use Rattle.rows.specs.Word.{bits_of}
-use Rattle.rows.specs.Table.{refusal, no_refusal}
-use Rattle.rows.specs.WordAnswer.{deposit_answer, select_answer, read_answer, deposited, selected, rank_read}
-use Rattle.rules.specs.declared.Answer.{Answer}
-use Rattle.rules.specs.Answer.{answer}
+use Rattle.rows.specs.Table.{refusal}
+use Rattle.rows.specs.WordAnswer.{deposited, selected, rank_read}
+use Rattle.rules.specs.Answer.{Answer}
+use Rattle.rules.specs.Answer.{summary}
 use Rattle.rules.specs.Operand.{Operand, lent}
 use Rattle.rules.specs.Route.{published}
 use Rattle.rules.specs.Compose.{composed, composed_out}
@@ -32,11 +29,15 @@ use Rattle.lent.proofs.rank_read.Reads as reads
 use Rattle.intersect_by_rank.proofs.intersect_by_rank.Kinds as compose-kinds
 use Rattle.intersect_by_rank.proofs.intersect_by_rank.Reads as compose-reads
 use Rattle.claims.proofs.Streams.{Calls, calls_run}
+use Rattle.rows.specs.declared.Reason.TheVariants.{StartOver63, NoSuchRank}
+use Rattle.rows.specs.Table.{no_operand}
+use Rattle.rows.specs.declared.Refusal.{Refusal}
+use Rattle.std.specs.Prelude.{Result, Some, Ok, Err}
 
 -- ---- an answer that a contract allows
 
 -- to a source, a mask and the mask's own count
-pub record Deposits (source mask : ℕ) (x : Deposited) : Type 1 where
+pub record Deposits (source mask : ℕ) (x : Result ℕ Refusal) : Type 1 where
   pub κs : Lfts 0
   pub args : Dens κs deposit-kinds.ps
   pub lasts : Lasts (ended_of 0 deposit-kinds.ps deposit-kinds.r) κs args
@@ -46,7 +47,7 @@ pub record Deposits (source mask : ℕ) (x : Deposited) : Type 1 where
   pub claimed_is : args.1.1.0 ≡ count (bits_of 64 mask)
 
 -- to a word and a rank
-pub record Selects (n rank : ℕ) (x : Selected) : Type 1 where
+pub record Selects (n rank : ℕ) (x : Result ℕ Refusal) : Type 1 where
   pub κs : Lfts 0
   pub args : Dens κs select-kinds.ps
   pub lasts : Lasts (ended_of 0 select-kinds.ps select-kinds.r) κs args
@@ -55,7 +56,7 @@ pub record Selects (n rank : ℕ) (x : Selected) : Type 1 where
   pub rank_is : args.1.0 ≡ rank
 
 -- to lent words, a start and an offset
-pub record Reads (words : List ℕ) (start offset : ℕ) (x : Read) : Type 1 where
+pub record Reads (words : List ℕ) (start offset : ℕ) (x : Result ℕ Refusal) : Type 1 where
   pub κs : Lfts 1
   pub args : Dens κs read-kinds.ps
   pub lasts : Lasts (ended_of 1 read-kinds.ps read-kinds.r) κs args
@@ -78,17 +79,17 @@ pub record Composes (s r : Operand) (out : List ℕ) (x : Answer) (after : List 
 -- ---- the examples of such answers
 
 abbrev pub WordHolds : word-examples.Case → Type 1
-WordHolds (word-examples.deposits s m w) = (x : Deposited) → Deposits s m x → x ≡ deposit_answer no_refusal w
-WordHolds (word-examples.takes m w) = (s : ℕ) → s < 2 ^ 64 → (x : Deposited) → Deposits s m x → x ≡ deposit_answer no_refusal (w s)
-WordHolds (word-examples.selects n r p) = (x : Selected) → Selects n r x → x ≡ select_answer no_refusal p
-WordHolds (word-examples.refuses n r) = (x : Selected) → Selects n r x → x ≡ select_answer (refusal 9 0) 0
+WordHolds (word-examples.deposits s m w) = (x : Result ℕ Refusal) → Deposits s m x → x ≡ Ok w
+WordHolds (word-examples.takes m w) = (s : ℕ) → s < 2 ^ 64 → (x : Result ℕ Refusal) → Deposits s m x → x ≡ Ok (w s)
+WordHolds (word-examples.selects n r p) = (x : Result ℕ Refusal) → Selects n r x → x ≡ Ok p
+WordHolds (word-examples.refuses n r) = (x : Result ℕ Refusal) → Selects n r x → x ≡ Err (refusal NoSuchRank no_operand)
 
 abbrev pub ReadHolds : read-examples.Case → Type 1
-ReadHolds (read-examples.reads ws s o w) = (x : Read) → Reads ws s o x → x ≡ read_answer no_refusal w
-ReadHolds (read-examples.refuses ws s o) = (x : Read) → Reads ws s o x → x ≡ read_answer (refusal 2 0) 0
+ReadHolds (read-examples.reads ws s o w) = (x : Result ℕ Refusal) → Reads ws s o x → x ≡ Ok w
+ReadHolds (read-examples.refuses ws s o) = (x : Result ℕ Refusal) → Reads ws s o x → x ≡ Err (refusal StartOver63 no_operand)
 
 abbrev pub CompositionHolds : Case → Type 1
-CompositionHolds (gives s r n) = (x : Answer) (after : List ℕ) → Composes s r before x after → (x ≡ answer no_refusal 2 n quarter) × (after ≡ 66 ∷ 7 ∷ [])
+CompositionHolds (gives s r n) = (x : Answer) (after : List ℕ) → Composes s r before x after → (x ≡ Ok (summary 2 (Some n) quarter)) × (after ≡ 66 ∷ 7 ∷ [])
 
 abbrev pub StreamHolds : Fed → Type 1
 StreamHolds (feeds one two n m) = (t : Run) → Calls fresh before (one ∷ two ∷ []) t → t ≡ record { answers = keeps_one n ∷ keeps_one m ∷ []; state = state_of 8 5 2; out = (2 ^ 64 - 256 + 66) ∷ 7 ∷ [] }
@@ -105,13 +106,13 @@ AllHold (e ∷ es) = HoldsOfCalls e × AllHold es
 
 -- ---- from the definitions to the calls
 
-deposits_are : {s m : ℕ} {x : Deposited} → Deposits s m x → x ≡ deposited s m (count (bits_of 64 m))
+deposits_are : {s m : ℕ} {x : Result ℕ Refusal} → Deposits s m x → x ≡ deposited s m (count (bits_of 64 m))
 deposits_are d = rw (← d.source_is, ← d.claimed_is, ← d.mask_is) d.allowed
 
-selects_are : {n r : ℕ} {x : Selected} → Selects n r x → x ≡ selected n r
+selects_are : {n r : ℕ} {x : Result ℕ Refusal} → Selects n r x → x ≡ selected n r
 selects_are d = rw (← d.word_is, ← d.rank_is) d.allowed
 
-reads_are : {ws : List ℕ} {s o : ℕ} {x : Read} → Reads ws s o x → x ≡ rank_read ws s o
+reads_are : {ws : List ℕ} {s o : ℕ} {x : Result ℕ Refusal} → Reads ws s o x → x ≡ rank_read ws s o
 reads_are d = rw (← d.words_are, ← d.start_is, ← d.offset_is) d.allowed
 
 word_carried : (c : word-examples.Case) → word-examples.Holds c → WordHolds c

@@ -106,8 +106,6 @@ use Rattle.operand.proofs.inner.answers.density.Kinds as operand-density-kinds
 use Rattle.operand.proofs.inner.answers.density.Reads as operand-density
 use Rattle.operand.proofs.inner.answers.accepted.Kinds as operand-accepted-kinds
 use Rattle.operand.proofs.inner.answers.accepted.Reads as operand-accepted
-use Rattle.operand.proofs.inner.answers.refused.Kinds as operand-refused-kinds
-use Rattle.operand.proofs.inner.answers.refused.Reads as operand-refused
 use Rattle.network.proofs.inner.counts_of_bytes.Kinds as network-counts-of-bytes-kinds
 use Rattle.network.proofs.inner.counts_of_bytes.Reads as network-counts-of-bytes
 use Rattle.places.proofs.inner.place_in.Kinds as places-place-in-kinds
@@ -124,24 +122,12 @@ use Rattle.word.proofs.inner.select_bit_position.Kinds as word-select-bit-positi
 use Rattle.word.proofs.inner.select_bit_position.Reads as word-select-bit-position
 use Rattle.rows.proofs.inner.verdicts.refusal.Kinds as rows-refusal-kinds
 use Rattle.rows.proofs.inner.verdicts.refusal.Reads as rows-refusal
-use Rattle.rows.proofs.inner.verdicts.no_refusal.Kinds as rows-no-refusal-kinds
-use Rattle.rows.proofs.inner.verdicts.no_refusal.Reads as rows-no-refusal
-use Rattle.rows.proofs.inner.verdicts.refuse.Kinds as rows-refuse-kinds
-use Rattle.rows.proofs.inner.verdicts.refuse.Reads as rows-refuse
 use Rattle.rows.proofs.inner.verdicts.at_most.Kinds as rows-at-most-kinds
 use Rattle.rows.proofs.inner.verdicts.at_most.Reads as rows-at-most
 use Rattle.rows.proofs.inner.verdicts.has_room.Kinds as rows-has-room-kinds
 use Rattle.rows.proofs.inner.verdicts.has_room.Reads as rows-has-room
 use Rattle.rows.proofs.inner.verdicts.equal.Kinds as rows-equal-kinds
 use Rattle.rows.proofs.inner.verdicts.equal.Reads as rows-equal
-use Rattle.rows.proofs.inner.verdicts.then.Kinds as rows-then-kinds
-use Rattle.rows.proofs.inner.verdicts.then.Reads as rows_then
-use Rattle.rows.proofs.inner.answers.deposit_answer.Kinds as rows-deposit-answer-kinds
-use Rattle.rows.proofs.inner.answers.deposit_answer.Reads as rows-deposit-answer
-use Rattle.rows.proofs.inner.answers.select_answer.Kinds as rows-select-answer-kinds
-use Rattle.rows.proofs.inner.answers.select_answer.Reads as rows-select-answer
-use Rattle.rows.proofs.inner.answers.read_answer.Kinds as rows-read-answer-kinds
-use Rattle.rows.proofs.inner.answers.read_answer.Reads as rows-read-answer
 use Rattle.word.proofs.inner.deposit_by.Kinds as word-deposit-by-kinds
 use Rattle.word.proofs.inner.deposit_by.Reads as word-deposit-by
 use Rattle.operand.proofs.inner.forms.counts_as_list.Kinds as operand-counts-as-list-kinds
@@ -168,14 +154,14 @@ use Rattle.fills.proofs.inner.lay.lay_run.Kinds as fills-lay-run-kinds
 use Rattle.fills.proofs.inner.lay.lay_run.Reads as fills-lay-run
 use Rattle.mask.proofs.inner.answers.own_answer.Kinds as mask-own-answer-kinds
 use Rattle.mask.proofs.inner.answers.own_answer.Reads as mask-own-answer
-use Rattle.mask.proofs.inner.answers.no_runs.Kinds as mask-no-runs-kinds
-use Rattle.mask.proofs.inner.answers.no_runs.Reads as mask-no-runs
 use Rattle.mask.proofs.inner.runs.count_runs.Kinds as mask-count-runs-kinds
 use Rattle.mask.proofs.inner.runs.count_runs.Reads as mask-count-runs
 use Rattle.mask.proofs.inner.runs.write_runs.Kinds as mask-write-runs-kinds
 use Rattle.mask.proofs.inner.runs.write_runs.Reads as mask-write-runs
 use Rattle.operand.proofs.inner.checks.run_fits.Kinds as operand-run-fits-kinds
 use Rattle.operand.proofs.inner.checks.run_fits.Reads as operand-run-fits
+use Rattle.operand.proofs.inner.states.judge_state.Kinds as operand-judge-state-kinds
+use Rattle.operand.proofs.inner.states.judge_state.Reads as operand-judge-state
 use Rattle.turns.proofs.inner.sum_runs.Kinds as turns-sum-runs-kinds
 use Rattle.turns.proofs.inner.sum_runs.Reads as turns-sum-runs
 use Rattle.fills.proofs.inner.lay.set_run.Kinds as fills-set-run-kinds
@@ -194,8 +180,6 @@ use Rattle.laid.proofs.inner.lay_same.Kinds as laid-lay-same-kinds
 use Rattle.laid.proofs.inner.lay_same.Reads as laid-lay-same
 use Rattle.laid.proofs.inner.fill.Kinds as laid-fill-kinds
 use Rattle.laid.proofs.inner.fill.Reads as laid-fill
-use Rattle.operand.proofs.inner.counts.tell.Kinds as operand-tell-kinds
-use Rattle.operand.proofs.inner.counts.tell.Reads as operand-tell
 use Rattle.operand.proofs.inner.forms.has_runs.Kinds as operand-has-runs-kinds
 use Rattle.operand.proofs.inner.forms.has_runs.Reads as operand-has-runs
 use Rattle.turns.proofs.inner.count_turns.Kinds as turns-count-turns-kinds
@@ -208,6 +192,18 @@ use Rattle.turns.proofs.inner.count_list_turns.Kinds as count-list-turns-kinds
 use Rattle.turns.proofs.inner.count_list_turns.Reads as count-list-turns
 use Rattle.turns.proofs.inner.write_list_turns.Kinds as write-list-turns-kinds
 use Rattle.turns.proofs.inner.write_list_turns.Reads as write-list-turns
+use Rattle.rows.proofs.inner.verdicts.refusal_of.Kinds as rows-refusal-of-kinds
+use Rattle.rows.proofs.inner.verdicts.refusal_of.Reads as rows-refusal-of
+use Rattle.rows.proofs.inner.numbers.number.Kinds as rows-number-kinds
+use Rattle.rows.proofs.inner.numbers.number.Reads as rows-number
+use Rattle.rows.proofs.inner.numbers.operand_number.Kinds as rows-operand-number-kinds
+use Rattle.rows.proofs.inner.numbers.operand_number.Reads as rows-operand-number
+use Rattle.rows.proofs.inner.numbers.row_of.Kinds as rows-row-of-kinds
+use Rattle.rows.proofs.inner.numbers.row_of.Reads as rows-row-of
+use Rattle.rows.proofs.inner.numbers.numbers.Kinds as rows-numbers-kinds
+use Rattle.rows.proofs.inner.numbers.numbers.Reads as rows-numbers
+use Rattle.operand.proofs.inner.answers.summary_told.Kinds as operand-summary-told-kinds
+use Rattle.operand.proofs.inner.answers.summary_told.Reads as operand-summary-told
 
 pub books_self_chunk_one : OneAnswer 1 books-self-chunk-kinds.ps books-self-chunk-kinds.r books-self-chunk.Pre books-self-chunk.Post
 books_self_chunk_one κs a p x y v w hv hw = (hv ∙ sym hw, refl)
@@ -362,9 +358,6 @@ operand_density_one κs a p x y v w hv hw = (hv ∙ sym hw, refl)
 pub operand_accepted_one : OneAnswer 0 operand-accepted-kinds.ps operand-accepted-kinds.r operand-accepted.Pre operand-accepted.Post
 operand_accepted_one κs a p x y v w hv hw = (hv ∙ sym hw, refl)
 
-pub operand_refused_one : OneAnswer 0 operand-refused-kinds.ps operand-refused-kinds.r operand-refused.Pre operand-refused.Post
-operand_refused_one κs a p x y v w hv hw = (hv ∙ sym hw, refl)
-
 pub network_counts_of_bytes_one : OneAnswer 0 network-counts-of-bytes-kinds.ps network-counts-of-bytes-kinds.r network-counts-of-bytes.Pre network-counts-of-bytes.Post
 network_counts_of_bytes_one κs a p x y v w hv hw = (hv ∙ sym hw, refl)
 
@@ -389,12 +382,6 @@ word_select_bit_position_one κs a p x y v w hv hw = (hv ∙ sym hw, refl)
 pub rows_refusal_one : OneAnswer 0 rows-refusal-kinds.ps rows-refusal-kinds.r rows-refusal.Pre rows-refusal.Post
 rows_refusal_one κs a p x y v w hv hw = (hv ∙ sym hw, refl)
 
-pub rows_no_refusal_one : OneAnswer 0 rows-no-refusal-kinds.ps rows-no-refusal-kinds.r rows-no-refusal.Pre rows-no-refusal.Post
-rows_no_refusal_one κs a p x y v w hv hw = (hv ∙ sym hw, refl)
-
-pub rows_refuse_one : OneAnswer 0 rows-refuse-kinds.ps rows-refuse-kinds.r rows-refuse.Pre rows-refuse.Post
-rows_refuse_one κs a p x y v w hv hw = (hv ∙ sym hw, refl)
-
 pub rows_at_most_one : OneAnswer 0 rows-at-most-kinds.ps rows-at-most-kinds.r rows-at-most.Pre rows-at-most.Post
 rows_at_most_one κs a p x y v w hv hw = (hv ∙ sym hw, refl)
 
@@ -403,18 +390,6 @@ rows_has_room_one κs a p x y v w hv hw = (hv ∙ sym hw, refl)
 
 pub rows_equal_one : OneAnswer 0 rows-equal-kinds.ps rows-equal-kinds.r rows-equal.Pre rows-equal.Post
 rows_equal_one κs a p x y v w hv hw = (hv ∙ sym hw, refl)
-
-pub rows_then_one : OneAnswer 0 rows-then-kinds.ps rows-then-kinds.r rows_then.Pre rows_then.Post
-rows_then_one κs a p x y v w hv hw = (hv ∙ sym hw, refl)
-
-pub rows_deposit_answer_one : OneAnswer 0 rows-deposit-answer-kinds.ps rows-deposit-answer-kinds.r rows-deposit-answer.Pre rows-deposit-answer.Post
-rows_deposit_answer_one κs a p x y v w hv hw = (hv ∙ sym hw, refl)
-
-pub rows_select_answer_one : OneAnswer 0 rows-select-answer-kinds.ps rows-select-answer-kinds.r rows-select-answer.Pre rows-select-answer.Post
-rows_select_answer_one κs a p x y v w hv hw = (hv ∙ sym hw, refl)
-
-pub rows_read_answer_one : OneAnswer 0 rows-read-answer-kinds.ps rows-read-answer-kinds.r rows-read-answer.Pre rows-read-answer.Post
-rows_read_answer_one κs a p x y v w hv hw = (hv ∙ sym hw, refl)
 
 pub word_deposit_by_one : OneAnswer 0 word-deposit-by-kinds.ps word-deposit-by-kinds.r word-deposit-by.Pre word-deposit-by.Post
 word_deposit_by_one κs a p x y v w hv hw = (hv ∙ sym hw, refl)
@@ -477,9 +452,6 @@ row_of n = record { 0 = n }
 pub marks_entry_at_one : OneAnswer 1 marks-entry-at-kinds.ps marks-entry-at-kinds.r marks-entry-at.Pre marks-entry-at.Post
 marks_entry_at_one κs a p x y v w hv hw = (ap row_of (hv ∙ sym hw), refl)
 
-pub operand_tell_one : OneAnswer 0 operand-tell-kinds.ps operand-tell-kinds.r operand-tell.Pre operand-tell.Post
-operand_tell_one κs a p x y v w hv hw = (hv ∙ sym hw, refl)
-
 pub operand_has_runs_one : OneAnswer 0 operand-has-runs-kinds.ps operand-has-runs-kinds.r operand-has-runs.Pre operand-has-runs.Post
 operand_has_runs_one κs a p x y v w hv hw = (hv ∙ sym hw, refl)
 
@@ -506,17 +478,35 @@ fills_lay_run_one κs a p x y v w hv hw = (refl, ap (λ (l : List ℕ). (tt, (tt
 pub mask_own_answer_one : OneAnswer 0 mask-own-answer-kinds.ps mask-own-answer-kinds.r mask-own-answer.Pre mask-own-answer.Post
 mask_own_answer_one κs a p x y v w hv hw = (hv ∙ sym hw, refl)
 
-pub mask_no_runs_one : OneAnswer 0 mask-no-runs-kinds.ps mask-no-runs-kinds.r mask-no-runs.Pre mask-no-runs.Post
-mask_no_runs_one κs a p x y v w hv hw = (hv ∙ sym hw, refl)
-
 pub mask_count_runs_one : OneAnswer 2 mask-count-runs-kinds.ps mask-count-runs-kinds.r mask-count-runs.Pre mask-count-runs.Post
 mask_count_runs_one κs a p x y v w hv hw = (hv ∙ sym hw, refl)
 
 pub mask_write_runs_one : OneAnswer 3 mask-write-runs-kinds.ps mask-write-runs-kinds.r mask-write-runs.Pre mask-write-runs.Post
 mask_write_runs_one κs a p x y v w hv hw = (refl, ap (λ (l : List ℕ). (tt, (tt, (tt, (l, tt))))) (hv ∙ sym hw))
 
+pub operand_judge_state_one : OneAnswer 0 operand-judge-state-kinds.ps operand-judge-state-kinds.r operand-judge-state.Pre operand-judge-state.Post
+operand_judge_state_one κs a p x y v w hv hw = (hv ∙ sym hw, refl)
+
 pub operand_run_fits_one : OneAnswer 0 operand-run-fits-kinds.ps operand-run-fits-kinds.r operand-run-fits.Pre operand-run-fits.Post
 operand_run_fits_one κs a p x y v w hv hw = (hv ∙ sym hw, refl)
 
 pub turns_sum_runs_one : OneAnswer 1 turns-sum-runs-kinds.ps turns-sum-runs-kinds.r turns-sum-runs.Pre turns-sum-runs.Post
 turns_sum_runs_one κs a p x y v w hv hw = (hv ∙ sym hw, refl)
+
+pub rows_refusal_of_one : OneAnswer 0 rows-refusal-of-kinds.ps rows-refusal-of-kinds.r rows-refusal-of.Pre rows-refusal-of.Post
+rows_refusal_of_one κs a p x y v w hv hw = (hv ∙ sym hw, refl)
+
+pub rows_number_one : OneAnswer 0 rows-number-kinds.ps rows-number-kinds.r rows-number.Pre rows-number.Post
+rows_number_one κs a p x y v w hv hw = (hv ∙ sym hw, refl)
+
+pub rows_operand_number_one : OneAnswer 0 rows-operand-number-kinds.ps rows-operand-number-kinds.r rows-operand-number.Pre rows-operand-number.Post
+rows_operand_number_one κs a p x y v w hv hw = (hv ∙ sym hw, refl)
+
+pub rows_row_of_one : OneAnswer 0 rows-row-of-kinds.ps rows-row-of-kinds.r rows-row-of.Pre rows-row-of.Post
+rows_row_of_one κs a p x y v w hv hw = (hv ∙ sym hw, refl)
+
+pub rows_numbers_one : OneAnswer 0 rows-numbers-kinds.ps rows-numbers-kinds.r rows-numbers.Pre rows-numbers.Post
+rows_numbers_one κs a p x y v w hv hw = ((λ i. record { 0 = (hv.0 ∙ sym hw.0) i; 1 = (hv.1 ∙ sym hw.1) i }), refl)
+
+pub operand_summary_told_one : OneAnswer 0 operand-summary-told-kinds.ps operand-summary-told-kinds.r operand-summary-told.Pre operand-summary-told.Post
+operand_summary_told_one κs a p x y v w hv hw = (hv ∙ sym hw, refl)

@@ -22,8 +22,6 @@ use Rattle.recover.proofs.inner.judge.judge.Kinds as judge-kinds
 use Rattle.recover.proofs.inner.judge.judge.Reads as judge
 use Rattle.recover.proofs.inner.lay.lay_recovery.Kinds as lay-recovery-kinds
 use Rattle.recover.proofs.inner.lay.lay_recovery.Reads as lay-recovery
-use Rattle.recover.proofs.inner.whole.tell.Kinds as tell-kinds
-use Rattle.recover.proofs.inner.whole.tell.Reads as tell
 use Rattle.recover.proofs.inner.whole.recover_within.Kinds as recover-within-kinds
 use Rattle.recover.proofs.inner.whole.recover_within.Reads as recover-within
 use Rattle.extracts.proofs.inner.recover_words.Kinds as recover-words-kinds
@@ -77,9 +75,6 @@ recover_judge_one κs a p x y v w hv hw = (hv ∙ sym hw, refl)
 
 pub recover_lay_recovery_one : OneAnswer 5 lay-recovery-kinds.ps lay-recovery-kinds.r lay-recovery.Pre lay-recovery.Post
 recover_lay_recovery_one κs a p x y v w hv hw = (refl, ap (λ (l : List ℕ). (tt, (tt, (tt, (tt, (tt, (tt, (tt, (l, tt))))))))) (hv ∙ sym hw))
-
-pub recover_tell_one : OneAnswer 0 tell-kinds.ps tell-kinds.r tell.Pre tell.Post
-recover_tell_one κs a p x y v w hv hw = (hv ∙ sym hw, refl)
 
 pub recover_recover_within_one : OneAnswer 5 recover-within-kinds.ps recover-within-kinds.r recover-within.Pre recover-within.Post
 recover_recover_within_one κs a p x y v w hv hw =

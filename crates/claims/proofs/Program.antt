@@ -13,12 +13,12 @@ use contract.Lifetimes.{Lfts}
 use borrow.Fn.Kinds.{Dens, res_t, ended_of}
 use denote.Triple.Clauses.{Lasts, at_exit}
 use native.Mathlib.Omega.{arith}
-use Rattle.rows.specs.declared.Verdict.TheVariants.{Fine}
+use Rattle.std.specs.Prelude.{Ok, Err}
 use Rattle.rows.specs.Rows.{count, compose}
 use Rattle.rows.specs.Table.{refusal}
 use Rattle.rows.proofs.TableLaws.{chosen}
-use Rattle.rules.specs.declared.Answer.{Answer}
-use Rattle.rules.specs.Answer.{refused, answered}
+use Rattle.rules.specs.Answer.{Answer}
+use Rattle.rules.specs.Answer.{answered}
 use Rattle.lines.specs.declared.Written.{Written}
 use Rattle.lines.specs.Parts.{begins}
 use Rattle.lines.specs.Text.{ascii, WellFormed, lines, answer_for, text_of, with_text, written_for, text_out}
@@ -27,6 +27,9 @@ use Rattle.lines.proofs.AnswerLaws.{route_taken}
 use Rattle.lines.proofs.Theorems.{only_these, eight_exactly, ill_formed_answered, ill_formed_told, paired_answered, paired_told, unpaired_answered, unpaired_told}
 use Rattle.text.proofs.answer.Kinds as kinds
 use Rattle.text.proofs.answer.Reads as reads
+use Rattle.rows.specs.declared.Reason.TheVariants.{LengthsDiffer, NoRoom, Malformed}
+use Rattle.rows.specs.Table.{no_operand, number_told}
+use Rattle.rules.specs.Route.{route_number}
 
 module _ (κs : Lfts 2) (a : Dens κs kinds.ps) (x : (res_t kinds.r κs).Denot) (v : Lasts (ended_of 2 kinds.ps kinds.r) κs a) (allowed : reads.Post κs a x (at_exit (ended_of 2 kinds.ps kinds.r) κs a v)) where
   abbrev input : List ℕ
@@ -70,31 +73,31 @@ module _ (κs : Lfts 2) (a : Dens κs kinds.ps) (x : (res_t kinds.r κs).Denot) 
 
     -- two masks that go together: 0, the table's route, the count and the rows of their composition
     pub pair_is_composed : (self rank : List Bool) → WellFormed input self rank → length rank ≡ count self
-        → (written.answer ≡ answered Fine (compose self rank) (route_taken self rank)) × (take written.len after ≡ lines 0 (route_taken self rank) (count rank) (compose self rank))
+        → (written.answer ≡ answered (Ok tt) (compose self rank) (route_taken self rank)) × (take written.len after ≡ lines 0 (route_number (route_taken self rank)) (count rank) (compose self rank))
     pair_is_composed self rank w e = (gives_answer ∙ paired_answered input self rank w e, writes_text ∙ paired_told input self rank w e)
 
     -- two masks that do not: 7
     pub other_pair_is_7 : (self rank : List Bool) → WellFormed input self rank → length rank ≢ count self
-        → (written.answer ≡ refused (refusal 7 0)) × (take written.len after ≡ lines 7 0 0 [])
+        → (written.answer ≡ Err (refusal LengthsDiffer no_operand)) × (take written.len after ≡ lines 7 0 0 [])
     other_pair_is_7 self rank w h = (gives_answer ∙ unpaired_answered input self rank w h, writes_text ∙ unpaired_told input self rank w h)
 
     -- anything else: 13
-    pub anything_else_is_13 : ((self rank : List Bool) → ¬ WellFormed input self rank) → (written.answer ≡ refused (refusal 13 0)) × (take written.len after ≡ lines 13 0 0 [])
+    pub anything_else_is_13 : ((self rank : List Bool) → ¬ WellFormed input self rank) → (written.answer ≡ Err (refusal Malformed no_operand)) × (take written.len after ≡ lines 13 0 0 [])
     anything_else_is_13 h = (gives_answer ∙ ill_formed_answered input h, writes_text ∙ ill_formed_told input h)
 
     -- the program takes exactly the well formed inputs: 13 where there are no such masks, and there alone
-    pub thirteen_exactly : (written.answer.refusal.number ≡ 13) ↔ ((self rank : List Bool) → ¬ WellFormed input self rank)
+    pub thirteen_exactly : ((number_told written.answer) ≡ 13) ↔ ((self rank : List Bool) → ¬ WellFormed input self rank)
     thirteen_exactly = (λ e self rank w. told e self rank w (ℕ_discrete (length rank) (count self)), λ h. ap number (anything_else_is_13 h).0)
       where
         number : Answer → ℕ
-        number x = x.refusal.number
+        number x = (number_told x)
 
-        told : written.answer.refusal.number ≡ 13 → (self rank : List Bool) → WellFormed input self rank → Dec (length rank ≡ count self) → ⊥
+        told : (number_told written.answer) ≡ 13 → (self rank : List Bool) → WellFormed input self rank → Dec (length rank ≡ count self) → ⊥
         told e self rank w (yes p) = omega (arith, e, ap number (pair_is_composed self rank w p).0)
         told e self rank w (no h) = omega (arith, e, ap number (other_pair_is_7 self rank w h).0)
 
     -- and tells nothing else than 0, 7 or 13: in the answer, and in the first line
-    pub only_these_numbers : (written.answer.refusal.number ≡ 0) ⊎ (written.answer.refusal.number ≡ 7) ⊎ (written.answer.refusal.number ≡ 13)
+    pub only_these_numbers : ((number_told written.answer) ≡ 0) ⊎ ((number_told written.answer) ≡ 7) ⊎ ((number_told written.answer) ≡ 13)
     only_these_numbers = rw gives_answer (only_these input).number
 
     pub only_these_lines : let text = take written.len after in
@@ -102,11 +105,11 @@ module _ (κs : Lfts 2) (a : Dens κs kinds.ps) (x : (res_t kinds.r κs).Denot) 
     only_these_lines = rw writes_text (only_these input).first_line
 
   -- an output that is shorter than the text, and no other: 8, no text, and the output as it was
-  pub shorter_is_8 : (written.answer.refusal.number ≡ 8) ↔ (length out < length (text_of input))
+  pub shorter_is_8 : ((number_told written.answer) ≡ 8) ↔ (length out < length (text_of input))
   shorter_is_8 = (λ e. (eight_exactly input (length out)).0 (sym (ap eight allowed.0) ∙ e), λ h. ap eight allowed.0 ∙ (eight_exactly input (length out)).1 h)
     where
       eight : Written → ℕ
-      eight w = w.answer.refusal.number
+      eight w = (number_told w.answer)
 
-  pub shorter_is_untouched : length out < length (text_of input) → (written ≡ with_text (refused (refusal 8 0)) []) × (after ≡ out)
+  pub shorter_is_untouched : length out < length (text_of input) → (written ≡ with_text (Err (refusal NoRoom no_operand)) []) × (after ≡ out)
   shorter_is_untouched h = let n = no_room input out h in (allowed.0 ∙ n.0, allowed.1 ∙ n.1)

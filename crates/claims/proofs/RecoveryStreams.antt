@@ -12,7 +12,9 @@ use denote.Triple.Clauses.{Lasts, at_exit}
 use Rattle.rows.specs.declared.Refusal.{Refusal}
 use Rattle.rows.proofs.RecoverLaws.{FirstOutside}
 use Rattle.rules.specs.declared.RecoveryState.{RecoveryState}
-use Rattle.rules.specs.declared.RecoveryFed.{RecoveryFed}
+use Rattle.rows.specs.declared.Row.{Row}
+use Rattle.rows.specs.declared.Reason.TheVariants.{RowOutside}
+use Rattle.rules.specs.declared.Fed.{Fed}
 use Rattle.rules.specs.Operand.{lent, in_words, rows_of, Accepted}
 use Rattle.rules.specs.RecoverStream.{Masks, masks_of, fresh, fed, fed_out, Run, after, run}
 use Rattle.rules.specs.Demand3.{joined, AllAccepted, taken}
@@ -22,6 +24,8 @@ use Rattle.rules.proofs.RecoverFeeds.{Bounded, Accepts, Refuses, Feeds, fed_refu
 use Rattle.rules.proofs.RecoverCut.{forward, converse, converse_in_words}
 use Rattle.recoverer.proofs.feed.Kinds as kinds
 use Rattle.recoverer.proofs.feed.Reads as reads
+use Rattle.rows.specs.Table.{Named, refusal, number_told, row_told}
+use Rattle.std.specs.Prelude.{Err}
 
 -- ---- one call
 
@@ -39,26 +43,26 @@ module _ (κs : Lfts 5) (a : Dens κs kinds.ps) where
   left v = v.1.1.1.1.1.1.1.0
 
   module _ (x : (res_t kinds.r κs).Denot) (v : Lasts (ended_of 5 kinds.ps kinds.r) κs a) (allowed : reads.Post κs a x (at_exit (ended_of 5 kinds.ps kinds.r) κs a v)) where
-    abbrev gave : RecoveryFed
+    abbrev gave : Fed RecoveryState
     gave = x
 
     -- 10, each operand's number, 7, 11, 17 and 8, each exactly when the documents say, in their order
-    pub recovery_feed_refuses_exactly : (r : Refusal) → zero < r.number → (gave.answer.refusal ≡ r) ↔ Refuses state masks (length out) r
+    pub recovery_feed_refuses_exactly : (r : Refusal) → (gave.answer ≡ Err r) ↔ Refuses state masks (length out) r
     recovery_feed_refuses_exactly = rw allowed.0 (fed_refuses state masks out)
 
     -- accepted exactly otherwise
-    pub recovery_feed_accepts_exactly : (gave.answer.refusal.number ≡ 0) ↔ Accepts state masks (length out)
+    pub recovery_feed_accepts_exactly : ((number_told gave.answer) ≡ 0) ↔ Accepts state masks (length out)
     recovery_feed_accepts_exactly = rw allowed.0 (fed_accepts state masks out)
 
     -- a refusal hands the state back as given, changes no lent word, and reports count 0, route 0 and density 0.0
-    pub refused_recovery_feed_changes_nothing : gave.answer.refusal.number ≢ 0 → (gave.state ≡ state) × (left v ≡ out) × Bare gave.answer
+    pub refused_recovery_feed_changes_nothing : (number_told gave.answer) ≢ 0 → (gave.state ≡ state) × (left v ≡ out) × Bare gave.answer
     refused_recovery_feed_changes_nothing = rw (allowed.0, allowed.1) (fed_refused state masks out)
 
     -- the row told with 17 is the first of the piece outside self's; in every other answer it is 0
-    pub feed_outside_first : gave.answer.refusal.number ≡ 17 → FirstOutside (rows_of masks.self) (rows_of masks.kept) gave.outside.0
+    pub feed_outside_first : (row : Row) (who : Named) → gave.answer ≡ Err (refusal (RowOutside row) who) → FirstOutside (rows_of masks.self) (rows_of masks.kept) row.0
     feed_outside_first = rw allowed.0 (fed_outside_first state masks out)
 
-    pub feed_outside_else : gave.answer.refusal.number ≢ 17 → gave.outside.0 ≡ 0
+    pub feed_outside_else : number_told gave.answer ≢ 17 → row_told gave.answer ≡ 0
     feed_outside_else = rw allowed.0 (fed_outside_else state masks out)
 
     -- accepted: the piece's ranks from ranks on and no other bit, its count, route and density, and the state moved
@@ -72,7 +76,7 @@ module _ (κs : Lfts 5) (a : Dens κs kinds.ps) where
 -- ---- calls one after the other
 
 -- a call that the contract allows: handed this state, these masks and this output, it gives that and leaves that
-pub record Call (st : RecoveryState) (m : Masks) (before : List ℕ) (gave : RecoveryFed) (after : List ℕ) : Type 1 where
+pub record Call (st : RecoveryState) (m : Masks) (before : List ℕ) (gave : Fed RecoveryState) (after : List ℕ) : Type 1 where
   pub κs : Lfts 5
   pub args : Dens κs kinds.ps
   pub lasts : Lasts (ended_of 5 kinds.ps kinds.r) κs args
@@ -82,14 +86,14 @@ pub record Call (st : RecoveryState) (m : Masks) (before : List ℕ) (gave : Rec
   pub handed_out : out κs args ≡ before
   pub leaves : left κs args lasts ≡ after
 
-pub call_is : (st : RecoveryState) (m : Masks) (before : List ℕ) (gave : RecoveryFed) (after : List ℕ) → Call st m before gave after
+pub call_is : (st : RecoveryState) (m : Masks) (before : List ℕ) (gave : Fed RecoveryState) (after : List ℕ) → Call st m before gave after
     → (gave ≡ fed st m before) × (after ≡ fed_out st m before)
 call_is st m before gave after c = rw (← c.handed_state, ← c.handed_masks, ← c.handed_out, ← c.leaves) c.allowed
 
 -- calls that the contract allows, each handed the state that the one before gave back and the output as it left it; t is what came of them
 pub data Calls : RecoveryState → List ℕ → List Masks → Run → Type 1 where
   none : (st : RecoveryState) (before : List ℕ) → Calls st before [] (record { answers = []; state = st; out = before })
-  next : (st : RecoveryState) (m : Masks) (before : List ℕ) (gave : RecoveryFed) (left : List ℕ) (ms : List Masks) (t : Run) → Call st m before gave left
+  next : (st : RecoveryState) (m : Masks) (before : List ℕ) (gave : Fed RecoveryState) (left : List ℕ) (ms : List Masks) (t : Run) → Call st m before gave left
       → Calls gave.state left ms t → Calls st before (m ∷ ms) (after gave.answer t)
 
 -- they are the run that the cut rule speaks of
@@ -101,7 +105,7 @@ calls_run (next st m before gave left ms t c cs) =
 
 -- the cut rule: every feed is accepted, and ranks, summed counts and end state are the whole's
 pub recovered_pieces_are_the_whole : (whole : Masks) (before : List ℕ) (ms : List Masks) (t : Run) → Calls fresh before ms t
-    → (once whole before).refusal.number ≡ 0 → Pieces ms → Joins whole ms → AllAccepted t.answers × Whole whole before t
+    → (number_told (once whole before)) ≡ 0 → Pieces ms → Joins whole ms → AllAccepted t.answers × Whole whole before t
 recovered_pieces_are_the_whole whole before ms t cs = rw (calls_run cs) (forward whole before ms)
 
 -- conversely, any feeds so run, refused ones between: the accepted ones' pieces joined are the whole

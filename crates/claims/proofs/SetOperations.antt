@@ -11,7 +11,7 @@ use contract.Lifetimes.{Lfts}
 use borrow.Fn.Kinds.{Dens, res_t, ended_of}
 use denote.Triple.Clauses.{Lasts, at_exit}
 use Rattle.rows.specs.declared.Refusal.{Refusal}
-use Rattle.rules.specs.declared.Answer.{Answer}
+use Rattle.rules.specs.Answer.{Answer}
 use Rattle.rules.specs.Operand.{Operand, lent, length_of}
 use Rattle.rules.specs.SetOps.{and_not, combined, combined_out, negated, negated_out}
 use Rattle.rules.proofs.AnswerLaws.{Bare}
@@ -27,20 +27,23 @@ use Rattle.bitops.proofs.and_not.Reads as and-not-reads
 use Rattle.bitops.proofs.not.Kinds as not-kinds
 use Rattle.bitops.proofs.not.Reads as not-reads
 use Rattle.claims.proofs.Densities.{written_nearest}
+use Rattle.rows.specs.Table.{number_told}
+use Rattle.rules.specs.Answer.{summary_told}
+use Rattle.std.specs.Prelude.{None, Err}
 
 -- ---- two operands, by g row by row
 
 pub record Demands (g : Bool → Bool → Bool) (a b : Operand) (out : List ℕ) (answer : Answer) (after : List ℕ) : Type 0 where
   -- each refusal, its number and its operand, exactly when document 01 says, in its order
-  pub refuses_exactly : (x : Refusal) → zero < x.number → (answer.refusal ≡ x) ↔ Refuses a b (length out) x
+  pub refuses_exactly : (x : Refusal) → (answer ≡ Err x) ↔ Refuses a b (length out) x
   -- accepted exactly otherwise
-  pub accepts_exactly : (answer.refusal.number ≡ 0) ↔ Accepts a b (length out)
+  pub accepts_exactly : ((number_told answer) ≡ 0) ↔ Accepts a b (length out)
   -- a refusal changes no lent word, and reports count 0, route 0 and density 0.0
-  pub refused_changes_nothing : answer.refusal.number ≢ 0 → (after ≡ out) × Bare answer
+  pub refused_changes_nothing : (number_told answer) ≢ 0 → (after ≡ out) × Bare answer
   -- accepted: the rows, their count, route 0, the density, the tail and the later words
-  pub accepted_writes : Accepts a b (length out) → Writes (length_of a.form) (λ i. g (row a i) (row b i)) 0 answer after out
+  pub accepted_writes : Accepts a b (length out) → Writes (length_of a.form) (λ i. g (row a i) (row b i)) None answer after out
   -- the density told is the value of the format nearest to the told count over the length
-  pub accepted_density : Accepts a b (length out) → 0 < length_of a.form → Nearest answer.summary.count (length_of a.form) answer.summary.density
+  pub accepted_density : Accepts a b (length out) → 0 < length_of a.form → Nearest (summary_told answer).count (length_of a.form) (summary_told answer).density
 
 demands : (g : Bool → Bool → Bool) (a b : Operand) (out : List ℕ) (answer : Answer) (after : List ℕ)
     → answer ≡ combined g a b out → after ≡ combined_out g a b out → Demands g a b out answer after
@@ -69,11 +72,11 @@ and_not_demands κs a x v allowed = demands and_not _ _ _ _ _ allowed.0 allowed.
 -- ---- not
 
 pub record NotDemands (a : Operand) (out : List ℕ) (answer : Answer) (after : List ℕ) : Type 0 where
-  pub refuses_exactly : (x : Refusal) → zero < x.number → (answer.refusal ≡ x) ↔ NotRefuses a (length out) x
-  pub accepts_exactly : (answer.refusal.number ≡ 0) ↔ NotAccepts a (length out)
-  pub refused_changes_nothing : answer.refusal.number ≢ 0 → (after ≡ out) × Bare answer
-  pub accepted_writes : NotAccepts a (length out) → Writes (length_of a.form) (λ i. not (row a i)) 0 answer after out
-  pub accepted_density : NotAccepts a (length out) → 0 < length_of a.form → Nearest answer.summary.count (length_of a.form) answer.summary.density
+  pub refuses_exactly : (x : Refusal) → (answer ≡ Err x) ↔ NotRefuses a (length out) x
+  pub accepts_exactly : ((number_told answer) ≡ 0) ↔ NotAccepts a (length out)
+  pub refused_changes_nothing : (number_told answer) ≢ 0 → (after ≡ out) × Bare answer
+  pub accepted_writes : NotAccepts a (length out) → Writes (length_of a.form) (λ i. not (row a i)) None answer after out
+  pub accepted_density : NotAccepts a (length out) → 0 < length_of a.form → Nearest (summary_told answer).count (length_of a.form) (summary_told answer).density
 
 one_demands : (a : Operand) (out : List ℕ) (answer : Answer) (after : List ℕ) → answer ≡ negated a out → after ≡ negated_out a out → NotDemands a out answer after
 one_demands a out answer after e f =

@@ -30,6 +30,9 @@ use Rattle.rules.proofs.Demand3.{forward, converse, converse_in_words}
 use Rattle.composer.proofs.feed.Kinds as kinds
 use Rattle.composer.proofs.feed.Reads as reads
 use Rattle.claims.proofs.Densities.{fed_nearest}
+use Rattle.rows.specs.Table.{number_told}
+use Rattle.rules.specs.Answer.{summary_told}
+use Rattle.std.specs.Prelude.{Err}
 
 -- ---- one call
 
@@ -47,19 +50,19 @@ module _ (κs : Lfts 5) (a : Dens κs kinds.ps) where
   left v = v.1.1.1.1.1.1.1.0
 
   module _ (x : (res_t kinds.r κs).Denot) (v : Lasts (ended_of 5 kinds.ps kinds.r) κs a) (allowed : reads.Post κs a x (at_exit (ended_of 5 kinds.ps kinds.r) κs a v)) where
-    abbrev gave : Fed
+    abbrev gave : Fed State
     gave = x
 
     -- 10, each operand's number, 7, 11 and 8, each with its operand exactly when document 01 says, in its order
-    pub feed_refuses_exactly : (x : Refusal) → zero < x.number → (gave.answer.refusal ≡ x) ↔ Refuses state pair (length out) x
+    pub feed_refuses_exactly : (x : Refusal) → (gave.answer ≡ Err x) ↔ Refuses state pair (length out) x
     feed_refuses_exactly = rw allowed.0 (fed_refuses state pair out)
 
     -- accepted exactly otherwise
-    pub feed_accepts_exactly : (gave.answer.refusal.number ≡ 0) ↔ Accepts state pair (length out)
+    pub feed_accepts_exactly : ((number_told gave.answer) ≡ 0) ↔ Accepts state pair (length out)
     feed_accepts_exactly = rw allowed.0 (fed_accepts state pair out)
 
     -- a refusal hands the state back as given, changes no lent word, and reports count 0, route 0 and density 0.0
-    pub refused_feed_changes_nothing : gave.answer.refusal.number ≢ 0 → (gave.state ≡ state) × (left v ≡ out) × Bare gave.answer
+    pub refused_feed_changes_nothing : (number_told gave.answer) ≢ 0 → (gave.state ≡ state) × (left v ≡ out) × Bare gave.answer
     refused_feed_changes_nothing = rw (allowed.0, allowed.1) (fed_refused state pair out)
 
     -- accepted: the piece's rows from done on and no other bit, its count, route and density, and the state moved
@@ -67,7 +70,7 @@ module _ (κs : Lfts 5) (a : Dens κs kinds.ps) where
     accepted_feed_writes = rw (allowed.0, allowed.1) (fed_feeds state pair out)
 
     -- the density told is the value of the format nearest to the told count over the piece's length
-    pub accepted_feed_density : Accepts state pair (length out) → 0 < long pair → Nearest gave.answer.summary.count (long pair) gave.answer.summary.density
+    pub accepted_feed_density : Accepts state pair (length out) → 0 < long pair → Nearest (summary_told gave.answer).count (long pair) (summary_told gave.answer).density
     accepted_feed_density t = fed_nearest t (accepted_feed_writes t)
 
     -- and the state is within refusal 10's bound again
@@ -77,7 +80,7 @@ module _ (κs : Lfts 5) (a : Dens κs kinds.ps) where
 -- ---- calls one after the other
 
 -- a call that the contract allows: handed this state, this pair and this output, it gives that and leaves that
-pub record Call (st : State) (p : Pair) (before : List ℕ) (gave : Fed) (after : List ℕ) : Type 1 where
+pub record Call (st : State) (p : Pair) (before : List ℕ) (gave : Fed State) (after : List ℕ) : Type 1 where
   pub κs : Lfts 5
   pub args : Dens κs kinds.ps
   pub lasts : Lasts (ended_of 5 kinds.ps kinds.r) κs args
@@ -87,13 +90,13 @@ pub record Call (st : State) (p : Pair) (before : List ℕ) (gave : Fed) (after 
   pub handed_out : out κs args ≡ before
   pub leaves : left κs args lasts ≡ after
 
-pub call_is : (st : State) (p : Pair) (before : List ℕ) (gave : Fed) (after : List ℕ) → Call st p before gave after → (gave ≡ fed st p before) × (after ≡ fed_out st p before)
+pub call_is : (st : State) (p : Pair) (before : List ℕ) (gave : Fed State) (after : List ℕ) → Call st p before gave after → (gave ≡ fed st p before) × (after ≡ fed_out st p before)
 call_is st p before gave after c = rw (← c.handed_state, ← c.handed_pair, ← c.handed_out, ← c.leaves) c.allowed
 
 -- calls that the contract allows, each handed the state that the one before gave back and the output as it left it; t is what came of them
 pub data Calls : State → List ℕ → List Pair → Run → Type 1 where
   none : (st : State) (before : List ℕ) → Calls st before [] (record { answers = []; state = st; out = before })
-  next : (st : State) (p : Pair) (before : List ℕ) (gave : Fed) (left : List ℕ) (ps : List Pair) (t : Run) → Call st p before gave left → Calls gave.state left ps t
+  next : (st : State) (p : Pair) (before : List ℕ) (gave : Fed State) (left : List ℕ) (ps : List Pair) (t : Run) → Call st p before gave left → Calls gave.state left ps t
       → Calls st before (p ∷ ps) (after gave.answer t)
 
 -- they are the run that demand 3 speaks of
@@ -104,7 +107,7 @@ calls_run (next st p before gave left ps t c cs) =
     rw (calls_run cs, is.0, is.1) refl
 
 -- demand 3: every feed is accepted, and rows, summed counts and end state are demand 2's for the whole
-pub pieces_are_the_whole : (whole : Pair) (before : List ℕ) (ps : List Pair) (t : Run) → Calls fresh before ps t → (once whole before).refusal.number ≡ 0 → Pieces ps → Joins whole ps
+pub pieces_are_the_whole : (whole : Pair) (before : List ℕ) (ps : List Pair) (t : Run) → Calls fresh before ps t → (number_told (once whole before)) ≡ 0 → Pieces ps → Joins whole ps
     → AllAccepted t.answers × Whole whole before t
 pieces_are_the_whole whole before ps t cs = rw (calls_run cs) (forward whole before ps)
 

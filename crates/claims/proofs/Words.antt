@@ -10,16 +10,13 @@ use lib.ListN.{get_or}
 use contract.Lifetimes.{Lfts}
 use borrow.Fn.Kinds.{Dens, res_t, ended_of}
 use denote.Triple.Clauses.{Lasts, at_exit}
-use Rattle.rows.specs.declared.Deposited.{Deposited}
-use Rattle.rows.specs.declared.Read.{Read}
 use Rattle.rows.specs.declared.Refusal.{Refusal}
-use Rattle.rows.specs.declared.Selected.{Selected}
 use Rattle.rows.specs.Rows.{count, compose}
 use Rattle.rows.specs.Word.{test_bit, bits_of, word_of}
 use Rattle.rows.specs.Words.{bits_of_all}
 use Rattle.rows.specs.Pdep.{pdep}
-use Rattle.rows.specs.Table.{refusal, no_refusal}
-use Rattle.rows.specs.WordAnswer.{deposit_answer, select_answer, read_answer}
+use Rattle.rows.specs.Table.{refusal}
+use Rattle.rows.specs.WordAnswer.{value_told}
 use Rattle.rows.proofs.PdepLaws.{pdep_is}
 use Rattle.rows.proofs.Theorems.{deposit_refuses, deposit_refused, deposit_answers, Position, select_refuses, select_refused, select_answers, read_refuses, read_refused, read_answers, read_bit}
 use Rattle.word.proofs.deposit.Kinds as deposit-kinds
@@ -28,6 +25,9 @@ use Rattle.word.proofs.select.Kinds as select-kinds
 use Rattle.word.proofs.select.Reads as select
 use Rattle.lent.proofs.rank_read.Kinds as read-kinds
 use Rattle.lent.proofs.rank_read.Reads as read
+use Rattle.rows.specs.declared.Reason.TheVariants.{StartOver63, CountDiffers, NoSuchRank}
+use Rattle.rows.specs.Table.{no_operand, number_told}
+use Rattle.std.specs.Prelude.{Result, Ok, Err}
 
 -- ---- deposit
 
@@ -42,22 +42,24 @@ module _ (κs : Lfts 0) (a : Dens κs deposit-kinds.ps) (x : (res_t deposit-kind
   abbrev claimed : ℕ
   claimed = a.1.1.0
 
-  abbrev answer : Deposited
+  abbrev answer : Result ℕ Refusal
   answer = x
 
   -- 4, and no other, exactly where the claimed count differs from the set bits in the mask word; then the whole answer is 4 and word 0
-  pub deposit_refuses_exactly : (y : Refusal) → zero < y.number → (answer.refusal ≡ y) ↔ ((y ≡ refusal 4 0) × (claimed ≢ count (bits_of 64 mask)))
+  pub deposit_refuses_exactly : (y : Refusal) → (answer ≡ Err y) ↔ ((y ≡ refusal CountDiffers no_operand) × (claimed ≢ count (bits_of 64 mask)))
   deposit_refuses_exactly = rw allowed (deposit_refuses source mask claimed)
 
-  pub refused_deposit : claimed ≢ count (bits_of 64 mask) → answer ≡ deposit_answer (refusal 4 0) 0
-  refused_deposit h = allowed ∙ deposit_refused source mask claimed h
+  pub refused_deposit : claimed ≢ count (bits_of 64 mask) → (answer ≡ Err (refusal CountDiffers no_operand)) × (number_told answer ≡ 4) × (value_told answer ≡ 0)
+  refused_deposit h =
+      let e = allowed ∙ deposit_refused source mask claimed h in
+      (e, ap (λ (r : Result ℕ Refusal). number_told r) e, ap value_told e)
 
   -- and otherwise the published PDEP, which is composition of the mask's bits and the source's
-  pub deposit_is_pdep : claimed ≡ count (bits_of 64 mask) → answer ≡ deposit_answer no_refusal (pdep 64 source mask)
+  pub deposit_is_pdep : claimed ≡ count (bits_of 64 mask) → answer ≡ Ok (pdep 64 source mask)
   deposit_is_pdep h = allowed ∙ deposit_answers source mask claimed h
 
-  pub deposit_composes : claimed ≡ count (bits_of 64 mask) → answer ≡ deposit_answer no_refusal (word_of (compose (bits_of 64 mask) (bits_of 64 source)))
-  deposit_composes h = deposit_is_pdep h ∙ ap (deposit_answer no_refusal) (pdep_is 64 source mask)
+  pub deposit_composes : claimed ≡ count (bits_of 64 mask) → answer ≡ Ok (word_of (compose (bits_of 64 mask) (bits_of 64 source)))
+  deposit_composes h = deposit_is_pdep h ∙ ap Ok (pdep_is 64 source mask)
 
 -- ---- select
 
@@ -69,18 +71,20 @@ module _ (κs : Lfts 0) (a : Dens κs select-kinds.ps) (x : (res_t select-kinds.
   abbrev rank : ℕ
   rank = a.1.0
 
-  abbrev selected : Selected
+  abbrev selected : Result ℕ Refusal
   selected = x
 
   -- 9, and no other, exactly where the rank is not below the word's set bits; then the whole answer is 9 and position 0
-  pub select_refuses_exactly : (y : Refusal) → zero < y.number → (selected.refusal ≡ y) ↔ ((y ≡ refusal 9 0) × (¬ (rank < count (bits_of 64 word))))
+  pub select_refuses_exactly : (y : Refusal) → (selected ≡ Err y) ↔ ((y ≡ refusal NoSuchRank no_operand) × (¬ (rank < count (bits_of 64 word))))
   select_refuses_exactly = rw allowed (select_refuses word rank)
 
-  pub refused_select : ¬ (rank < count (bits_of 64 word)) → selected ≡ select_answer (refusal 9 0) 0
-  refused_select h = allowed ∙ select_refused word rank h
+  pub refused_select : ¬ (rank < count (bits_of 64 word)) → (selected ≡ Err (refusal NoSuchRank no_operand)) × (number_told selected ≡ 9) × (value_told selected ≡ 0)
+  refused_select h =
+      let e = allowed ∙ select_refused word rank h in
+      (e, ap (λ (r : Result ℕ Refusal). number_told r) e, ap value_told e)
 
   -- and otherwise the position is in range, its bit is set, and exactly `rank` set bits stand below it
-  pub select_finds : rank < count (bits_of 64 word) → (p : ℕ) × (selected ≡ select_answer no_refusal p) × Position word rank p
+  pub select_finds : rank < count (bits_of 64 word) → (p : ℕ) × (selected ≡ Ok p) × Position word rank p
   select_finds h = let s = select_answers word rank h in (s.0, allowed ∙ s.1, s.2)
 
 -- ---- rank read
@@ -96,18 +100,20 @@ module _ (κs : Lfts 1) (a : Dens κs read-kinds.ps) (x : (res_t read-kinds.r κ
   abbrev offset : ℕ
   offset = a.1.1.0
 
-  abbrev read_word : Read
+  abbrev read_word : Result ℕ Refusal
   read_word = x
 
   -- 2, and no other, exactly where start is over 63; then the whole answer is 2 and word 0
-  pub read_refuses_exactly : (y : Refusal) → zero < y.number → (read_word.refusal ≡ y) ↔ ((y ≡ refusal 2 0) × (¬ (start ≤ 63)))
+  pub read_refuses_exactly : (y : Refusal) → (read_word ≡ Err y) ↔ ((y ≡ refusal StartOver63 no_operand) × (¬ (start ≤ 63)))
   read_refuses_exactly = rw allowed (read_refuses words start offset)
 
-  pub refused_read : ¬ (start ≤ 63) → read_word ≡ read_answer (refusal 2 0) 0
-  refused_read h = allowed ∙ read_refused words start offset h
+  pub refused_read : ¬ (start ≤ 63) → (read_word ≡ Err (refusal StartOver63 no_operand)) × (number_told read_word ≡ 2) × (value_told read_word ≡ 0)
+  refused_read h =
+      let e = allowed ∙ read_refused words start offset h in
+      (e, ap (λ (r : Result ℕ Refusal). number_told r) e, ap value_told e)
 
   -- and otherwise bit k of the word is bit start+offset+k of the lent words, 0 past their end
-  pub read_bits : start ≤ 63 → (read_word.refusal ≡ no_refusal) × ((k : ℕ) → k < 64 → test_bit read_word.word k ≡ get_or (bits_of_all 64 words) (start + offset + k) false)
+  pub read_bits : start ≤ 63 → (number_told read_word ≡ 0) × ((k : ℕ) → k < 64 → test_bit (value_told read_word) k ≡ get_or (bits_of_all 64 words) (start + offset + k) false)
   read_bits h =
       let e = allowed ∙ read_answers words start offset h in
-      (ap (λ (r : Read). r.refusal) e, λ k l. ap (λ (r : Read). test_bit r.word k) e ∙ read_bit words (start + offset) k l)
+      (ap (λ (r : Result ℕ Refusal). number_told r) e, λ k l. ap (λ (r : Result ℕ Refusal). test_bit (value_told r) k) e ∙ read_bit words (start + offset) k l)

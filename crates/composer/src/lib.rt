@@ -6,9 +6,8 @@ ghost use Rattle.rules.specs.Operand.{lent};
 ghost use Rattle.rules.specs.Stream.{pair_of, fresh, fed, fed_out};
 
 use judge::judge;
-use operand::inner::answers::refused;
 use operand::inner::counts::Counted;
-use rows::{Rank, Row, Verdict};
+use rows::{Rank, Row};
 use rules::{Fed, Form, State};
 use step::step;
 
@@ -44,18 +43,16 @@ pub fn feed(
     rwords: &[u64],
     rrows: &[u32],
     out: &mut [u64],
-) -> Fed
+) -> Fed<State>
     ensures { (result ≡ fed state (pair_of (lent s swords.now srows.now) (lent r rwords.now rrows.now)) out.old)
         × (out.new ≡ fed_out state (pair_of (lent s swords.now srows.now) (lent r rwords.now rrows.now)) out.old) }
 {
-    let judged = judge(state, s, swords, srows, r, rwords, rrows, out.len() as u64);
-    let verdict = judged.verdict;
-    match verdict {
-        Verdict::Refused(refusal) => Fed {
-            answer: refused(refusal),
+    match judge(state, s, swords, srows, r, rwords, rrows, out.len() as u64) {
+        Err(refusal) => Fed {
+            answer: Err(refusal),
             state,
         },
-        Verdict::Fine => {
+        Ok(judged) => {
             let own = Counted {
                 form: s,
                 count: judged.rows,

@@ -1,6 +1,5 @@
 // An accepted feed: the piece composed and laid from the first row not fed on, and the state moved past it.
 ghost use Rattle.std.specs.Prelude.{◌≡◌, ◌+◌, ◌≤◌, length};
-ghost use Rattle.rows.specs.declared.Verdict.TheVariants.{Fine};
 ghost use Rattle.rules.specs.Operand.{lent, limit};
 ghost use Rattle.operand.specs.Counts.{Counts};
 ghost use Rattle.rules.specs.Stream.{pair_of, state_of, judged, fed_by, out_by};
@@ -36,11 +35,11 @@ pub fn step(
     rwords: &[u64],
     rrows: &[u32],
     out: &mut [u64],
-) -> Fed
-    requires { (judged state (pair_of (lent s.form swords.now srows.now) (lent r.form rwords.now rrows.now)) (length out.old) ≡ Fine)
+) -> Fed<State>
+    requires { (judged state (pair_of (lent s.form swords.now srows.now) (lent r.form rwords.now rrows.now)) (length out.old) ≡ Ok tt)
         × Counts s swords.now srows.now × Counts r rwords.now rrows.now }
-    ensures { (result ≡ fed_by Fine state (pair_of (lent s.form swords.now srows.now) (lent r.form rwords.now rrows.now)))
-        × (out.new ≡ out_by Fine state (pair_of (lent s.form swords.now srows.now) (lent r.form rwords.now rrows.now)) out.old) }
+    ensures { (result ≡ fed_by (Ok tt) state (pair_of (lent s.form swords.now srows.now) (lent r.form rwords.now rrows.now)))
+        × (out.new ≡ out_by (Ok tt) state (pair_of (lent s.form swords.now srows.now) (lent r.form rwords.now rrows.now)) out.old) }
 {
     let at = state.done.0;
     let form = s.form;
@@ -48,9 +47,9 @@ pub fn step(
     let ranks = Rank(s.count);
     let next = moved(state, rows, ranks, r.count);
     let factors = document_factors();
-    let answer = lay_composition(factors, s, swords, srows, r, rwords, rrows, at, out);
+    let summary = lay_composition(factors, s, swords, srows, r, rwords, rrows, at, out);
     Fed {
-        answer,
+        answer: Ok(summary),
         state: next,
     }
 }

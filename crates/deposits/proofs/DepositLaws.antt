@@ -2,7 +2,7 @@
 -- the split law: the ranks of a chunk start at the count of what stands before it.
 -- Assumes nothing.
 use Prim.Native.Nat.{ℕ, ◌+◌, ◌-◌, ◌*◌, ◌^◌, ◌≤◌, ◌<◌, min}
-use mathlib.Core.Path.{◌≡◌, refl, sym, ap, ap₂, ◌∙◌}
+use mathlib.Core.Path.{◌≡◌, refl, sym, ap, ap₂, ◌∙◌, subst}
 use mathlib.Core.Bool.{Bool}
 use mathlib.Core.List.{List}
 use native.Mathlib.Omega.{arith}
@@ -31,11 +31,6 @@ deposited_chunk n source t r long short same =
     let size : length c ≡ 64 = compose_length (bits_of 64 (word_of t)) (bits_of 64 source) ∙ ap length (bits_of_word_of_fit 64 t) ∙ fit_length 64 t in
     ap (bits_of n) (pdep_is 64 source (word_of t)) ∙ bits_of_word_of_fit n c ∙ fit_is_take n c (omega arith) ∙ compose_take n (bits_of 64 (word_of t)) (bits_of 64 source)
     ∙ ap (λ (s : List Bool). compose s (bits_of 64 source)) (ap (take n) (bits_of_word_of_fit 64 t) ∙ take_fit n 64 t short ∙ fit_all n t long) ∙ same
-
--- rank bits read from a rank on
-pub read_same : (t r : List Bool) → length t ≤ 64 → compose t (bits_of 64 (word_of (fit 64 r))) ≡ compose t r
-read_same t r short =
-    ap (compose t) (bits_of_word_of_fit 64 (fit 64 r) ∙ fit_all 64 (fit 64 r) (fit_length 64 r)) ∙ compose_fit 64 t r (omega (arith, count_le_length t))
 
 -- how many rows a chunk has, by the rows that are left
 pub chunk_sized : (n row len : ℕ) → row < len → n ≡ min 64 (len - row) → (0 < n) × (n ≤ 64) × (row + n ≤ len)
@@ -112,3 +107,30 @@ pub rank_within : (start row len : ℕ) (ws : List ℕ) → row ≤ len → coun
 rank_within start row len ws h =
     let bs = drop start (bits_of_all 64 ws) in
     omega (arith, ap count (sym (take-take row len bs h)), count_append (take row (take len bs)) (drop row (take len bs)), ap count (take-append-drop row (take len bs)))
+
+-- ---- a turn of a loop over chunks
+
+module _ (start len at first row rank n mask : ℕ) (ws out₀ out : List ℕ) (r : List Bool) (room : start + len ≤ length ws * 64)
+    (d : Deposited start at first ws out₀ r row rank out) (before : row < len) (size : n ≡ min 64 (len - row))
+    (is : mask ≡ word_of (fit n (drop (start + row) (bits_of_all 64 ws)))) where
+  abbrev rows : List Bool
+  rows = drop (start + row) (bits_of_all 64 ws)
+
+  pub mask_few : ones mask ≤ 64
+  mask_few = omega (arith, ap ones is, chunk_few n rows)
+
+  -- the chunk's ranks are below the count of all
+  pub chunk_ranked : first + count (view start row ws) + count (fit n (drop (start + row) (bits_of_all 64 ws))) ≤ first + count (view start len ws)
+  chunk_ranked = omega (arith, rank_turn start row n at ws out₀ r (omega arith), ones_word (fit n rows), rank_within start (row + n) len ws (omega arith))
+
+  pub chunk_deposited : (source past : ℕ) (then : List ℕ) → past ≡ row + n
+      → compose (fit n (drop (start + row) (bits_of_all 64 ws))) (bits_of 64 source) ≡ compose (fit n (drop (start + row) (bits_of_all 64 ws))) (drop (count (view start row ws)) r)
+      → then ≡ laid (at + row) (bits_of n (pdep 64 source mask)) out → Deposited start at first ws out₀ r past (rank + ones mask) then
+  chunk_deposited source past then e same new =
+      subst (λ (k : ℕ). Deposited start at first ws out₀ r k (rank + ones mask) then) (sym e)
+      (deposited_turn start row n at ws out₀ r (omega arith) (omega arith) first rank mask source out then d is same new)
+
+-- all rows are laid
+pub deposited_all : (start len at first row rank : ℕ) (ws out₀ out : List ℕ) (r : List Bool) → Deposited start at first ws out₀ r row rank out → row ≡ len
+    → out ≡ laid at (compose (view start len ws) r) out₀
+deposited_all start len at first row rank ws out₀ out r d e = d.composed ∙ ap (λ (k : ℕ). laid at (compose (view start k ws) r) out₀) e

@@ -1,2 +1,3 @@
 pub mod DepositLaws
+pub mod RankLaws
 pub mod WholeLaws

@@ -4,8 +4,9 @@
 use Prim.Native.Nat.{ℕ, ◌+◌, ◌*◌, ◌^◌, ◌≤◌, ◌<◌}
 use mathlib.Core.Path.{◌≡◌, refl, sym, ap, ap₂, ◌∙◌, subst}
 use mathlib.Core.Bool.{Bool}
-use mathlib.Core.List.{List}
+use mathlib.Core.List.{List, []}
 use native.Mathlib.Omega.{arith}
+use native.Mathlib.Nat.{zero-add}
 use lib.ListN.{length, take, drop, set, length-drop, length-set}
 use lib.Seq.{drop-drop}
 use lib.Count.{ones}
@@ -16,14 +17,14 @@ use Rattle.rows.specs.Lists.{tab}
 use Rattle.rows.specs.Pdep.{pdep}
 use Rattle.rows.specs.Laid.{laid}
 use Rattle.rows.proofs.RowLaws.{count_split, count_take_le, compose_length}
-use Rattle.rows.proofs.WordLaws.{bits_of_length, word_of_lt}
+use Rattle.rows.proofs.WordLaws.{bits_of_length, word_of_lt, ones_word}
 use Rattle.rows.proofs.WordsLaws.{bits_of_all_length}
 use Rattle.rows.proofs.FitLaws.{fit_is_take, compose_cut}
 use Rattle.rows.proofs.PdepLaws.{pdep_is}
 use Rattle.rows.proofs.LaidLaws.{below_set, laid_nil, laid_length, laid_word}
 use Rattle.rows.proofs.BehindLaws.{below_laid}
 use Rattle.books.proofs.GatherLaws.{tab_part}
-use Rattle.deposits.proofs.DepositLaws.{rank_turn, laid_turn, chunk_turn, chunk_few}
+use Rattle.deposits.proofs.DepositLaws.{rank_turn, rank_within, laid_turn, chunk_turn, chunk_few}
 
 pdep_small : (source mask : ℕ) → pdep 64 source mask < 2 ^ 64
 pdep_small source mask =
@@ -82,7 +83,24 @@ module _ (start i to : ℕ) (ws out : List ℕ) (r : List Bool) (reach : start +
             ∙ whole_turn source same;
       }
 
--- the rows that are left, after the whole words
+-- ---- a turn of a loop over words
+
+-- a word's ranks are below the count of all
+pub word_ranked : (start i n : ℕ) (ws : List ℕ) → start + n * 64 ≤ length ws * 64 → i < n
+    → 0 + count (view start (i * 64) ws) + count (fit 64 (drop (start + i * 64) (bits_of_all 64 ws))) ≤ count (view start (n * 64) ws)
+word_ranked start i n ws room h =
+    omega
+    (arith, whole_rank start i 0 ws [] [] (omega arith), ones_word (fit 64 (drop (start + i * 64) (bits_of_all 64 ws))), rank_within start ((i + 1) * 64) (n * 64) ws (omega arith))
+
+-- all words are stored
+pub stored_all : (start to : ℕ) (ws out : List ℕ) (r : List Bool) (n i rank : ℕ) (o : List ℕ) → Stored start to ws out r i rank o → i ≡ n
+    → (rank ≡ count (view start (n * 64) ws)) × (o ≡ laid (to * 64) (compose (view start (n * 64) ws) r) out)
+stored_all start to ws out r n i rank o s e = (
+  s.counted ∙ ap (λ (k : ℕ). count (view start (k * 64) ws)) e,
+  s.composed ∙ ap (λ (k : ℕ). laid (to * 64) (compose (view start (k * 64) ws) r) out) e,
+)
+
+-- ---- the rows that are left, after the whole words
 pub whole_and_rest : (start at done rest : ℕ) (ws out : List ℕ) (r : List Bool) → start + done + rest ≤ length ws * 64
     → laid (at + done) (compose (view (start + done) rest ws) (drop (count (view start done ws)) r)) (laid at (compose (view start done ws) r) out)
     ≡ laid at (compose (view start (done + rest) ws) r) out
@@ -101,6 +119,12 @@ count_rest start done rest ws =
 -- ranks past self's count do not matter
 pub ranks_more : (s : List Bool) (k m : ℕ) (f : ℕ → Bool) → count s ≤ k → k ≤ m → compose s (tab 0 k f) ≡ compose s (tab 0 m f)
 ranks_more s k m f h le = ap (compose s) (sym (tab_part 0 m 0 k f (omega arith))) ∙ compose_cut k s (tab 0 m f) h
+
+-- the ranks after those of what stands before, as many as are left
+pub ranks_after : (s : List Bool) (first total : ℕ) (f : ℕ → Bool) → first + count s ≡ total → compose s (tab first (count s) f) ≡ compose s (drop first (tab 0 total f))
+ranks_after s first total f all =
+    ap (compose s) (ap (λ (k : ℕ). tab k (count s) f) (sym (zero-add first)) ∙ sym (tab_part 0 total first (count s) f (omega arith)))
+    ∙ compose_cut (count s) s (drop first (tab 0 total f)) (omega arith)
 
 -- words one after the other, stored from those on that were stored before: as many as they are, by ranks that are those from there on
 pub stored_part : (start to : ℕ) (ws out : List ℕ) (r : List Bool) (i n rank : ℕ) (p : List Bool) (o then : List ℕ) → Stored start to ws out r i rank o

@@ -1,17 +1,16 @@
-// Routes 7 to 10: self a chunk of 64 rows at a time, the rank bits for it gathered from a list or read from words, then
-// deposited. The rank bits for a chunk start at the count of the chunks before it.
-ghost use Rattle.std.specs.Prelude.{◌≡◌, ◌+◌, ◌*◌, ◌^◌, ◌≤◌, ◌<◌, length, drop};
+// Routes 7 to 10: self a chunk of 64 rows at a time, its rank bits deposited. They start at the count of the chunks before it.
+ghost use Rattle.std.specs.Prelude.{◌≡◌, ◌+◌, ◌*◌, ◌^◌, ◌≤◌, ◌<◌, length};
 ghost use Rattle.std.specs.Int.Count.{ones};
 ghost use Rattle.rows.specs.Rows.{count, compose};
 ghost use Rattle.rows.specs.Word.{bits_of};
-ghost use Rattle.rows.specs.Words.{bits_of_all, view};
-ghost use Rattle.rows.specs.Lists.{listed};
+ghost use Rattle.rows.specs.Words.{view};
+ghost use Rattle.rows.specs.Lists.{tab};
 ghost use Rattle.rows.specs.Pdep.{pdep};
 ghost use Rattle.rows.specs.Laid.{laid};
 ghost use Rattle.rows.specs.Asks.{Room, Chunk};
-ghost use Rattle.books.specs.Gathers.{Parted};
 
-use books::inner::{put_rows, rank_bits, rank_bits_for_chunk, self_bits};
+use super::ranks::Ranks;
+use books::inner::{put_rows, self_bits};
 use lent::inner::chunk_len;
 use rows::{Rank, Row, Way};
 use word::inner::{deposit_portable, deposit_portable_loop};
@@ -43,72 +42,29 @@ fn push_result_chunk(
     put_rows(out, at, row, n, deposit_bits(way, source, mask, set));
 }
 
-// Routes 9 and 10, chunk by chunk from a rank on: rank read at the running popcount, then deposit.
-pub fn read_chunks(
+// Chunk by chunk from a rank on: self's count before a chunk is its first rank.
+pub fn deposit_chunks<R: Ranks>(
     way: Way,
     words: &[u64],
     start: u64,
     len: u64,
-    ranks: &[u64],
-    from: u64,
+    mut ranks: R,
     first: Rank,
     at: u64,
     out: &mut [u64],
 )
-    requires { (len ≤ 1048576) × (start + len ≤ length words.now * 64) × (from + first.0 ≤ 1048639) × Room at len out.old }
-    ensures { out.new ≡ laid at (compose (view start len words.now) (drop first.0 (drop from (bits_of_all 64 ranks.now)))) out.old }
+    requires { (len ≤ 1048576) × (start + len ≤ length words.now * 64) × (first.0 + count (view start len words.now) ≤ 1048576)
+        × Room at len out.old × R.reaches ranks first.0 }
+    ensures { out.new ≡ laid at (compose (view start len words.now) (tab first.0 (count (view start len words.now)) (R.has ranks))) out.old }
 {
-    let mut row = Row(0);
     let mut rank = first;
-    while row.0 < len {
-        let n = chunk_len(len, row.0);
-        let mask = self_bits(words, start, row, n);
-        let source = rank_bits(ranks, from, rank);
-        let count = u64::count_ones(mask);
-        push_result_chunk(way, mask, count, n, source, at, row, out);
-        let past = rank.0 + count as u64;
-        rank = Rank(past);
-        let below = row.0 + n;
-        row = Row(below);
-    }
-}
-
-// Where the walk over a rank list stands: a rank, and the first entry that is not below it.
-#[derive(Clone, Copy)]
-pub struct Reached {
-    pub rank: Rank,
-    pub next: usize,
-}
-
-// Routes 7 and 8, chunk by chunk from a rank on: rank bits gathered, then deposit. Entries before next are of earlier ranks.
-pub fn gather_chunks(
-    way: Way,
-    words: &[u64],
-    start: u64,
-    len: u64,
-    ranks: &[u32],
-    from: Reached,
-    at: u64,
-    out: &mut [u64],
-)
-    requires { (len ≤ 1048576) × (start + len ≤ length words.now * 64) × Room at len out.old
-        × (from.rank.0 ≤ 1048576) × Parted from.rank.0 from.next ranks.now }
-    ensures { out.new ≡ laid at (compose (view start len words.now)
-        (drop from.rank.0 (listed (from.rank.0 + count (view start len words.now)) ranks.now))) out.old }
-{
-    let mut row = Row(0);
-    let mut rank = from.rank;
-    let mut next = from.next;
-    while row.0 < len {
-        let n = chunk_len(len, row.0);
+    for done in (0..len).step_by(64) {
+        let row = Row(done);
+        let n = chunk_len(len, done);
         let mask = self_bits(words, start, row, n);
         let set = u64::count_ones(mask);
-        let gathered = rank_bits_for_chunk(ranks, next, rank, set as u64);
-        push_result_chunk(way, mask, set, n, gathered.bits, at, row, out);
-        next = gathered.next;
-        let past = rank.0 + set as u64;
-        rank = Rank(past);
-        let below = row.0 + n;
-        row = Row(below);
+        let bits = ranks.bits(rank, set as u64);
+        push_result_chunk(way, mask, set, n, bits, at, row, out);
+        rank = Rank(rank.0 + set as u64);
     }
 }

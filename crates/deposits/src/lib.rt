@@ -4,4 +4,5 @@
 
 mod deposit;
 pub mod inner;
+mod ranks;
 mod whole;

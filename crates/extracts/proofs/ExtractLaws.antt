@@ -1,7 +1,7 @@
 -- The ranks of a chunk, extracted, and what a loop keeps that lays them chunk by chunk: a law for no chunk, a law for one more, and a law for the end.
 -- By the published PEXT as recovery, and both masks cut at the same row. Assumes nothing.
 use Prim.Native.Nat.{ℕ, zero, suc, ◌+◌, ◌-◌, ◌*◌, ◌/◌, ◌^◌, ◌≤◌}
-use mathlib.Core.Path.{◌≡◌, refl, sym, ap, ap₂, ◌∙◌}
+use mathlib.Core.Path.{◌≡◌, refl, sym, ap, ap₂, ◌∙◌, subst}
 use mathlib.Core.Bool.{Bool}
 use mathlib.Core.List.{List, [], ◌∷◌, ◌++◌, append-nil}
 use native.Mathlib.Omega.{arith}
@@ -10,15 +10,17 @@ use lib.ListN.{length, take, drop, length-append, length-take, length-drop, take
 use lib.Seq.{drop-drop}
 use Rattle.rows.specs.Rows.{count, rank_at, recover}
 use Rattle.rows.specs.Word.{bits_of, word_of}
-use Rattle.rows.specs.Words.{Below, fit}
+use Rattle.rows.specs.Words.{Below, fit, view}
 use Rattle.rows.specs.Pdep.{pext}
 use Rattle.rows.specs.Laid.{laid}
-use Rattle.rows.proofs.RowLaws.{count_append, count_split}
+use Rattle.rows.proofs.RowLaws.{count_append, count_split, count_take_le}
 use Rattle.rows.proofs.WordLaws.{bits_of_length, bits_of_add, bits_of_word_of_at, ones_word}
-use Rattle.rows.proofs.WordsLaws.{bits_of_word_of_fit}
+use Rattle.rows.proofs.WordsLaws.{bits_of_word_of_fit, view_length}
 use Rattle.rows.proofs.FitLaws.{fit_append}
 use Rattle.rows.proofs.PdepLaws.{pext_is}
 use Rattle.rows.proofs.RecoverLaws.{recover_length, recover_append}
+use Rattle.rules.specs.Operand.{Operand, rows_of, length_of, Accepted}
+use Rattle.rules.proofs.OperandLaws.{accepted_length}
 use Rattle.extracts.specs.Stored.{Stored}
 use Rattle.extracts.proofs.OpenLaws.{Open, open_none, open_part, open_as, open_end}
 
@@ -129,8 +131,35 @@ module _ (s k : List Bool) (at : ℕ) where
             (open_as (recover s k) (recover (drop row s) (drop row k)) (recover s₁ k₁ ++ left) at rank out₀ out parts r.progress);
       }
 
+    -- a chunk whose rows are in words: how many ranks it has, and what it is once its extracted word is stored
+    module _ (n mask set : ℕ) (few : n ≤ 64) (total : set ≡ count s) (m : mask ≡ word_of (take n (drop row s))) where
+      pub extracting_few : (ones mask ≤ 64) × (rank + ones mask ≤ set)
+      extracting_few =
+          let own : ones mask ≡ count (take n (drop row s)) = ap ones m ∙ ones_word (take n (drop row s)) in
+          (omega (arith, own, count_take_le n (drop row s)), omega (arith, own, extracting_room n, total))
+
+      pub extracting_stored : (source bits past next : ℕ) (then : List ℕ) → source ≡ word_of (take n (drop row k)) → bits ≡ pext 64 source mask
+          → Stored (at + rank) (at + set) (ones mask) bits out then → past ≡ rank + ones mask → row + n ≡ next → Extracting next past out₀ then
+      extracting_stored source bits past next then q b stored e f =
+          subst (λ (x : ℕ). Extracting x past out₀ then) f
+          (extracting_chunk n few (at + set) mask source then (ap (λ (x : ℕ). at + x) total) m q
+          (subst (λ (x : ℕ). Stored (at + rank) (at + set) (ones mask) x out then) b stored) past e)
+
+    -- the row said otherwise
+    pub extracting_at : (next : ℕ) → row ≡ next → Extracting next rank out₀ out
+    extracting_at next e = subst (λ (x : ℕ). Extracting x rank out₀ out) e r
+
     -- no row is left
     pub extracting_end : length s ≤ row → out ≡ laid at (recover s k) out₀
     extracting_end h =
         let none : recover (drop row s) (drop row k) ≡ [] = ap (λ (l : List Bool). recover l (drop row k)) (drop_of_length-le s {i = row} h) in
         open_end (recover s k) at rank out₀ out (open_as (recover s k) (recover (drop row s) (drop row k)) [] at rank out₀ out none r.progress)
+
+-- two masks of one length that are read from words
+pub views_same : (start from len : ℕ) (ws ks : List ℕ) → start + len ≤ length ws * 64 → from + len ≤ length ks * 64
+    → length (view from len ks) ≡ length (view start len ws)
+views_same start from len ws ks h k = view_length from len ks k ∙ sym (view_length start len ws h)
+
+-- and two that are accepted
+pub accepted_same : (o p : Operand) → Accepted o → Accepted p → length_of p.form ≡ length_of o.form → length (rows_of p) ≡ length (rows_of o)
+accepted_same o p a b e = accepted_length p b ∙ e ∙ sym (accepted_length o a)

@@ -22,12 +22,13 @@ use Rattle.books.specs.Gathers.{Parted, Gathers}
 use Rattle.books.specs.Windows.{window, Reached}
 use Rattle.books.proofs.GatherLaws.{tab_part, ascending_climbs}
 use Rattle.extracts.specs.Walk.{CameBy, Came}
+use Rattle.rows.specs.Table.{no_operand}
 
 -- a walk begins with the first number
 pub came_first : (o : Operand) → Accepted o → Came o 0 0
 came_first o = by o.form
   where
-    by : (f : Form) → Met (checks_by f 0 o) → CameBy f o.numbers 0 0
+    by : (f : Form) → Met (checks_by f no_operand o) → CameBy f o.numbers 0 0
     by (All n) m = tt
     by (None n) m = tt
     by (Words start len claimed) m = tt

@@ -32,14 +32,12 @@ pub fn recover_words(
     let end = at + set;
     let n = (len / 64) as usize;
     let mut rank = Rank(0);
-    let mut i: usize = 0;
-    while i < n {
+    for i in 0..n {
         let mask = whole_word(words, start, i);
         let source = whole_word(kept, from, i);
         let count = u64::count_ones(mask);
         let bits = extract_bits(way, source, mask, count);
         rank = store_ranks(bits, count as u64, at, rank, end, out);
-        i += 1;
     }
     let rest = len % 64;
     if rest == 0 {
@@ -72,20 +70,17 @@ pub fn recover_chunks(
 {
     let len = length_of(s);
     let end = at + set;
-    let mut row = Row(0);
     let mut rank = Rank(0);
     let mut own: usize = 0;
     let mut other: usize = 0;
-    while row.0 < len {
-        let n = chunk_len(len, row.0);
-        let mask = rows_in_chunk(s, swords, srows, own, row, n);
-        let source = rows_in_chunk(k, kwords, krows, other, row, n);
+    for row in (0..len).step_by(64) {
+        let n = chunk_len(len, row);
+        let mask = rows_in_chunk(s, swords, srows, own, Row(row), n);
+        let source = rows_in_chunk(k, kwords, krows, other, Row(row), n);
         let count = u64::count_ones(mask.bits);
         let bits = extract_bits(Way::Network, source.bits, mask.bits, count);
         rank = store_ranks(bits, count as u64, at, rank, end, out);
         own = mask.next;
         other = source.next;
-        let below = row.0 + n;
-        row = Row(below);
     }
 }

@@ -1,8 +1,8 @@
 -- What a loop keeps that sets runs in a part that was cleared: the runs from number i on are left, and with their rows marked too all are. With a law
--- for no run, a law for one run more, and a law for all. By the law of a run's rows marked.
+-- for one run more, and a law for all. By the law of a run's rows marked.
 -- Assumes nothing.
 use Prim.Native.Nat.{ℕ, ◌+◌, ◌-◌, ◌≤◌, ◌<◌}
-use mathlib.Core.Path.{◌≡◌, refl, sym, ap, ◌∙◌}
+use mathlib.Core.Path.{◌≡◌, sym, ap, ◌∙◌}
 use mathlib.Core.Bool.{true, false}
 use mathlib.Core.List.{List}
 use native.Mathlib.Omega.{arith}
@@ -21,9 +21,6 @@ module _ (runs : List ℕ) (len at : ℕ) where
     pub ahead : Apart from len (drop i runs)
     pub long : length out ≡ length out₀
     pub left : marked at (rows_in (drop i runs)) out ≡ marked at (rows_in runs) out₀
-
-  pub setting_none : (out : List ℕ) → Apart 0 len runs → Setting 0 out out
-  setting_none out a = record { from = 0; ahead = a; long = refl; left = refl }
 
   module _ (i : ℕ) (out₀ out : List ℕ) (s : Setting i out₀ out) where
     pub setting_next : i < length runs → NextRun s.from len i runs

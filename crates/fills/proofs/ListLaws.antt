@@ -34,10 +34,10 @@ run_more b n =
 
 -- ---- within a run
 
--- the rows from first to row are entries k to next
-pub record InRun (first k row next : ℕ) (out₀ out : List ℕ) : Type 0 where
+-- the rows from first to row are entries from k on, and the next is entry k'
+pub record InRun (first k row k' : ℕ) (out₀ out : List ℕ) : Type 0 where
   pub reached : first ≤ row
-  pub entries : next ≡ k + (row - first)
+  pub here : k' ≡ k + (row - first)
   pub long : length out ≡ length out₀
   pub lists : out ≡ splice k out₀ (run first (row - first))
 
@@ -46,33 +46,28 @@ in_run_none first k out =
     let none : 0 ≡ first - first = omega arith in
     record {
       reached = omega arith;
-      entries = omega arith;
+      here = omega arith;
       long = refl;
       lists = sym (splice_nil k out) ∙ ap (λ (n : ℕ). splice k out (run first n)) none;
     }
 
-pub in_run_row : (first k row next : ℕ) (out₀ out : List ℕ) → InRun first k row next out₀ out → InRun first k (row + 1) (next + 1) out₀ (set out next row)
-in_run_row first k row next out₀ out r =
+pub in_run_row : (first k row k' : ℕ) (out₀ out : List ℕ) → InRun first k row k' out₀ out → InRun first k (row + 1) (k' + 1) out₀ (set out k' row)
+in_run_row first k row k' out₀ out r =
     let n : ℕ = row - first in
     let done = run first n in
     let row_is : row ≡ first + n = omega (arith, r.reached) in
     let more : n + 1 ≡ row + 1 - first = omega (arith, r.reached) in
-    let place : next ≡ k + length done = r.entries ∙ ap (λ (x : ℕ). k + x) (sym (run_length first n)) in
+    let place : k' ≡ k + length done = r.here ∙ ap (λ (x : ℕ). k + x) (sym (run_length first n)) in
     record {
       reached = omega (arith, r.reached);
-      entries = omega (arith, r.reached, r.entries);
-      long = length-set out next row ∙ r.long;
+      here = omega (arith, r.here, r.reached);
+      long = length-set out k' row ∙ r.long;
       lists =
-          sym (splice_one next out row)
+          sym (splice_one k' out row)
           ∙ ap₂ (λ (x : ℕ) (o : List ℕ). splice x o (row ∷ [])) place r.lists
           ∙ splice_append k out₀ done (row ∷ [])
           ∙ ap (splice k out₀) (ap (λ (x : ℕ). done ++ x ∷ []) row_is ∙ run_more first n ∙ ap (run first) more);
     }
-
-pub in_run_all : (first k row next past : ℕ) (out₀ out : List ℕ) → InRun first k row next out₀ out → row ≡ past
-    → (next ≡ k + (past - first)) × (out ≡ splice k out₀ (run first (past - first)))
-in_run_all first k row next past out₀ out r e =
-    (r.entries ∙ ap (λ (x : ℕ). k + (x - first)) e, r.lists ∙ ap (λ (x : ℕ). splice k out₀ (run first (x - first))) e)
 
 -- ---- over runs
 

@@ -1,24 +1,24 @@
 -- What a loop keeps that lays the ranks of a gap clear and those of a run set: with a law for none, a law for one run more, and a law for the end, where
 -- the second mask is runs that all lie in self. By both masks cut at the same rows, of which a gap's are not kept and a run's all are.
 -- Assumes nothing.
-use Prim.Native.Nat.{ℕ, zero, suc, ◌+◌, ◌-◌, ◌^◌, ◌≤◌, ◌<◌}
+use Prim.Native.Nat.{ℕ, zero, suc, ◌+◌, ◌-◌, ◌/◌, ◌^◌, ◌≤◌}
 use native.Mathlib.Nat.{suc_inj}
 use mathlib.Core.Path.{◌≡◌, refl, sym, ap, ap₂, ◌∙◌}
 use mathlib.Core.Bool.{Bool, true, false}
 use mathlib.Core.List.{List, [], ◌∷◌, ◌++◌}
 use native.Mathlib.Omega.{arith}
-use lib.ListN.{length, take, drop, get_or, replicate, length-take, length-drop, length-replicate, take-append-drop}
+use lib.ListN.{length, take, drop, replicate, length-take, length-drop, length-replicate, take-append-drop}
 use Rattle.rows.specs.Rows.{count, recover, outside}
 use Rattle.rows.specs.Words.{Below}
 use Rattle.rows.specs.Runs.{held, in_runs, Apart}
 use Rattle.rows.specs.Laid.{laid}
 use Rattle.rows.proofs.RowLaws.{count_append}
 use Rattle.rows.proofs.ListLaws.{tab_length}
-use Rattle.rows.proofs.RunTurnLaws.{NextRun}
+use Rattle.rows.proofs.PairLaws.{NextPair}
 use Rattle.rows.proofs.RecoverLaws.{recover_append, recover_none, recover_all, inside_append}
 use Rattle.rows.proofs.ProgressLaws.{progress_as, progress_last}
 use Rattle.in_runs.proofs.RecoveringLaws.{Recovering, recovering_none, recovering_chunk, recovering_room}
-use Rattle.in_runs.proofs.PassLaws.{take_both, Passed, passed_none, passed_next, passed_end, passed_gap, passed_held, passed_run}
+use Rattle.in_runs.proofs.PassLaws.{take_both, Passed, passed_none, passed_end, passed_gap, passed_held, passed_run}
 
 -- the rows kept that are not in s, before a row and from it on
 inside_cut : (m : ℕ) (s k : List Bool) → length k ≡ length s
@@ -64,16 +64,7 @@ module _ (s : List Bool) (runs : List ℕ) (len at : ℕ) where
     pub filling_few : rank ≤ count s
     filling_few = omega (arith, left)
 
-    pub filling_next : i < length runs → NextRun row len i runs
-    filling_next h = passed_next len runs row i f.passed h
-
-    module _ (inside : count (outside s (in_runs len runs)) ≡ 0) (h : i < length runs) where
-      abbrev first : ℕ
-      first = get_or runs i 0
-
-      abbrev past : ℕ
-      past = get_or runs (i + 1) 0
-
+    module _ (inside : count (outside s (in_runs len runs)) ≡ 0) (first past : ℕ) (r : NextPair row len i runs first past) where
       abbrev gap : List Bool
       gap = take (first - row) (drop row s)
 
@@ -81,26 +72,25 @@ module _ (s : List Bool) (runs : List ℕ) (len at : ℕ) where
       run = take (past - first) (drop first s)
 
       run_long : length run ≡ past - first
-      run_long = omega (arith, length-take (past - first) (drop first s), length-drop first s, long, (filling_next h).some, (filling_next h).within)
+      run_long = omega (arith, length-take (past - first) (drop first s), length-drop first s, long, r.some, r.within)
 
       -- the run lies in self
       pub run_full : count (take (past - first) (drop first s)) ≡ past - first
       run_full =
           all_inside run (past - first) run_long
-          (sym (ap (λ (l : List Bool). count (outside run l)) (passed_held len runs row i f.passed h)) ∙ inside_part s k first (past - first) same inside)
+          (sym (ap (λ (l : List Bool). count (outside run l)) (passed_held len runs row i f.passed first past r)) ∙ inside_part s k first (past - first) same inside)
 
       -- both parts, of either mask
       cut : (l : List Bool) → take (past - row) (drop row l) ≡ take (first - row) (drop row l) ++ take (past - first) (drop first l)
-      cut l = take_both row first past l (filling_next h).from (omega (arith, (filling_next h).some))
+      cut l = take_both row first past l r.from (omega (arith, r.some))
 
       part : recover (take (past - row) (drop row s)) (take (past - row) (drop row k)) ≡ replicate (count gap) false ++ replicate (past - first) true
       part =
-          let r = filling_next h in
           let unset = replicate (first - row) false in
           let gap-long : length unset ≡ length gap =
           omega (arith, length-replicate (first - row) false, length-take (first - row) (drop row s), length-drop row s, long, r.from, r.some, r.within) in
           ap₂ recover (cut s)
-          (cut k ∙ ap₂ (λ (x y : List Bool). x ++ y) (passed_gap len runs row i f.passed h) (passed_held len runs row i f.passed h))
+          (cut k ∙ ap₂ (λ (x y : List Bool). x ++ y) (passed_gap len runs row i f.passed first past r) (passed_held len runs row i f.passed first past r))
           ∙ recover_append gap run unset (replicate (past - first) true) gap-long
           ∙ ap₂ (λ (x y : List Bool). x ++ y) (recover_none gap (first - row))
           (ap (λ (n : ℕ). recover run (replicate n true)) (sym run_long) ∙ recover_all run ∙ ap (λ (n : ℕ). replicate n true) run_full)
@@ -112,18 +102,17 @@ module _ (s : List Bool) (runs : List ℕ) (len at : ℕ) where
       filling_room set e = omega (arith, e, both, recovering_room s k at same row rank out₀ out f.recovering (past - row))
 
       pub filling_run : (set below : ℕ) (then : List ℕ) → set ≡ count (take (first - row) (drop row s)) → below ≡ rank + set + (past - first)
-          → then ≡ laid (at + rank) (replicate set false ++ replicate (past - first) true) out → Filling past (i + 2) below out₀ then
+          → then ≡ laid (at + rank) (replicate set false ++ replicate (past - first) true) out → Filling past (i + 1) below out₀ then
       filling_run set below then e b t =
-          let r = filling_next h in
           let place : row + (past - row) ≡ past = omega (arith, r.from, r.some) in
           let more : Recovering s k at (row + (past - row)) below out₀ then =
           recovering_chunk s k at same row rank out₀ out f.recovering (past - row) below then (omega (arith, both, e, b))
           (t ∙ ap (λ (n : ℕ). laid (at + rank) (replicate n false ++ replicate (past - first) true) out) e
           ∙ ap (λ (l : List Bool). laid (at + rank) l out) (sym part)) in
-          record { passed = passed_run len runs row i f.passed h; recovering = rw place at more }
+          record { passed = passed_run len runs row i f.passed first past r; recovering = rw place at more }
 
     -- no run is left: no rank that is left is kept
-    pub filling_end : (total : ℕ) (then : List ℕ) → length runs ≤ i → total ≡ count s → then ≡ laid (at + rank) (replicate (total - rank) false) out
+    pub filling_end : (total : ℕ) (then : List ℕ) → length runs / 2 ≤ i → total ≡ count s → then ≡ laid (at + rank) (replicate (total - rank) false) out
         → then ≡ laid at (recover s (in_runs len runs)) out₀
     filling_end total then h e t =
         let many : total - rank ≡ count (drop row s) = omega (arith, e, left) in

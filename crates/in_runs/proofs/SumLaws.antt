@@ -2,7 +2,7 @@
 -- two ends. By the set rows of a window, run by run.
 -- Assumes nothing.
 use Prim.Native.Nat.{ℕ, ◌+◌, ◌-◌, ◌≤◌, ◌<◌}
-use mathlib.Core.Path.{◌≡◌, sym, ap, ◌∙◌}
+use mathlib.Core.Path.{◌≡◌, sym, ap, ◌∙◌, subst}
 use mathlib.Core.Bool.{true, false}
 use mathlib.Core.List.{List, [], ◌∷◌}
 use native.Mathlib.Omega.{arith}
@@ -78,23 +78,28 @@ module _ (runs : List ℕ) (row n : ℕ) where
       pub summing_few : set + (into row n past - into row n first) ≤ n
       summing_few = omega (arith, more, count_le_length (window row n runs), tab_length row n (λ k. held k runs))
 
-      -- the window goes on behind the run
-      pub summing_run : past ≤ row + n → Summing (i + 2) (set + (into row n past - into row n first))
-      summing_run k = record {
-        from = past;
-        ahead = summing_next.left;
-        behind = λ r l. s.behind r l ∙ ap (held r) summing_next.is ∙ held_past r first past (drop (i + 2) runs) (omega arith);
-        counted = more;
-      }
+      module _ (begin stop : ℕ) (b : begin ≡ into row n first) (e : stop ≡ into row n past) where
+        -- the window goes on behind the run
+        pub summing_run : past ≤ row + n → Summing (i + 2) (set + (stop - begin))
+        summing_run k = record {
+          from = past;
+          ahead = summing_next.left;
+          behind = λ r l. s.behind r l ∙ ap (held r) summing_next.is ∙ held_past r first past (drop (i + 2) runs) (omega arith);
+          counted = omega (arith, more);
+        }
 
-      -- it ends in the run, or before it
-      pub summing_stop : row + n ≤ past → (set + (into row n past - into row n first) ≡ count (window row n runs)) × Reached runs i (row + n)
-      summing_stop k =
-          let none = ap count (window_below row n past 1048576 (drop (i + 2) runs) k summing_next.left) in
-          (omega (arith, more, none, unset_count n), reached)
+        -- it ends in the run, or before it
+        pub summing_stop : row + n ≤ past → (set + (stop - begin) ≡ count (window row n runs)) × Reached runs i (row + n)
+        summing_stop k =
+            let none = ap count (window_below row n past 1048576 (drop (i + 2) runs) k summing_next.left) in
+            (omega (arith, more, none, unset_count n), reached)
 
     -- no run is left
-    pub summing_end : length runs ≤ i → (set ≡ count (window row n runs)) × Reached runs i (row + n)
+    pub summing_end : length runs ≤ i → (set ≡ count (window row n runs)) × Reached runs (length runs) (row + n)
     summing_end h =
         let none = ap (λ (ns : List ℕ). count (window row n ns)) (drop_of_length-le runs {i = i} h) in
-        (omega (arith, s.counted, none, ap count (window_below row n (row + n) 1048576 [] (omega arith) tt), unset_count n), reached)
+        let same : drop i runs ≡ drop (length runs) runs =
+        drop_of_length-le runs {i = i} h ∙ sym (drop_of_length-le runs {i = length runs} (omega arith)) in (
+          omega (arith, s.counted, none, ap count (window_below row n (row + n) 1048576 [] (omega arith) tt), unset_count n),
+          record { ahead = subst (Apart 0 1048576) same reached.ahead; behind = λ r k. reached.behind r k ∙ ap (held r) same },
+        )

@@ -27,14 +27,12 @@ pub fn recover_under_runs(runs: &[u32], kept: &[u64], from: u64, len: u64, at: u
     ensures { out.new ≡ laid at (recover (in_runs len runs.now) (view from len kept.now)) out.old }
 {
     let mut rank: u64 = 0;
-    let mut i: usize = 0;
-    while i < runs.len() {
-        let first = runs[i] as u64;
-        let past = runs[i + 1] as u64;
+    for &[first, past] in runs.as_chunks::<2>().0 {
+        let first = first as u64;
+        let past = past as u64;
         let held = past - first;
         copy_rows(kept, from, Row(first), held, at, Rank(rank), out);
         rank += held;
-        i += 2;
     }
 }
 
@@ -76,17 +74,15 @@ pub fn recover_runs(
     let mut row = Row(0);
     let mut rank = Rank(0);
     let mut own: usize = 0;
-    let mut i: usize = 0;
-    while i < runs.len() {
-        let first = runs[i] as u64;
-        let past = runs[i + 1] as u64;
+    for &[first, past] in runs.as_chunks::<2>().0 {
+        let first = first as u64;
+        let past = past as u64;
         let gap = first - row.0;
         let held = past - first;
         let skipped = skip_rows(s, swords, srows, own, row, gap);
         rank = lay_ranks(skipped.set, held, at, rank, out);
         own = skip_set(s, skipped.next, held);
         row = Row(past);
-        i += 2;
     }
     let left = total - rank.0;
     clear_ranks(left, at, rank, out);

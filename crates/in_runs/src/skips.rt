@@ -28,22 +28,13 @@ fn skip_entries(entries: &[u32], next: usize, end: Row) -> usize
     requires { (next ≤ length entries.now) × Below end.0 (take next entries.now) × Climbs 0 (drop next entries.now) }
     ensures { (next ≤ result) × Parted end.0 result entries.now }
 {
-    let mut j = next;
-    while j < entries.len() {
-        let entry = entries[j] as u64;
-        if entry >= end.0 {
-            return j;
-        }
-        j += 1;
+    match entries[next..]
+        .iter()
+        .position(|entry| *entry as u64 >= end.0)
+    {
+        Some(passed) => next + passed,
+        None => entries.len(),
     }
-    j
-}
-
-// How far into the n rows from a row on another row lies.
-fn rows_into(from: Row, n: u64, row: Row) -> u64
-    ensures { result ≡ into from.0 n row.0 }
-{
-    into_window(from.0, n, row.0)
 }
 
 // The rows of runs among n from a row on, counted from the run on that the walk has come to.
@@ -53,19 +44,20 @@ fn skip_runs(runs: &[u32], next: usize, row: Row, n: u64) -> Skipped
 {
     let end = row.0 + n;
     let mut set: u64 = 0;
-    let mut i = next;
-    while i < runs.len() {
+    for i in (next..runs.len()).step_by(2) {
         let first = runs[i] as u64;
         let past = runs[i + 1] as u64;
-        let begin = rows_into(row, n, Row(first));
-        let stop = rows_into(row, n, Row(past));
+        let begin = into_window(row.0, n, first);
+        let stop = into_window(row.0, n, past);
         set += stop - begin;
         if end <= past {
             return Skipped { set, next: i };
         }
-        i += 2;
     }
-    Skipped { set, next: i }
+    Skipped {
+        set,
+        next: runs.len(),
+    }
 }
 
 // The set rows among n from a row on, and where the walk has come to behind them.

@@ -8,7 +8,8 @@ ghost use Rattle.rules.specs.Compose.{composed, composed_out};
 
 use inner::compose::compose_with;
 use routes::inner::document_factors;
-use rules::{Answer, Form};
+use rows::Refusal;
+use rules::{Form, Summary};
 
 pub mod inner;
 
@@ -21,7 +22,7 @@ pub fn intersect_by_rank(
     rwords: &[u64],
     rrows: &[u32],
     out: &mut [u64],
-) -> Answer
+) -> Result<Summary, Refusal>
     ensures { (result ≡ composed published (lent s swords.now srows.now) (lent r rwords.now rrows.now) out.old)
         × (out.new ≡ composed_out (lent s swords.now srows.now) (lent r rwords.now rrows.now) out.old) }
 {

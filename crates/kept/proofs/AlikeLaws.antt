@@ -1,22 +1,25 @@
 -- Ranks that are alike: what a walk over runs knows of them, what they keep of the words of self that have them, and how many they are. By the rows of
 -- runs before, in and behind a run, and by the law that only as many ranks matter to rows as these have set.
 -- Assumes nothing.
-use Prim.Native.Nat.{ℕ, zero, suc, ◌+◌, ◌-◌, ◌^◌, ◌≤◌, ◌<◌}
+use Prim.Native.Nat.{ℕ, zero, suc, ◌+◌, ◌-◌, ◌*◌, ◌^◌, ◌≤◌, ◌<◌}
 use native.Mathlib.Nat.{zero-add, add-zero}
-use mathlib.Core.Path.{◌≡◌, refl, sym, ap, ap₂, ◌∙◌}
+use mathlib.Core.Path.{◌≡◌, refl, sym, ap, ap₂, ◌∙◌, subst}
 use mathlib.Core.Bool.{Bool, true, false, ◌&&◌, ◌||◌}
 use mathlib.Core.List.{List}
 use native.Mathlib.Omega.{arith}
 use borrow.Author.Tests.{lt-leb}
 use lib.Dec.{ltb}
-use lib.ListN.{length, take, drop, get_or, replicate, length-replicate, drop_of_length-le}
+use lib.Count.{ones}
+use lib.ListN.{length, take, drop, get_or, set, replicate, length-replicate, drop_of_length-le}
 use Rattle.rows.specs.Rows.{count, compose}
 use Rattle.rows.specs.Word.{bits_of, word_of}
+use Rattle.rows.specs.Words.{fit, bits_of_all, view}
 use Rattle.rows.specs.Lists.{tab}
 use Rattle.rows.specs.Runs.{held, in_runs}
 use Rattle.rows.specs.Pdep.{pdep}
 use Rattle.rows.proofs.RowLaws.{count_append, count_le_length, compose_by_full, compose_by_empty}
-use Rattle.rows.proofs.WordLaws.{bits_of_length, word_of_bits_of, bits_of_word_of}
+use Rattle.rows.proofs.WordLaws.{bits_of_length, word_of_bits_of, bits_of_word_of, ones_word, word_of_lt}
+use Rattle.rows.proofs.WordsLaws.{fit_length}
 use Rattle.rows.proofs.ChunkLaws.{same_part, word_false}
 use Rattle.rows.proofs.FitLaws.{compose_cut}
 use Rattle.rows.proofs.ListLaws.{tab_length}
@@ -25,6 +28,7 @@ use Rattle.rows.proofs.RunLaws.{held_below, held_first, tab_add, tab_all}
 use Rattle.rows.proofs.RunTurnLaws.{NextRun, next_run}
 use Rattle.books.specs.Windows.{window, Reached}
 use Rattle.books.proofs.GatherLaws.{tab_part}
+use Rattle.deposits.proofs.WholeLaws.{Stored, stored_word}
 use Rattle.kept.specs.Alike.{all_or_none}
 
 -- ---- which they are, from a rank on that a walk has come to
@@ -125,3 +129,28 @@ part_alike t runs rank most total v alike few room =
     compose_alike t v 0 most (omega arith) ∙ ap (compose t) (sym (fewer runs rank most v alike (count t) few))
     ∙ ap (compose t) (sym (tab_part 0 total rank (count t) (λ i. held i runs) room ∙ ap (λ (k : ℕ). tab k (count t) (λ i. held i runs)) (zero-add rank)))
     ∙ compose_cut (count t) t (drop rank (in_runs total runs)) (omega arith)
+
+-- a word of a stretch more, stored as it is or as 0
+pub stored_alike : (start first i to : ℕ) (ws out₀ out : List ℕ) (most had word put : ℕ) (v : Bool) → first ≤ i → start + i * 64 + 64 ≤ length ws * 64
+    → Stored (start + first * 64) (to + first) ws out₀ (replicate most v) (i - first) had out
+    → word ≡ word_of (fit 64 (drop (start + i * 64) (bits_of_all 64 ws))) → had + ones word ≤ most → put ≡ all_or_none v word
+    → Stored (start + first * 64) (to + first) ws out₀ (replicate most v) (i + 1 - first) (had + ones word) (set out (to + i) put)
+stored_alike start first i to ws out₀ out most had word put v low reach s is few e =
+    let k = i - first in
+    let from = start + first * 64 in
+    let r = replicate most v in
+    let rows = drop (from + k * 64) (bits_of_all 64 ws) in
+    let t = fit 64 rows in
+    let place : start + i * 64 ≡ from + k * 64 = omega arith in
+    let own : word ≡ word_of t = is ∙ ap (λ (x : ℕ). word_of (fit 64 (drop x (bits_of_all 64 ws)))) place in
+    let small : word < 2 ^ 64 =
+    subst (λ (x : ℕ). x < 2 ^ 64) (sym own) (subst (λ (n : ℕ). word_of t < 2 ^ n) (fit_length 64 rows) (word_of_lt t)) in
+    let room : count (view from (k * 64) ws) + count t ≤ most = omega (arith, ap ones own, ones_word t, s.counted) in
+    let short : length t ≤ 64 = omega (arith, fit_length 64 rows) in
+    let one =
+    stored_word from k (to + first) ws out₀ r (omega arith) had word (word_of (replicate 64 v)) put out s own
+    (alike_same t v (count (view from (k * 64) ws)) most short room) (e ∙ alike_word word v small) in
+    let next : k + 1 ≡ i + 1 - first = omega arith in
+    let there : to + first + k ≡ to + i = omega arith in
+    subst (λ (j : ℕ). Stored from (to + first) ws out₀ r j (had + ones word) (set out (to + i) put)) next
+    (subst (λ (j : ℕ). Stored from (to + first) ws out₀ r (k + 1) (had + ones word) (set out j put)) there one)

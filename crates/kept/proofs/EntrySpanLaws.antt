@@ -1,7 +1,7 @@
 -- A run of ranks on a list is a part of the list; and what a loop over such runs keeps. With a law for no run, a law for one run more, and a law for
 -- none left. By the set rows of runs, and the law that the rows of a composition are the entries at the set ranks.
 -- Assumes nothing.
-use Prim.Native.Nat.{ℕ, zero, suc, ◌+◌, ◌-◌, ◌≤◌, ◌<◌}
+use Prim.Native.Nat.{ℕ, zero, suc, ◌+◌, ◌-◌, ◌*◌, ◌/◌, ◌≤◌, ◌<◌}
 use native.Mathlib.Numerals.{add-one}
 use mathlib.Core.Path.{◌≡◌, refl, sym, ap, ap₂, ◌∙◌}
 use mathlib.Core.Bool.{Bool, true}
@@ -17,7 +17,8 @@ use Rattle.rows.proofs.RowLaws.{compose_count}
 use Rattle.rows.proofs.ListLaws.{tab_length, listed_count}
 use Rattle.rows.proofs.MarkLaws.{marked_append}
 use Rattle.rows.proofs.RunLaws.{run_rows, in_runs_lem, runs_count, runs_few, rows_from, runs_set_rows, no_runs_set_rows}
-use Rattle.rows.proofs.RunTurnLaws.{NextRun, next_run, lengths_next, lengths_none}
+use Rattle.rows.proofs.RunTurnLaws.{lengths_none}
+use Rattle.rows.proofs.PairLaws.{NextPair, lengths_pair, pairs_passed}
 use Rattle.marks.proofs.ListLaws.{rows_at_set}
 
 -- ---- a part of a list
@@ -40,12 +41,12 @@ part_at rows f (suc n) h =
 module _ (rows ranks : List ℕ) (at : ℕ) where
   -- the entries at the ranks that are left, from a rank on
   abbrev left : ℕ → ℕ → List ℕ
-  left rank i = map (λ k. get_or rows k 0) (set_rows rank (run_rows rank (length rows) (drop i ranks)))
+  left rank i = map (λ k. get_or rows k 0) (set_rows rank (run_rows rank (length rows) (drop (i * 2) ranks)))
 
   pub record Spanning (i sum : ℕ) (out goal : List ℕ) : Type 0 where
     pub rank : ℕ
-    pub ahead : Apart rank (length rows) (drop i ranks)
-    pub counted : sum + run_lengths (drop i ranks) ≡ run_lengths ranks
+    pub ahead : Apart rank (length rows) (drop (i * 2) ranks)
+    pub counted : sum + run_lengths (drop (i * 2) ranks) ≡ run_lengths ranks
     pub marks : marked at (left rank i) out ≡ goal
 
   pub spanning_none : (len : ℕ) (out : List ℕ) → Ascending 0 len rows → Apart 0 (length rows) ranks
@@ -63,55 +64,46 @@ module _ (rows ranks : List ℕ) (at : ℕ) where
       }
 
   module _ (i sum : ℕ) (out goal : List ℕ) (k : Spanning i sum out goal) where
-    module _ (h : i < length ranks) where
-      pub spanning_next : NextRun k.rank (length rows) i ranks
-      spanning_next = next_run k.rank (length rows) i ranks h k.ahead
-
-      abbrev first : ℕ
-      first = get_or ranks i 0
-
-      abbrev past : ℕ
-      past = get_or ranks (i + 1) 0
-
-      pub spanning_few : Apart 0 (length rows) ranks → sum + (get_or ranks (i + 1) 0 - get_or ranks i 0) ≤ length rows
+    module _ (first past : ℕ) (r : NextPair k.rank (length rows) i ranks first past) where
+      pub spanning_few : Apart 0 (length rows) ranks → sum + (past - first) ≤ length rows
       spanning_few a =
-          omega (arith, k.counted, lengths_next k.rank (length rows) i ranks spanning_next, runs_few 0 (length rows) ranks a (omega arith))
+          omega (arith, k.counted, lengths_pair k.rank (length rows) i first past ranks r, runs_few 0 (length rows) ranks a (omega arith))
 
-      split : left k.rank i ≡ take (past - first) (drop first rows) ++ left past (i + 2)
+      split : left k.rank i ≡ take (past - first) (drop first rows) ++ left past (i + 1)
       split =
-          let r = spanning_next in
           let entry : ℕ → ℕ = λ j. get_or rows j 0 in
           let n : ℕ = length rows in
-          let others = set_rows past (run_rows past n (drop (i + 2) ranks)) in
+          let others = set_rows past (run_rows past n (drop ((i + 1) * 2) ranks)) in
           ap (map entry) (ap (λ (l : List ℕ). set_rows k.rank (run_rows k.rank n l)) r.is
-          ∙ runs_set_rows k.rank n first past (drop (i + 2) ranks) r.from r.some)
+          ∙ runs_set_rows k.rank n first past (drop ((i + 1) * 2) ranks) r.from r.some)
           ∙ map-append entry (rows_from first (past - first)) others
           ∙ ap (λ (l : List ℕ). l ++ map entry others) (part_at rows first (past - first) (omega (arith, r.some, r.within)))
 
-      pub spanning_run : (then : List ℕ) → then ≡ marked at (take (get_or ranks (i + 1) 0 - get_or ranks i 0) (drop (get_or ranks i 0) rows)) out
-          → Spanning (i + 2) (sum + (get_or ranks (i + 1) 0 - get_or ranks i 0)) then goal
-      spanning_run then t =
-          let r = spanning_next in
-          record {
-            rank = past;
-            ahead = r.left;
-            counted = omega (arith, k.counted, lengths_next k.rank (length rows) i ranks r);
-            marks =
-                ap (marked at (left past (i + 2))) t ∙ sym (marked_append at (take (past - first) (drop first rows)) (left past (i + 2)) out)
-                ∙ sym (ap (λ (l : List ℕ). marked at l out) split) ∙ k.marks;
-          }
+      pub spanning_run : (then : List ℕ) → then ≡ marked at (take (past - first) (drop first rows)) out
+          → Spanning (i + 1) (sum + (past - first)) then goal
+      spanning_run then t = record {
+        rank = past;
+        ahead = r.left;
+        counted = omega (arith, k.counted, lengths_pair k.rank (length rows) i first past ranks r);
+        marks =
+            ap (marked at (left past (i + 1))) t ∙ sym (marked_append at (take (past - first) (drop first rows)) (left past (i + 1)) out)
+            ∙ sym (ap (λ (l : List ℕ). marked at l out) split) ∙ k.marks;
+      }
 
-    pub spanning_all : length ranks ≤ i → out ≡ goal
+    none_left : length ranks / 2 ≤ i → length ranks ≤ i * 2
+    none_left h = pairs_passed k.rank (length rows) i ranks k.ahead h
+
+    pub spanning_all : length ranks / 2 ≤ i → out ≡ goal
     spanning_all h =
         let none : left k.rank i ≡ [] =
-        ap (λ (l : List ℕ). map (λ j. get_or rows j 0) (set_rows k.rank (run_rows k.rank (length rows) l))) (drop_of_length-le ranks {i = i} h)
+        ap (λ (l : List ℕ). map (λ j. get_or rows j 0) (set_rows k.rank (run_rows k.rank (length rows) l))) (drop_of_length-le ranks {i = i * 2} (none_left h))
         ∙ ap (map (λ j. get_or rows j 0)) (no_runs_set_rows k.rank (length rows)) in
         sym (ap (λ (l : List ℕ). marked at l out) none) ∙ k.marks
 
-    pub spanning_count : (len : ℕ) → length ranks ≤ i → Ascending 0 len rows → Apart 0 (length rows) ranks
+    pub spanning_count : (len : ℕ) → length ranks / 2 ≤ i → Ascending 0 len rows → Apart 0 (length rows) ranks
         → sum ≡ count (compose (listed len rows) (in_runs (length rows) ranks))
     spanning_count len h up a =
         let c : count (compose (listed len rows) (in_runs (length rows) ranks)) ≡ run_lengths ranks =
         compose_count (listed len rows) (in_runs (length rows) ranks) (tab_length 0 (length rows) (λ i. held i ranks) ∙ sym (listed_count len rows up))
         ∙ runs_count (length rows) ranks a in
-        omega (arith, k.counted, lengths_none i ranks h, c)
+        omega (arith, k.counted, lengths_none (i * 2) ranks (none_left h), c)

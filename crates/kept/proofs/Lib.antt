@@ -1,2 +1,3 @@
 pub mod EntrySpanLaws
 pub mod AlikeLaws
+pub mod KeepLaws

@@ -52,6 +52,7 @@ pub fn keep_bits(mask: u64, ranks: &[u32], next: usize, rank: Rank) -> Kept
 }
 
 // Chunk by chunk, from where a walk stands. How many ranks are kept, those before it included.
+// A loop beside the one of `deposits`: it counts what is kept too, and `keep_whole` needs keep_bits as well, so that sharing that loop would leave two forms here.
 pub fn keep_chunks(
     words: &[u64],
     start: u64,
@@ -67,21 +68,18 @@ pub fn keep_chunks(
         × (out.new ≡ laid at (compose (view start len words.now)
         (drop from.rank.0 (in_runs (from.rank.0 + count (view start len words.now)) ranks.now))) out.old) }
 {
-    let mut row = Row(0);
     let mut rank = from.rank;
     let mut next = from.next;
     let mut held = from.held;
-    while row.0 < len {
-        let n = chunk_len(len, row.0);
-        let mask = self_bits(words, start, row, n);
+    for row in (0..len).step_by(64) {
+        let n = chunk_len(len, row);
+        let mask = self_bits(words, start, Row(row), n);
         let kept = keep_bits(mask, ranks, next, rank);
-        put_rows(out, at, row, n, kept.bits);
+        put_rows(out, at, Row(row), n, kept.bits);
         next = kept.next;
         held += kept.held;
         let past = rank.0 + kept.set;
         rank = Rank(past);
-        let below = row.0 + n;
-        row = Row(below);
     }
     held
 }

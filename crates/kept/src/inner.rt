@@ -12,6 +12,7 @@ use super::chunks::{Walk, keep_chunks};
 use super::entries::mark_spans;
 use super::whole::keep_whole;
 use laid::inner::clear;
+use marks::inner::Numbers;
 use rows::Rank;
 
 // Self in words, the rank mask in runs: whole words first where the output begins on one.
@@ -54,17 +55,17 @@ pub fn keep_words(
 // last are marked in it.
 pub fn lay_entries_by_runs(
     rows: &[u32],
-    single: bool,
+    numbers: Numbers,
     ranks: &[u32],
     len: u64,
     at: u64,
     out: &mut [u64],
 ) -> u64
-    requires { Ascending 0 len (entries single rows.now) × Apart 0 (length (entries single rows.now)) ranks.now × Room at len out.old }
-    ensures { (result ≡ count (compose (listed len (entries single rows.now)) (in_runs (length (entries single rows.now)) ranks.now)))
-        × (out.new ≡ laid at (compose (listed len (entries single rows.now))
-        (in_runs (length (entries single rows.now)) ranks.now)) out.old) }
+    requires { Ascending 0 len (entries numbers rows.now) × Apart 0 (length (entries numbers rows.now)) ranks.now × Room at len out.old }
+    ensures { (result ≡ count (compose (listed len (entries numbers rows.now)) (in_runs (length (entries numbers rows.now)) ranks.now)))
+        × (out.new ≡ laid at (compose (listed len (entries numbers rows.now))
+        (in_runs (length (entries numbers rows.now)) ranks.now)) out.old) }
 {
     clear(out, at, len);
-    mark_spans(rows, single, ranks, len, at, out)
+    mark_spans(rows, numbers, ranks, len, at, out)
 }

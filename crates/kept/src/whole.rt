@@ -35,21 +35,23 @@ fn store_alike(
         × (out.new ≡ laid ((to + first) * 64) (compose (view (start + first * 64) (result.words * 64) words.now)
         (replicate alike.most alike.set)) out.old) }
 {
-    let most = alike.most;
-    let at = to + first;
     let mut set: u64 = 0;
-    let mut k: usize = 0;
-    while first + k < n {
-        let word = whole_word(words, start, first + k);
+    for i in first..n {
+        let word = whole_word(words, start, i);
         let past = set + u64::count_ones(word) as u64;
-        if past > most {
-            return Passed { words: k, set };
+        if past > alike.most {
+            return Passed {
+                words: i - first,
+                set,
+            };
         }
-        out[at + k] = all_or_none(word, alike.set);
+        out[to + i] = all_or_none(word, alike.set);
         set = past;
-        k += 1;
     }
-    Passed { words: k, set }
+    Passed {
+        words: n - first,
+        set,
+    }
 }
 
 // The first n words: as many as a stretch has, and then one whose ranks may not be alike, until all are stored.
@@ -67,6 +69,7 @@ pub fn keep_whole(
         × (out.new ≡ laid (to * 64) (compose (view start (n * 64) words.now)
         (in_runs (count (view start (n * 64) words.now)) ranks.now)) out.old) }
 {
+    // A turn stores a stretch of words, as many as it finds alike: no range has these steps.
     let mut i: usize = 0;
     let mut rank = Rank(0);
     let mut next: usize = 0;

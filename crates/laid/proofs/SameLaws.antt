@@ -1,19 +1,22 @@
--- The same bit laid in whole words: what a loop of one store keeps, with a law for no word and a law for one word more; the same bit laid again, over
--- its end; and the low bits of a word whose bits are all the same. One law for either bit.
--- Assumes nothing.
+-- The same bit laid in whole words, which a part of the words is filled with; the same bit laid again, over its end; and the low bits of a word whose
+-- bits are all the same. One law for either bit.
 use Prim.Native.Nat.{ℕ, zero, suc, ◌+◌, ◌-◌, ◌*◌, ◌^◌, ◌≤◌, ◌<◌}
-use native.Mathlib.Nat.{le_of_suc-le-suc}
-use mathlib.Core.Path.{◌≡◌, refl, sym, ap, ◌∙◌}
+use native.Mathlib.Nat.{add_comm, zero-mul, suc-mul, le_of_suc-le-suc}
+use mathlib.Core.Path.{◌≡◌, refl, sym, ap, ap₂, ◌∙◌}
 use mathlib.Core.Bool.{Bool}
-use mathlib.Core.List.{List, ◌∷◌}
+use mathlib.Core.List.{List, ◌∷◌, ◌++◌, append_assoc}
 use native.Mathlib.Omega.{arith}
-use lib.ListN.{length, take, set, replicate, length-set, length-replicate}
+use lib.ListN.{length, take, drop, replicate, length-take, length-drop, length-replicate, replicate-append-replicate}
+use lib.Seq.{drop-drop, take_all}
+use borrow.Rule.Slice.PartMut.{mid_of, put_mid}
 use Rattle.rows.specs.Rows.{splice}
 use Rattle.rows.specs.Word.{bits_of}
-use Rattle.rows.specs.Words.{Below}
+use Rattle.rows.specs.Words.{Below, bits_of_all}
 use Rattle.rows.specs.Laid.{laid_in, laid}
 use Rattle.rows.proofs.FitLaws.{take_bits}
-use Rattle.rows.proofs.LaidLaws.{below_set, laid_nil, laid_same, laid_word}
+use Rattle.rows.proofs.WordsLaws.{bits_of_all_length}
+use Rattle.rows.proofs.SpliceLaws.{splice_eq}
+use Rattle.rows.proofs.LaidLaws.{laid_same, laid_words}
 use Rattle.rows.proofs.MarkLaws.{laid_within}
 
 take_same : (n w : ℕ) (b : Bool) → n ≤ w → take n (replicate w b) ≡ replicate n b
@@ -25,30 +28,34 @@ take_same (suc n) (suc w) b h = ap (λ (l : List Bool). b ∷ l) (take_same n w 
 pub low_same : (n w x : ℕ) (b : Bool) → n ≤ w → bits_of w x ≡ replicate w b → bits_of n x ≡ replicate n b
 low_same n w x b h e = sym (take_bits n w x h) ∙ ap (take n) e ∙ take_same n w b h
 
--- the words from first to i are of the bit b, and the others as they were
-pub record Filled (b : Bool) (first i : ℕ) (out₀ out : List ℕ) : Type 0 where
-  pub long : length out ≡ length out₀
-  pub small : Below (2 ^ 64) out
-  pub filled : out ≡ laid (first * 64) (replicate ((i - first) * 64) b) out₀
+-- a part put back is written over the words from where it begins on
+pub put_splice : (at n : ℕ) (ns vs : List ℕ) → length vs ≡ n → at + n ≤ length ns → put_mid at n ns vs ≡ splice at ns vs
+put_splice at n ns vs long room =
+    let rest : drop n (drop at ns) ≡ drop (at + length vs) ns = drop-drop n at ns ∙ ap (λ (k : ℕ). drop (at + k) ns) (sym long) in
+    ap (λ (l : List ℕ). take at ns ++ (vs ++ l)) rest ∙ sym (splice_eq at ns vs (omega arith) ∙ append_assoc (take at ns) vs (drop (at + length vs) ns))
 
-pub filled_none : (b : Bool) (first : ℕ) (out : List ℕ) → Below (2 ^ 64) out → Filled b first first out out
-filled_none b first out h =
-    let none : (first - first) * 64 ≡ 0 = omega arith in
-    record { long = refl; small = h; filled = rw none (sym (laid_nil 64 (first * 64) out h)) }
+same_bits : (w n v : ℕ) (b : Bool) → bits_of w v ≡ replicate w b → bits_of_all w (replicate n v) ≡ replicate (n * w) b
+same_bits w zero v b e = rw zero-mul refl
+same_bits w (suc n) v b e =
+    ap₂ (λ (k l : List Bool). k ++ l) e (same_bits w n v b e) ∙ replicate-append-replicate w (n * w) b
+    ∙ ap (λ (k : ℕ). replicate k b) (add_comm w (n * w) ∙ sym (suc-mul n w))
 
-pub filled_word : (b : Bool) (v first i : ℕ) (out₀ out : List ℕ) → v < 2 ^ 64 → bits_of 64 v ≡ replicate 64 b → first ≤ i → Filled b first i out₀ out
-    → Filled b first (i + 1) out₀ (set out i v)
-filled_word b v first i out₀ out h e le f =
-    let done : ℕ = (i - first) * 64 in
-    let place : i * 64 ≡ first * 64 + done = omega arith in
-    let more : done + 64 ≡ (i + 1 - first) * 64 = omega arith in
-    record {
-      long = length-set out i v ∙ f.long;
-      small = below_set (2 ^ 64) out i v h f.small;
-      filled =
-          laid_word 64 i v out h f.small ∙ ap (λ (z : List Bool). laid (i * 64) z out) e ∙ ap (laid (i * 64) (replicate 64 b)) f.filled
-          ∙ laid_same 64 (first * 64) (i * 64) done 64 b out₀ place ∙ ap (λ (x : ℕ). laid (first * 64) (replicate x b) out₀) more;
-    }
+below_same : (m n v : ℕ) → v < m → Below m (replicate n v)
+below_same m zero v h = tt
+below_same m (suc n) v h = (h, below_same m n v h)
+
+-- the n words from word `first` on filled with a word v of one bit
+pub filled : (first n v : ℕ) (b : Bool) (out vs : List ℕ) → v < 2 ^ 64 → bits_of 64 v ≡ replicate 64 b → first + n ≤ length out → Below (2 ^ 64) out
+    → vs ≡ replicate (length (mid_of first n out)) v → put_mid first n out vs ≡ laid (first * 64) (replicate (n * 64) b) out
+filled first n v b out vs small e room below is =
+    let long : length (mid_of first n out) ≡ n = omega (arith, length-take n (drop first out), length-drop first out) in
+    let same = replicate n v in
+    let count : length same ≡ n = length-replicate n v in
+    let bits = bits_of_all 64 same in
+    ap (put_mid first n out) (is ∙ ap (λ (k : ℕ). replicate k v) long) ∙ put_splice first n out same count room
+    ∙ ap (splice first out) (sym (take_all n same (omega arith)))
+    ∙ laid_words 64 first n out same below (below_same (2 ^ 64) n v small)
+    ∙ ap (λ (l : List Bool). laid (first * 64) l out) (take_all (n * 64) bits (omega (arith, bits_of_all_length 64 same)) ∙ same_bits 64 n v b e)
 
 -- the same bit over the same bits changes none
 splice_same : (at n k : ℕ) (b : Bool) → splice at (replicate n b) (replicate k b) ≡ replicate n b

@@ -12,27 +12,31 @@ use native.Mathlib.Omega.{arith}
 use lib.Dec.{ltb}
 use lib.ListN.{length, replicate, length-append, length-replicate}
 use borrow.Author.Tests.{ltb-false}
-use Rattle.rows.specs.declared.Verdict.{Verdict}
-use Rattle.rows.specs.declared.Verdict.TheVariants.{Fine}
+use Rattle.std.specs.Prelude.{Ok, Err}
 use Rattle.rows.specs.Rows.{count, compose}
 use Rattle.rows.specs.Laid.{words_for}
-use Rattle.rows.specs.Table.{refusal, first}
+use Rattle.rows.specs.declared.Reason.{Reason}
+use Rattle.rows.specs.declared.Reason.TheVariants.{LengthsDiffer}
+use Rattle.rows.specs.Table.{Named, Verdict, no_operand, number_of, refusal, first}
 use Rattle.rows.proofs.RowLaws.{compose_count}
-use Rattle.rows.proofs.TableLaws.{chosen, passed_over}
+use Rattle.rows.proofs.TableLaws.{chosen, passed_over, number_some}
 use Rattle.rules.specs.Operand.{in_words, Accepted}
-use Rattle.rules.specs.Answer.{refused, answered}
+use Rattle.rules.specs.Answer.{summed, answered}
 use Rattle.rules.specs.Route.{published}
 use Rattle.rules.specs.Compose.{Paired, compose_checks, result, routed, composed}
 use Rattle.rules.proofs.OperandLaws.{in_words_rows, in_words_accepted}
-use Rattle.rules.proofs.AnswerLaws.{by_fine, refused_whole}
+use Rattle.rules.proofs.AnswerLaws.{by_fine}
 use Rattle.rules.proofs.Compositions.{compose_fine, composed_refuses}
 use Rattle.lines.specs.Text.{digits, line, refusal_key, route_key, count_key, bits_key, decimal_in, decimal, lines, lines_of, answer_to}
 use Rattle.lines.proofs.SaidLaws.{digits_length}
+use Rattle.std.specs.Prelude.{Option}
+use Rattle.rules.specs.declared.Route.{Route}
+use Rattle.rules.specs.Route.{route_number}
 
 -- ---- the answer to two masks
 
 -- the number of the route that composition takes
-abbrev pub route_taken : List Bool → List Bool → ℕ
+abbrev pub route_taken : List Bool → List Bool → Option Route
 route_taken self rank = routed published (in_words self) (in_words rank)
 
 module _ (self rank : List Bool) (self_short : length self ≤ 8192) (rank_short : length rank ≤ 8192) where
@@ -48,32 +52,29 @@ module _ (self rank : List Bool) (self_short : length self ≤ 8192) (rank_short
   rank_accepted : Accepted (in_words rank)
   rank_accepted = in_words_accepted rank (omega arith)
 
-  pub answer_paired : length rank ≡ count self → answer_to self rank ≡ answered Fine (compose self rank) (route_taken self rank)
+  pub answer_paired : length rank ≡ count self → answer_to self rank ≡ answered (Ok tt) (compose self rank) (route_taken self rank)
   unfolding composed
   answer_paired e =
       let paired : Paired (in_words self) (in_words rank) = record { self = self_accepted; rank = rank_accepted; ranks = e } in
       let room = length-replicate {A = ℕ} (words_for (length self)) 0 in
       let fine = (compose_fine (in_words self) (in_words rank) (length out)).1 (paired, omega arith) in
-      sym (by_fine verdict (result (in_words self) (in_words rank)) (route_taken self rank) out out fine).0
-      ∙ ap₂ (λ (s r : List Bool). answered Fine (compose s r) (route_taken self rank)) (in_words_rows self) (in_words_rows rank)
+      sym (by_fine verdict (summed (result (in_words self) (in_words rank)) (route_taken self rank)) out out fine).0
+      ∙ ap₂ (λ (s r : List Bool). answered (Ok tt) (compose s r) (route_taken self rank)) (in_words_rows self) (in_words_rows rank)
 
-  pub answer_unpaired : length rank ≢ count self → answer_to self rank ≡ refused (refusal 7 0)
-  unfolding composed
-  answer_unpaired h =
-      let told = (composed_refuses (in_words self) (in_words rank) published out (refusal 7 0) (omega arith)).1 (inr (inl (refl, self_accepted, rank_accepted, h))) in
-      refused_whole verdict (result (in_words self) (in_words rank)) (route_taken self rank) (refusal 7 0) (omega arith) told
+  pub answer_unpaired : length rank ≢ count self → answer_to self rank ≡ Err (refusal LengthsDiffer no_operand)
+  answer_unpaired h = (composed_refuses (in_words self) (in_words rank) published out (refusal LengthsDiffer no_operand)).1 (inr (inl (refl, self_accepted, rank_accepted, h)))
 
 -- ---- its lines
 
-pub lines_paired : (self rank : List Bool) (route : ℕ) → length rank ≡ count self → lines_of (answered Fine (compose self rank) route) (compose self rank) ≡ lines 0 route (count rank) (compose self rank)
+pub lines_paired : (self rank : List Bool) (route : Option Route) → length rank ≡ count self → lines_of (answered (Ok tt) (compose self rank) route) (compose self rank) ≡ lines 0 (route_number route) (count rank) (compose self rank)
 unfolding lines_of
 lines_paired self rank route e =
-    ap (lines 0 route (count (compose self rank))) (chosen (ℕ_discrete 0 0) (compose self rank) [] refl)
-    ∙ ap (λ (n : ℕ). lines 0 route n (compose self rank)) (compose_count self rank e)
+    ap (lines 0 (route_number route) (count (compose self rank))) (chosen (ℕ_discrete 0 0) (compose self rank) [] refl)
+    ∙ ap (λ (n : ℕ). lines 0 (route_number route) n (compose self rank)) (compose_count self rank e)
 
-pub lines_refused : (n : ℕ) (rows : List Bool) → n ≢ 0 → lines_of (refused (refusal n 0)) rows ≡ lines n 0 0 []
+pub lines_refused : (why : Reason) (who : Named) (rows : List Bool) → lines_of (Err (refusal why who)) rows ≡ lines (number_of why) 0 0 []
 unfolding lines_of
-lines_refused n rows h = ap (lines n 0 0) (passed_over (ℕ_discrete n 0) rows [] h)
+lines_refused why who rows = ap (lines (number_of why) 0 0) (passed_over (ℕ_discrete (number_of why) 0) rows [] (λ e. omega (arith, number_some why)))
 
 -- ---- how long they are
 

@@ -9,9 +9,9 @@ use native.Mathlib.Omega.{arith}
 use lib.ListN.{length, drop, length-drop, length-append, drop_of_length-le}
 use lib.Seq.{drop-drop, drop_at}
 use Rattle.rows.proofs.TableLaws.{chosen, passed_over}
-use Rattle.lines.specs.declared.Found.TheVariants.{Masks, Malformed}
+use Rattle.std.specs.Prelude.{Some, None}
 use Rattle.lines.specs.Text.{digits, self_key, rank_key, says, WellFormed, rows_in, self_in, rank_in, dec_well}
-use Rattle.lines.specs.Parts.{begins, found_in}
+use Rattle.lines.specs.Parts.{begins, counted, found_in}
 use Rattle.lines.proofs.FindLaws.{begins_with, begins_at, rows_front, rows_said}
 
 pub digits_length : (rows : List Bool) → length (digits rows) ≡ length rows
@@ -94,11 +94,11 @@ module _ (input : List ℕ) (one : begins self_key input ≡ true) (two : begins
 
 -- ---- what is found
 
-pub malformed : (input : List ℕ) → ¬ WellFormed input (self_in input) (rank_in input) → found_in input ≡ Malformed
+pub malformed : (input : List ℕ) → ¬ WellFormed input (self_in input) (rank_in input) → found_in input ≡ None
 unfolding found_in
 malformed input h = passed_over (dec_well input (self_in input) (rank_in input)) _ _ h
 
-pub masks : (input : List ℕ) → WellFormed input (self_in input) (rank_in input) → found_in input ≡ Masks (length (self_in input)) (length (rank_in input))
+pub masks : (input : List ℕ) → WellFormed input (self_in input) (rank_in input) → found_in input ≡ Some (counted (length (self_in input)) (length (rank_in input)))
 unfolding found_in
 masks input w = chosen (dec_well input (self_in input) (rank_in input)) _ _ w
 
@@ -107,30 +107,30 @@ pub rank_counted : (input : List ℕ) (n m : ℕ) → n ≡ length (self_in inpu
 rank_counted input n m p q = q ∙ ap (λ (k : ℕ). length (rows_in (drop (11 + k) input))) p
 
 module _ (input : List ℕ) where
-  pub no_first_key : begins self_key input ≡ false → found_in input ≡ Malformed
+  pub no_first_key : begins self_key input ≡ false → found_in input ≡ None
   no_first_key h = malformed input (λ w. true≢false (sym (first_key input (self_in input) (rank_in input) w.said) ∙ h))
 
   module _ (n : ℕ) (p : n ≡ length (self_in input)) where
-    pub self_long : 8192 < n → found_in input ≡ Malformed
+    pub self_long : 8192 < n → found_in input ≡ None
     self_long h = malformed input (λ w. omega (arith, w.self_short))
 
-    pub no_second_key : begins (10 ∷ rank_key) (drop (5 + n) input) ≡ false → found_in input ≡ Malformed
+    pub no_second_key : begins (10 ∷ rank_key) (drop (5 + n) input) ≡ false → found_in input ≡ None
     no_second_key h = malformed input (λ w. true≢false (sym (second_key input (self_in input) (rank_in input) w.said) ∙ ap (λ (k : ℕ). begins (10 ∷ rank_key) (drop (5 + k) input)) (sym p) ∙ h))
 
     module _ (m : ℕ) (q : m ≡ length (rank_in input)) where
-      pub rank_long : 8192 < m → found_in input ≡ Malformed
+      pub rank_long : 8192 < m → found_in input ≡ None
       rank_long h = malformed input (λ w. omega (arith, w.rank_short))
 
-      pub no_newline : begins (10 ∷ []) (drop (11 + n + m) input) ≡ false → found_in input ≡ Malformed
+      pub no_newline : begins (10 ∷ []) (drop (11 + n + m) input) ≡ false → found_in input ≡ None
       no_newline h =
           malformed input (λ w. true≢false (sym (last_newline input (self_in input) (rank_in input) w.said) ∙ ap₂ (λ (k l : ℕ). begins (10 ∷ []) (drop (11 + k + l) input)) (sym p) (sym q) ∙ h))
 
-      pub other_length : (length input ≡ 12 + n + m → ⊥) → found_in input ≡ Malformed
+      pub other_length : (length input ≡ 12 + n + m → ⊥) → found_in input ≡ None
       other_length h = malformed input (λ w. h (omega (arith, said_length input (self_in input) (rank_in input) w.said)))
 
       -- and the one way not to be
       pub both_found : begins self_key input ≡ true → begins (10 ∷ rank_key) (drop (5 + n) input) ≡ true → begins (10 ∷ []) (drop (11 + n + m) input) ≡ true
-          → length input ≡ 12 + n + m → n ≤ 8192 → m ≤ 8192 → found_in input ≡ Masks n m
+          → length input ≡ 12 + n + m → n ≤ 8192 → m ≤ 8192 → found_in input ≡ Some (counted n m)
       both_found one two three long short_n short-m =
           masks input
           (record {
@@ -139,4 +139,4 @@ module _ (input : List ℕ) where
             self_short = omega arith;
             rank_short = omega arith;
           })
-          ∙ ap₂ (λ (k l : ℕ). Masks k l) (sym p) (sym q)
+          ∙ ap₂ (λ (k l : ℕ). Some (counted k l)) (sym p) (sym q)

@@ -11,13 +11,13 @@ use mathlib.Core.Option.{Option, none, some, some-injective}
 use native.Mathlib.Omega.{arith}
 use lib.ListN.{length, take, length-take}
 use lib.Seq.{take_all}
-use Rattle.rows.specs.declared.Verdict.TheVariants.{Fine}
+use Rattle.std.specs.Prelude.{Ok, Err}
 use Rattle.rows.specs.Rows.{count, compose}
-use Rattle.rows.specs.Table.{choose, refusal}
+use Rattle.rows.specs.declared.Reason.TheVariants.{LengthsDiffer, Malformed}
+use Rattle.rows.specs.Table.{choose, refusal, no_operand, number_told}
 use Rattle.rows.proofs.RowLaws.{compose_length, count_le_length}
 use Rattle.rows.proofs.TableLaws.{chosen, passed_over}
-use Rattle.rules.specs.declared.Answer.{Answer}
-use Rattle.rules.specs.Answer.{refused, answered}
+use Rattle.rules.specs.Answer.{Answer, answered}
 use Rattle.rules.specs.Route.{published, route_of}
 use Rattle.lines.specs.declared.Written.{Written}
 use Rattle.rules.specs.Operand.{in_words}
@@ -27,6 +27,7 @@ use Rattle.lines.specs.Parts.{begins}
 use Rattle.lines.proofs.SaidLaws.{self_said, rank_said, said_length}
 use Rattle.lines.proofs.ToldLaws.{answer_parsed, text_parsed, answer_ill, text_ill}
 use Rattle.lines.proofs.AnswerLaws.{route_taken, answer_paired, answer_unpaired, lines_paired, lines_refused, decimal_short, lines_length}
+use Rattle.rules.specs.Route.{route_number}
 
 -- ---- which inputs are well formed
 
@@ -57,7 +58,7 @@ parsed_exactly input self rank = (to (dec_well input (self_in input) (rank_in in
 -- ---- what is answered, and what is told
 
 ill_told : (input : List ℕ) → ¬ WellFormed input (self_in input) (rank_in input) → text_of input ≡ lines 13 0 0 []
-ill_told input h = text_ill input h ∙ lines_refused 13 [] (λ z. omega arith)
+ill_told input h = text_ill input h ∙ lines_refused Malformed no_operand []
 
 -- two masks: what composition answers to them, and its four lines
 module _ (input : List ℕ) (self rank : List Bool) (w : WellFormed input self rank) where
@@ -68,22 +69,22 @@ module _ (input : List ℕ) (self rank : List Bool) (w : WellFormed input self r
   well_formed_told = text_parsed input (some (self, rank)) ((parsed_exactly input self rank).1 w)
 
   -- where the rank mask is as long as self has set rows: 0, the table's route, the rank mask's count and the composition's rows
-  pub paired_answered : length rank ≡ count self → answer_for input ≡ answered Fine (compose self rank) (route_taken self rank)
+  pub paired_answered : length rank ≡ count self → answer_for input ≡ answered (Ok tt) (compose self rank) (route_taken self rank)
   paired_answered e = well_formed_answered ∙ answer_paired self rank w.self_short w.rank_short e
 
-  pub paired_told : length rank ≡ count self → text_of input ≡ lines 0 (route_taken self rank) (count rank) (compose self rank)
+  pub paired_told : length rank ≡ count self → text_of input ≡ lines 0 (route_number (route_taken self rank)) (count rank) (compose self rank)
   paired_told e = well_formed_told ∙ ap (λ (a : Answer). lines_of a (compose self rank)) (answer_paired self rank w.self_short w.rank_short e) ∙ lines_paired self rank (route_taken self rank) e
 
   -- and else 7
-  pub unpaired_answered : length rank ≢ count self → answer_for input ≡ refused (refusal 7 0)
+  pub unpaired_answered : length rank ≢ count self → answer_for input ≡ Err (refusal LengthsDiffer no_operand)
   unpaired_answered h = well_formed_answered ∙ answer_unpaired self rank w.self_short w.rank_short h
 
   pub unpaired_told : length rank ≢ count self → text_of input ≡ lines 7 0 0 []
-  unpaired_told h = well_formed_told ∙ ap (λ (a : Answer). lines_of a (compose self rank)) (answer_unpaired self rank w.self_short w.rank_short h) ∙ lines_refused 7 (compose self rank) (λ z. omega arith)
+  unpaired_told h = well_formed_told ∙ ap (λ (a : Answer). lines_of a (compose self rank)) (answer_unpaired self rank w.self_short w.rank_short h) ∙ lines_refused LengthsDiffer no_operand (compose self rank)
 
 -- anything else: 13
 module _ (input : List ℕ) (h : (self rank : List Bool) → ¬ WellFormed input self rank) where
-  pub ill_formed_answered : answer_for input ≡ refused (refusal 13 0)
+  pub ill_formed_answered : answer_for input ≡ Err (refusal Malformed no_operand)
   ill_formed_answered = answer_ill input (h (self_in input) (rank_in input))
 
   pub ill_formed_told : text_of input ≡ lines 13 0 0 []
@@ -95,7 +96,7 @@ nothing_is_13 = ill_formed_told [] (λ self rank w. omega (arith, said_length []
 
 -- only 0, 7 and 13 are answered, and told: the first line is one of three. And all lines have at most 8,228 bytes
 pub record OnlyThese (input : List ℕ) : Type 0 where
-  pub number : ((answer_for input).refusal.number ≡ 0) ⊎ ((answer_for input).refusal.number ≡ 7) ⊎ ((answer_for input).refusal.number ≡ 13)
+  pub number : (number_told (answer_for input) ≡ 0) ⊎ (number_told (answer_for input) ≡ 7) ⊎ (number_told (answer_for input) ≡ 13)
   pub first_line : (begins (ascii "refusal=0\n") (text_of input) ≡ true) ⊎ (begins (ascii "refusal=7\n") (text_of input) ≡ true) ⊎ (begins (ascii "refusal=13\n") (text_of input) ≡ true)
   pub short : length (text_of input) ≤ 8228
 
@@ -108,7 +109,7 @@ pub only_these : (input : List ℕ) → OnlyThese input
 only_these input = go (dec_well input (self_in input) (rank_in input)) (ℕ_discrete (length (rank_in input)) (count (self_in input)))
   where
     number_in : Answer → ℕ
-    number_in a = a.refusal.number
+    number_in a = number_told a
 
     one : (d : ℕ) → d < 10 → length (decimal d) ≤ 1
     one d h = decimal_short 0 d h
@@ -120,13 +121,13 @@ only_these input = go (dec_well input (self_in input) (rank_in input)) (ℕ_disc
         let t = paired_told input self rank w e in
         record {
           number = inl (ap number_in (paired_answered input self rank w e));
-          first_line = inl (ap (begins (ascii "refusal=0\n")) t ∙ (first_lines (route_taken self rank) (count rank) (compose self rank)).0);
+          first_line = inl (ap (begins (ascii "refusal=0\n")) t ∙ (first_lines (route_number (route_taken self rank)) (count rank) (compose self rank)).0);
           short = omega (
             arith,
             ap length t,
-            lines_length 0 (route_taken self rank) (count rank) (compose self rank),
+            lines_length 0 (route_number (route_taken self rank)) (count rank) (compose self rank),
             one 0 (omega arith),
-            decimal_short 1 (route_taken self rank) (omega (arith, route_small (route_of published (in_words self) (in_words rank)))),
+            decimal_short 1 (route_number (route_taken self rank)) (omega (arith, route_small (route_of published (in_words self) (in_words rank)))),
             decimal_short 3 (count rank) (omega (arith, count_le_length rank, w.rank_short)),
             compose_length self rank,
             w.self_short,
@@ -164,19 +165,19 @@ written_within input room w e = go (dec_le (length (text_of input)) room) e
     go (no h) q = omega (arith, ap (λ (x : Written). x.len) q)
 
 -- 8 is answered where the output is shorter than the text
-pub eight_exactly : (input : List ℕ) (room : ℕ) → ((written_for input room).answer.refusal.number ≡ 8) ↔ (room < length (text_of input))
+pub eight_exactly : (input : List ℕ) (room : ℕ) → (number_told (written_for input room).answer ≡ 8) ↔ (room < length (text_of input))
 unfolding written_for
 eight_exactly input room = (to (dec_le (length (text_of input)) room), from)
   where
-    to : (d : Dec (length (text_of input) ≤ room)) → (choose {X = Written} d (with_text (answer_for input) (text_of input)) shorter).answer.refusal.number ≡ 8
+    to : (d : Dec (length (text_of input) ≤ room)) → number_told (choose {X = Written} d (with_text (answer_for input) (text_of input)) shorter).answer ≡ 8
         → room < length (text_of input)
     to (no h) e = omega arith
     to (yes h) e = other (only_these input).number
       where
-        other : ((answer_for input).refusal.number ≡ 0) ⊎ ((answer_for input).refusal.number ≡ 7) ⊎ ((answer_for input).refusal.number ≡ 13) → room < length (text_of input)
+        other : (number_told (answer_for input) ≡ 0) ⊎ (number_told (answer_for input) ≡ 7) ⊎ (number_told (answer_for input) ≡ 13) → room < length (text_of input)
         other (inl z) = absurd (omega (arith, e, z))
         other (inr (inl z)) = absurd (omega (arith, e, z))
         other (inr (inr z)) = absurd (omega (arith, e, z))
 
-    from : room < length (text_of input) → (choose {X = Written} (dec_le (length (text_of input)) room) (with_text (answer_for input) (text_of input)) shorter).answer.refusal.number ≡ 8
-    from h = ap (λ (w : Written). w.answer.refusal.number) (passed_over {X = Written} (dec_le (length (text_of input)) room) _ _ (λ k. omega arith))
+    from : room < length (text_of input) → number_told (choose {X = Written} (dec_le (length (text_of input)) room) (with_text (answer_for input) (text_of input)) shorter).answer ≡ 8
+    from h = ap (λ (w : Written). number_told w.answer) (passed_over {X = Written} (dec_le (length (text_of input)) room) _ _ (λ k. omega arith))

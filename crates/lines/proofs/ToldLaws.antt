@@ -11,16 +11,17 @@ use mathlib.Core.Option.{Option, none, some}
 use native.Mathlib.Omega.{arith}
 use lib.ListN.{length, take, drop, replicate}
 use lib.Seq.{take_at}
-use Rattle.rows.specs.declared.Verdict.TheVariants.{Fine}
+use Rattle.std.specs.Prelude.{Ok, Some, None}
+use Rattle.std.proofs.lemmas.Option.{none-some, same_Some}
 use Rattle.rows.specs.Rows.{count, compose, splice}
 use Rattle.rows.specs.Words.{bits_of_all, view, words_of}
 use Rattle.rows.specs.Laid.{words_for, written}
-use Rattle.rows.specs.Table.{choose, first}
+use Rattle.rows.specs.Table.{choose, first, number_told}
 use Rattle.rows.proofs.LaidLaws.{words_of_length}
 use Rattle.rows.proofs.SpliceLaws.{splice_eq}
 use Rattle.rows.proofs.WrittenLaws.{written_rows}
 use Rattle.rows.proofs.TableLaws.{chosen, passed_over}
-use Rattle.rules.specs.declared.Answer.{Answer}
+use Rattle.rules.specs.Answer.{Answer, summed, summary_told}
 use Rattle.rules.specs.declared.Form.TheVariants.{Words}
 use Rattle.rules.specs.Operand.{Operand, lent, in_words}
 use Rattle.rules.specs.Route.{published, route_by}
@@ -29,9 +30,11 @@ use Rattle.rules.proofs.OperandLaws.{in_words_rows}
 use Rattle.rules.proofs.AnswerLaws.{by_fine}
 use Rattle.rules.proofs.ComposeLaws.{result_length}
 use Rattle.rules.proofs.Compositions.{compose_fine, composed_accepts}
-use Rattle.lines.specs.declared.Found.TheVariants.{Masks, Malformed}
+use Rattle.lines.specs.declared.Masks.{Masks}
 use Rattle.lines.specs.Text.{WellFormed, rows_in, self_in, rank_in, dec_well, parsed, lines, lines_of, answer_of, result_of, answer_for, text_of, with_text, shorter, written_for, text_out}
-use Rattle.lines.specs.Parts.{first_bits, found_in, answer_words, told_words}
+use Rattle.lines.specs.Parts.{first_bits, counted, found_in, answer_words, told_words}
+use Rattle.rules.specs.Route.{route_number}
+use Rattle.rules.specs.Answer.{no_route}
 
 -- ---- the composition of words
 
@@ -55,11 +58,11 @@ module _ (sws : List ℕ) (s : ℕ) (rws : List ℕ) (r : ℕ) (out : List ℕ) 
   abbrev after : List ℕ
   after = composed_out one two out
 
-  written_out : first (compose_checks one two (length out)) ≡ Fine → written s (result one two) out ≡ after
+  written_out : first (compose_checks one two (length out)) ≡ Ok tt → written s (result one two) out ≡ after
   unfolding composed_out
-  written_out e = (by_fine (first (compose_checks one two (length out))) (result one two) 0 (written s (result one two) out) out e).1
+  written_out e = (by_fine (first (compose_checks one two (length out))) (summed (result one two) no_route) (written s (result one two) out) out e).1
 
-  shown_rows : (d : Dec ((composed published one two out).refusal.number ≡ 0)) → choose d (view 0 s after) [] ≡ choose d (compose (view 0 s sws) (view 0 r rws)) []
+  shown_rows : (d : Dec (number_told (composed published one two out) ≡ 0)) → choose d (view 0 s after) [] ≡ choose d (compose (view 0 s sws) (view 0 r rws)) []
   shown_rows (no h) = refl
   shown_rows (yes e) =
       let t = (composed_accepts one two published out).0 e in
@@ -75,7 +78,7 @@ module _ (sws : List ℕ) (s : ℕ) (rws : List ℕ) (r : ℕ) (out : List ℕ) 
   words_told a ws e w =
       let x = composed published one two out in
       ap₂ (λ (y : Answer) (l : List ℕ). lines_of y (view 0 s l)) e w
-      ∙ ap (lines x.refusal.number x.summary.route x.summary.count) (shown_rows (ℕ_discrete x.refusal.number 0))
+      ∙ ap (lines (number_told x) (route_number (summary_told x).route) (summary_told x).count) (shown_rows (ℕ_discrete (number_told x) 0))
 
 -- ---- a mask's words
 
@@ -95,13 +98,15 @@ pub record Found-masks (input : List ℕ) (s r : ℕ) : Type 0 where
   pub self_long : s ≡ length (self_in input)
   pub rank_long : r ≡ length (rank_in input)
 
-pub found_masks : (input : List ℕ) (s r : ℕ) → found_in input ≡ Masks s r → Found-masks input s r
+pub found_masks : (input : List ℕ) (s r : ℕ) → found_in input ≡ Some (counted s r) → Found-masks input s r
 unfolding found_in
 found_masks input s r e = go (dec_well input (self_in input) (rank_in input)) e
   where
-    go : (d : Dec (WellFormed input (self_in input) (rank_in input))) → choose d (Masks (length (self_in input)) (length (rank_in input))) Malformed ≡ Masks s r → Found-masks input s r
-    go (yes w) q = record { well = w; self_long = cc; rank_long = cc }
-    go (no h) q = let z : ◌≡◌ {A = ℕ} 0 1 = cc in absurd (omega arith)
+    go : (d : Dec (WellFormed input (self_in input) (rank_in input))) → choose d (Some (counted (length (self_in input)) (length (rank_in input)))) None ≡ Some (counted s r) → Found-masks input s r
+    go (yes w) q =
+        let same = sym (same_Some (counted (length (self_in input)) (length (rank_in input))) (counted s r) q) in
+        record { well = w; self_long = ap (λ (m : Masks). m.s) same; rank_long = ap (λ (m : Masks). m.r) same }
+    go (no h) q = absurd (none-some (counted s r) q)
 
 parsed_well : (input : List ℕ) → WellFormed input (self_in input) (rank_in input) → parsed input ≡ some (self_in input, rank_in input)
 unfolding parsed
@@ -131,12 +136,14 @@ module _ (input : List ℕ) (h : ¬ WellFormed input (self_in input) (rank_in in
   pub text_ill : text_of input ≡ lines_of (answer_of none) []
   text_ill = text_parsed input none (parsed_ill input h)
 
-pub found_ill : (input : List ℕ) → found_in input ≡ Malformed → ¬ WellFormed input (self_in input) (rank_in input)
+pub found_ill : (input : List ℕ) → found_in input ≡ None → ¬ WellFormed input (self_in input) (rank_in input)
 unfolding found_in
-found_ill input e w = let p = sym (chosen (dec_well input (self_in input) (rank_in input)) (Masks (length (self_in input)) (length (rank_in input))) Malformed w) ∙ e in let z : ◌≡◌ {A = ℕ} 0 1 = cc in omega arith
+found_ill input e w =
+    let found = counted (length (self_in input)) (length (rank_in input)) in
+    none-some found (sym e ∙ chosen (dec_well input (self_in input) (rank_in input)) (Some found) None w)
 
 -- two masks that were found, and whatever is made of them: their lengths are those found, and their words say them
-module _ (input : List ℕ) (s r : ℕ) (e : found_in input ≡ Masks s r) where
+module _ (input : List ℕ) (s r : ℕ) (e : found_in input ≡ Some (counted s r)) where
   abbrev sws : List ℕ
   sws = (in_words (self_in input)).words
 

@@ -1,6 +1,6 @@
 -- Document 01's text: the two lines that are read, the four that are written, and what is written for any input whatever.
 -- Assumes nothing.
-use Rattle.std.specs.Prelude.{ℕ, zero, suc, ◌+◌, ◌/◌, ◌%◌, ◌≤◌, ◌≡◌, refl, Bool, true, false, cond, ◌||◌, List, [], ◌∷◌, ◌++◌, length, drop, replicate, eqb, ltb}
+use Rattle.std.specs.Prelude.{ℕ, zero, suc, ◌+◌, ◌/◌, ◌%◌, ◌≤◌, ◌≡◌, refl, Bool, true, false, cond, ◌||◌, List, [], ◌∷◌, ◌++◌, length, drop, replicate, eqb, ltb, Err}
 use Prim.Native.Char.{code}
 use Prim.Native.String.{String, [] as end, ◌∷◌ as ◌then◌}
 use Rattle.std.proofs.Math.Decide.{ℕ_discrete, dec_le}
@@ -8,11 +8,11 @@ use Rattle.std.proofs.Common.{ap₂, arith}
 use Rattle.std.proofs.Math.Option.{Option, none, some}
 use Rattle.rows.specs.Rows.{count, compose}
 use Rattle.rows.specs.Laid.{words_for}
-use Rattle.rows.specs.Table.{choose, refusal}
-use Rattle.rules.specs.declared.Answer.{Answer}
+use Rattle.rows.specs.Table.{choose, refusal, no_operand, number_told}
+use Rattle.rows.specs.declared.Reason.TheVariants.{NoRoom, Malformed}
+use Rattle.rules.specs.Answer.{Answer, summary_told}
 use Rattle.rules.specs.Operand.{in_words}
-use Rattle.rules.specs.Answer.{refused}
-use Rattle.rules.specs.Route.{published}
+use Rattle.rules.specs.Route.{published, route_number}
 use Rattle.rules.specs.Compose.{composed}
 use Rattle.lines.specs.declared.Written.{Written}
 
@@ -128,7 +128,7 @@ lines refusal route count rows = line refusal_key (decimal refusal) ++ line rout
 
 -- of an answer with these rows: a refusal shows none
 unfoldable pub lines_of : Answer → List Bool → List ℕ
-lines_of a rows = lines a.refusal.number a.summary.route a.summary.count (choose (ℕ_discrete a.refusal.number 0) rows [])
+lines_of a rows = lines (number_told a) (route_number (summary_told a).route) (summary_told a).count (choose (ℕ_discrete (number_told a) 0) rows [])
 
 -- the composition's answer: both go in as words, and the output is as long as the result
 abbrev pub answer_to : List Bool → List Bool → Answer
@@ -136,7 +136,7 @@ answer_to self rank = composed published (in_words self) (in_words rank) (replic
 
 -- anything that is not well formed is 13
 abbrev pub answer_of : Option (List Bool × List Bool) → Answer
-answer_of none = refused (refusal 13 0)
+answer_of none = Err (refusal Malformed no_operand)
 answer_of (some (self, rank)) = answer_to self rank
 
 abbrev pub result_of : Option (List Bool × List Bool) → List Bool
@@ -156,7 +156,7 @@ abbrev pub with_text : Answer → List ℕ → Written
 with_text a text = record { answer = a; len = length text }
 
 abbrev pub shorter : Written
-shorter = with_text (refused (refusal 8 0)) []
+shorter = with_text (Err (refusal NoRoom no_operand)) []
 
 unfoldable pub written_for : List ℕ → ℕ → Written
 written_for input room = choose (dec_le (length (text_of input)) room) (with_text (answer_for input) (text_of input)) shorter

@@ -130,7 +130,7 @@ chunk_ranks r i b e h l m =
     (ascending_in b i (i + length c) e (set_rows i c) h (omega (arith, chunk_length r i)) (rows_ascending i (i + length c) c refl))
 
 -- one chunk more
-pub chunk_marks : (at : ℕ) (f : ℕ → ℕ) (r : List Bool) (i : ℕ) (ws : List ℕ) → i ≤ length r
+chunk_marks : (at : ℕ) (f : ℕ → ℕ) (r : List Bool) (i : ℕ) (ws : List ℕ) → i ≤ length r
     → marked at (map f (set_rows i (bits_of 64 (word_of (chunk_at r i))))) (marked at (map f (set_rows 0 (take i r))) ws) ≡ marked at (map f (set_rows 0 (take (i + 64) r))) ws
 chunk_marks at f r i ws h =
     let c = chunk_at r i in
@@ -141,3 +141,15 @@ chunk_marks at f r i ws h =
     (sym (ap (λ (l : List Bool). map f (set_rows 0 l)) (take-add i 64 r)
     ∙ ap (map f) (rows_append 0 done c ∙ ap (λ (k : ℕ). set_rows 0 done ++ set_rows k c) (zero-add (length done) ∙ length-take-le i r h))
     ∙ map-append f (set_rows 0 done) (set_rows i c)))
+
+-- by a loop that has marked the set ranks before i, and a chunk's
+pub marked_chunk : (at : ℕ) (f : ℕ → ℕ) (r : List Bool) (i x : ℕ) (ws out then : List ℕ) → i ≤ length r → out ≡ marked at (map f (set_rows 0 (take i r))) ws
+    → x ≡ word_of (chunk_at r i) → then ≡ marked at (map f (set_rows i (bits_of 64 x))) out → then ≡ marked at (map f (set_rows 0 (take (i + 64) r))) ws
+marked_chunk at f r i x ws out then h done is new =
+    new
+    ∙ ap₂ (λ (y : ℕ) (o : List ℕ). marked at (map f (set_rows i (bits_of 64 y))) o) is done
+    ∙ chunk_marks at f r i ws h
+
+pub marked_all : (at : ℕ) (f : ℕ → ℕ) (r : List Bool) (i : ℕ) (ws out : List ℕ) → length r ≤ i → out ≡ marked at (map f (set_rows 0 (take i r))) ws
+    → out ≡ marked at (map f (set_rows 0 r)) ws
+marked_all at f r i ws out h done = done ∙ ap (λ (t : List Bool). marked at (map f (set_rows 0 t)) ws) (take_all i r h)

@@ -5,7 +5,7 @@ use Prim.Native.Nat.{ℕ, zero, suc, ◌*◌, ◌/◌, ◌≤◌, ◌<◌}
 use native.Mathlib.Nat.{le_of_suc-le-suc}
 use native.Mathlib.Decide.{dec_le}
 use mathlib.Core.Path.{◌≡◌, refl, sym, ap, ap₂, ◌∙◌}
-use mathlib.Core.Bool.{Bool, true, false, ◌||◌, ◌&&◌, and-false}
+use mathlib.Core.Bool.{Bool, ◌||◌, ◌&&◌, and-false}
 use mathlib.Core.List.{List, [], ◌∷◌}
 use native.Mathlib.Omega.{arith}
 use borrow.Author.Tests.{lt-ltb, le-ltb, le-leb, lt-leb, eq-eqb, ne_eqb}
@@ -14,6 +14,8 @@ use lib.ListN.{length, get_or}
 use Rattle.rows.specs.Lists.{member, listed, Ascending}
 use Rattle.rows.specs.Runs.{held, in_runs, run_lengths, Apart}
 use Rattle.rows.proofs.ListLaws.{tab_ext}
+use Rattle.marks.specs.declared.inner.Numbers.{Numbers}
+use Rattle.marks.specs.declared.inner.Numbers.TheVariants.{List as Listed, Runs}
 use Rattle.marks.specs.Entries.{firsts, entries}
 
 -- ---- where they lie
@@ -31,9 +33,9 @@ firsts_at (f ∷ p ∷ ns) (suc k) h =
     let next : suc k * 2 ≡ suc (suc (k * 2)) = omega arith in
     firsts_at ns k (le_of_suc-le-suc h) ∙ sym (ap (λ (i : ℕ). get_or (f ∷ p ∷ ns) i 0) next)
 
-pub entries_few : (single : Bool) (ns : List ℕ) → length (entries single ns) ≤ length ns
-entries_few false ns = omega arith
-entries_few true ns = omega (arith, firsts_length ns)
+pub entries_few : (numbers : Numbers) (ns : List ℕ) → length (entries numbers ns) ≤ length ns
+entries_few Listed ns = omega arith
+entries_few Runs ns = omega (arith, firsts_length ns)
 
 -- ---- runs of one row each
 

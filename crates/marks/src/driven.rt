@@ -27,6 +27,7 @@ fn seek(words: &[u64], start: u64, len: u64, from: Place, rank: Rank) -> Place
     ensures { Holds (view start len words.now) result rank }
 {
     let mut place = from;
+    // Counts no index: the place goes on by chunks and by what they hold, and its caller keeps it.
     loop {
         let count = u64::count_ones(self_chunk(words, start, len, place.done)) as u64;
         if rank.0 < place.passed.0 + count {
@@ -107,11 +108,8 @@ pub fn intersect_mask_driven_list(
         done: Row(0),
         passed: Rank(0),
     };
-    let mut i: usize = 0;
-    while i < ranks.len() {
-        let entry = ranks[i] as u64;
-        place = mark_rank(words, start, len, place, Rank(entry), at, out);
-        i += 1;
+    for entry in ranks {
+        place = mark_rank(words, start, len, place, Rank(*entry as u64), at, out);
     }
 }
 
@@ -132,6 +130,7 @@ fn mark_chunk(
         × (out.new ≡ marked at (map (select (view start len words.now)) (set_rows base.0 (bits_of 64 chunk))) out.old) }
 {
     let mut place = from;
+    // A turn clears the lowest set bit: no index is counted.
     let mut rest = chunk;
     while rest != 0 {
         let bit = u64::trailing_zeros(rest) as u64;
@@ -162,10 +161,9 @@ pub fn intersect_mask_driven_words(
         done: Row(0),
         passed: Rank(0),
     };
-    let mut rank = Rank(0);
-    while rank.0 < ranklen {
+    for first in (0..ranklen).step_by(64) {
+        let rank = Rank(first);
         let chunk = rank_chunk(ranks, from, ranklen, rank);
         place = mark_chunk(words, start, len, place, chunk, rank, at, out);
-        rank = Rank(rank.0 + 64);
     }
 }

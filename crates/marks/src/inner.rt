@@ -13,53 +13,58 @@ use super::lists::{intersect_by_rank_indices, intersect_indices_by_rank_bits};
 use laid::inner::clear;
 use rows::{Rank, Row};
 
+// What the numbers are that are lent for self: those of a list, or of runs of one row each, of which every other one is what a list would have.
+#[derive(Clone, Copy)]
+pub enum Numbers {
+    List,
+    Runs,
+}
+
 // The self entry that has a rank.
-pub fn entry_at(rows: &[u32], single: bool, rank: Rank) -> Row
-    requires { rank.0 < length (entries single rows.now) }
-    ensures { result.0 ≡ get_or (entries single rows.now) rank.0 0 }
+pub fn entry_at(rows: &[u32], numbers: Numbers, rank: Rank) -> Row
+    requires { rank.0 < length (entries numbers rows.now) }
+    ensures { result.0 ≡ get_or (entries numbers rows.now) rank.0 0 }
 {
     let at = rank.0 as usize;
-    if single {
-        let first = rows[at * 2] as u64;
-        return Row(first);
+    match numbers {
+        Numbers::List => Row(rows[at] as u64),
+        Numbers::Runs => Row(rows[at * 2] as u64),
     }
-    let entry = rows[at] as u64;
-    Row(entry)
 }
 
 // Route 4.
 pub fn lay_entry_at_rank(
     rows: &[u32],
-    single: bool,
+    numbers: Numbers,
     ranks: &[u32],
     len: u64,
     at: u64,
     out: &mut [u64],
 )
-    requires { Ascending 0 len (entries single rows.now) × Ascending 0 (length (entries single rows.now)) ranks.now × Room at len out.old }
-    ensures { out.new ≡ laid at (compose (listed len (entries single rows.now))
-        (listed (length (entries single rows.now)) ranks.now)) out.old }
+    requires { Ascending 0 len (entries numbers rows.now) × Ascending 0 (length (entries numbers rows.now)) ranks.now × Room at len out.old }
+    ensures { out.new ≡ laid at (compose (listed len (entries numbers rows.now))
+        (listed (length (entries numbers rows.now)) ranks.now)) out.old }
 {
     clear(out, at, len);
-    intersect_by_rank_indices(rows, single, ranks, len, at, out);
+    intersect_by_rank_indices(rows, numbers, ranks, len, at, out);
 }
 
 // Route 5.
 pub fn lay_entry_if_set(
     rows: &[u32],
-    single: bool,
+    numbers: Numbers,
     ranks: &[u64],
     from: u64,
     len: u64,
     at: u64,
     out: &mut [u64],
 )
-    requires { Ascending 0 len (entries single rows.now) × (length (entries single rows.now) ≤ 1048576)
-        × (from + length (entries single rows.now) ≤ length ranks.now * 64) × Room at len out.old }
-    ensures { out.new ≡ laid at (compose (listed len (entries single rows.now)) (drop from (bits_of_all 64 ranks.now))) out.old }
+    requires { Ascending 0 len (entries numbers rows.now) × (length (entries numbers rows.now) ≤ 1048576)
+        × (from + length (entries numbers rows.now) ≤ length ranks.now * 64) × Room at len out.old }
+    ensures { out.new ≡ laid at (compose (listed len (entries numbers rows.now)) (drop from (bits_of_all 64 ranks.now))) out.old }
 {
     clear(out, at, len);
-    intersect_indices_by_rank_bits(rows, single, ranks, from, len, at, out);
+    intersect_indices_by_rank_bits(rows, numbers, ranks, from, len, at, out);
 }
 
 // Route 6, a rank list.

@@ -1,49 +1,52 @@
--- What a conversion's checks tell, of what its operand's checks told: the verdict part by part, and the count where it is accepted.
--- By the law of parts in order. Assumes nothing.
-use Prim.Native.Nat.{ℕ}
+-- What a conversion's checks tell, by what its operand's checks told: the operand's refusal, or else whether there is room; and what an
+-- accepted operand tells of itself. By the law of parts in order.
+-- Assumes nothing.
+use Prim.Native.Nat.{ℕ, ◌≤◌}
 use native.Mathlib.Decide.{dec_le}
-use mathlib.Core.Path.{◌≡◌, refl, sym, ap, ◌∙◌}
+use native.Mathlib.Omega.{arith}
+use mathlib.Core.Path.{◌≡◌, sym, ap, ◌∙◌}
 use mathlib.Core.List.{List, [], ◌∷◌}
+use Rattle.std.specs.Prelude.{Ok, Err}
 use Rattle.rows.specs.declared.Refusal.{Refusal}
-use Rattle.rows.specs.declared.Verdict.{Verdict}
-use Rattle.rows.specs.declared.Verdict.TheVariants.{Fine, Refused}
-use Rattle.rows.specs.Table.{Line, need, first, if_fine}
-use Rattle.rows.proofs.TableLaws.{never, then_told, last_told, then_fine}
-use Rattle.rules.specs.Operand.{Operand, count_of, operand_checks}
+use Rattle.rows.specs.declared.Reason.TheVariants.{NoRoom}
+use Rattle.rows.specs.Table.{operand_1, no_operand, Verdict, Line, need, first}
+use Rattle.rows.proofs.TableLaws.{granted_ok, granted_err, parts_ok, parts_err, parts_last, fine_exactly}
+use Rattle.rules.specs.Operand.{Operand, rows_of, length_of, count_of, limit, operand_checks, Accepted}
+use Rattle.rules.specs.Answer.{accepted, summed, no_route}
 use Rattle.rules.specs.Convert.{convert_checks}
-use Rattle.operand.specs.declared.inner.counts.Checked.{Checked}
+use Rattle.rules.proofs.OperandLaws.{accepted_as, accepted_limit, accepted_few}
+use Rattle.rules.proofs.AnswerLaws.{own_answer}
 use Rattle.operand.specs.Counts.{checked_of}
-use Rattle.mask.specs.Judged.{with_room, judged}
 
-abbrev eight : ℕ → ℕ → List Line
-eight needed room = need (dec_le needed room) 8 0 ∷ []
+abbrev pub eight : ℕ → ℕ → List Line
+eight needed room = need (dec_le needed room) NoRoom no_operand ∷ []
 
-module _ (o : Operand) (room : ℕ) where
-  parts : (needed : ℕ) → if_fine (first (operand_checks 1 o)) (first (eight needed room)) (first (operand_checks 1 o)) ≡ first (convert_checks o needed room)
-  parts needed = then_told (operand_checks 1 o) (eight needed room) [] refl refl (last_told (eight needed room) refl)
+pub roomy : {n needed room : ℕ} → n ≡ needed → first (eight n room) ≡ Ok tt → needed ≤ room
+roomy {n} {room = room} size e = omega (arith, size, ((fine_exactly (eight n room)).0 e).0)
 
-  -- a refusal of the operand's is the conversion's
-  pub judged_refused : (needed : ℕ) (x : Refusal) → first (operand_checks 1 o) ≡ Refused x → first (convert_checks o needed room) ≡ Refused x
-  judged_refused needed x e = sym (parts needed) ∙ ap (λ (v : Verdict). if_fine v (first (eight needed room)) v) e
+module _ (o : Operand) where
+  -- where its checks told a count, it is accepted, and the count is its own
+  pub judged_count : {n : ℕ} → checked_of operand_1 o ≡ Ok n → Accepted o × (n ≡ count_of o)
+  judged_count e =
+      let own = granted_ok (first (operand_checks operand_1 o)) e in
+      ((accepted_as operand_1 o).0 ((fine_exactly (operand_checks operand_1 o)).0 own.0), sym own.1)
 
-  abbrev told : Verdict → Checked
-  told v = record { verdict = v; count = (checked_of 1 o).count }
+  -- its refusal is the conversion's
+  pub judged_refused : {x : Refusal} (needed room : ℕ) → checked_of operand_1 o ≡ Err x → first (convert_checks o needed room) ≡ Err x
+  judged_refused needed room e = parts_err (operand_checks operand_1 o) (eight needed room ∷ []) (granted_err (first (operand_checks operand_1 o)) (count_of o) e)
 
-  pub room_judged : (needed : ℕ) → with_room (checked_of 1 o) needed room ≡ judged o needed room
-  room_judged needed = ap told (parts needed)
+  -- and else room for what is needed decides
+  pub judged_room : {v : Verdict} {n : ℕ} (needed room : ℕ) → Accepted o → n ≡ needed → first (eight n room) ≡ v → first (convert_checks o needed room) ≡ v
+  judged_room needed room m size e =
+      parts_ok (operand_checks operand_1 o) (eight needed room ∷ []) ((fine_exactly (operand_checks operand_1 o)).1 ((accepted_as operand_1 o).1 m))
+      ∙ parts_last (eight needed room)
+      ∙ ap (λ (k : ℕ). first (eight k room)) (sym size)
+      ∙ e
 
-  -- a count that is 0 with a refusal serves where the refusal is told before
-  counted : (v : Verdict) (n : ℕ) → if_fine v (first (eight (if_fine v n 0) room)) v ≡ if_fine v (first (eight n room)) v
-  counted Fine n = refl
-  counted (Refused x) n = refl
+  -- its own count and length are its rows', and the format holds them
+  module _ {n : ℕ} (m : Accepted o) (counts : n ≡ count_of o) where
+    pub own_within : (n ≤ limit) × (length_of o.form ≤ limit)
+    own_within = (omega (arith, counts, accepted_few o m), accepted_limit o m)
 
-  pub room_counted : with_room (checked_of 1 o) (checked_of 1 o).count room ≡ judged o (count_of o) room
-  room_counted = ap told (counted (first (operand_checks 1 o)) (count_of o) ∙ parts (count_of o))
-
-  -- where it is accepted, the count told is its own
-  pub judged_count : (needed : ℕ) → first (convert_checks o needed room) ≡ Fine → (checked_of 1 o).count ≡ count_of o
-  judged_count needed e = of_fine (first (operand_checks 1 o)) (then_fine (first (operand_checks 1 o)) (first (eight needed room)) (parts needed ∙ e)).0
-    where
-      of_fine : (v : Verdict) → v ≡ Fine → if_fine v (count_of o) 0 ≡ count_of o
-      of_fine Fine d = refl
-      of_fine (Refused x) d = never d
+    pub own_summary : accepted n no_route (length_of o.form) ≡ summed (rows_of o) no_route
+    own_summary = ap (λ (k : ℕ). accepted k no_route (length_of o.form)) counts ∙ own_answer o no_route m

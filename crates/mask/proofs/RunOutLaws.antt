@@ -5,26 +5,25 @@ use Prim.Native.Nat.{ℕ, zero, suc, ◌+◌, ◌*◌, ◌/◌, ◌≤◌, ◌<�
 use native.Mathlib.Nat.{add-zero, suc-add, add-suc}
 use mathlib.Core.Path.{◌≡◌, refl, sym, ap, ◌∙◌}
 use mathlib.Core.Bool.{true, false}
-use mathlib.Core.List.{List, [], ◌∷◌}
-use mathlib.Core.Logic.{inr}
+use mathlib.Core.List.{List, [], ◌∷◌, ◌++◌}
 use native.Mathlib.Decide.{dec_le}
 use native.Mathlib.Omega.{arith}
-use lib.ListN.{length, replicate}
+use lib.ListN.{length, drop, replicate}
 use Rattle.rows.specs.declared.Refusal.{Refusal}
-use Rattle.rows.specs.declared.Verdict.TheVariants.{Fine, Refused}
+use Rattle.rows.specs.declared.Reason.TheVariants.{NoRoom}
+use Rattle.std.specs.Prelude.{Ok, Err}
 use Rattle.rows.specs.Rows.{splice}
 use Rattle.rows.specs.Runs.{turns, runs_of, runs_in}
-use Rattle.rows.specs.Table.{first, refusal}
+use Rattle.rows.specs.Table.{operand_1, no_operand, Verdict, first}
 use Rattle.rows.proofs.RunLaws.{runs_even}
-use Rattle.rows.proofs.TableLaws.{first_is, then_refuses}
+use Rattle.rows.proofs.TableLaws.{alone_fine}
 use Rattle.rules.specs.declared.Written.{Written}
-use Rattle.rules.specs.Operand.{Operand, rows_of, operand_checks, Accepted}
-use Rattle.rules.specs.Answer.{answered, no_route}
-use Rattle.rules.specs.Convert.{convert_checks, to_runs_verdict, to_runs, to_runs_out}
-use Rattle.rules.proofs.OperandLaws.{accepted_as}
-use Rattle.rules.proofs.Conversions.{convert_fine}
-use Rattle.mask.specs.Judged.{no_runs}
-use Rattle.mask.proofs.JudgeLaws.{judged_refused}
+use Rattle.rules.specs.Operand.{Operand, rows_of, Accepted}
+use Rattle.rules.specs.Answer.{summed, no_route}
+use Rattle.rules.specs.Convert.{to_runs_verdict, written_of, to_runs, to_runs_out}
+use Rattle.rules.proofs.AnswerLaws.{by_fine, by_refusal}
+use Rattle.operand.specs.Counts.{checked_of}
+use Rattle.mask.proofs.JudgeLaws.{eight, judged_refused, judged_room}
 use Rattle.mask.proofs.ListOutLaws.{list_front}
 
 -- ---- all rows set, and none
@@ -59,27 +58,26 @@ module _ (o : Operand) (out : List ℕ) where
   abbrev needed : ℕ
   needed = runs_in (rows_of o) * 2
 
-  -- its verdict: the operand's own refusal, 8 where there is no room, and else none
-  pub runs_barred : (x : Refusal) → first (operand_checks 1 o) ≡ Refused x → to_runs_verdict o out ≡ Refused x
-  runs_barred = judged_refused o (length out) needed
+  abbrev to : List ℕ
+  to = runs ++ drop needed out
 
-  pub runs_no_room : Accepted o → length out < length runs → to_runs_verdict o out ≡ Refused (refusal 8 0)
-  runs_no_room m h =
-      first_is (convert_checks o needed (length out)) (Refused (refusal 8 0))
-      ((then_refuses (operand_checks 1 o) (dec_le needed (length out)) 8 0 (refusal 8 0)).1
-      (inr ((accepted_as 1 o).1 m, refl, λ r. omega (arith, runs_even (rows_of o)))))
+  -- its verdict: the operand's own refusal, or else whether there is room for the numbers of its runs
+  pub runs_barred : {x : Refusal} → checked_of operand_1 o ≡ Err x → to_runs_verdict o out ≡ Err x
+  runs_barred e = judged_refused o needed (length out) e
 
-  runs_room : Accepted o → length runs ≤ length out → to_runs_verdict o out ≡ Fine
-  runs_room m h = (convert_fine o needed (length out)).1 (m, omega (arith, runs_even (rows_of o)))
+  pub runs_judged : {v : Verdict} {n : ℕ} → Accepted o → n ≡ length runs → first (eight n (length out)) ≡ v → to_runs_verdict o out ≡ v
+  runs_judged m size e = judged_room o needed (length out) m (size ∙ runs_even (rows_of o)) e
 
   -- and what it answers and leaves
-  pub runs_refused : (x : Refusal) → to_runs_verdict o out ≡ Refused x → (no_runs x ≡ to_runs o out) × (out ≡ to_runs_out o out)
+  pub runs_refused : {x : Refusal} → to_runs_verdict o out ≡ Err x → (Err x ≡ to_runs o out) × (out ≡ to_runs_out o out)
   unfolding to_runs to_runs_out
-  runs_refused x e = rw e (refl, refl)
+  runs_refused {x} e = by_refusal (to_runs_verdict o out) (written_of o) to out x e
 
   abbrev told : Written
-  told = record { answer = answered Fine (rows_of o) no_route; runs = length runs / 2 }
+  told = record { summary = summed (rows_of o) no_route; runs = length runs / 2 }
 
-  pub runs_written : Accepted o → length runs ≤ length out → (told ≡ to_runs o out) × (splice 0 out runs ≡ to_runs_out o out)
+  pub runs_written : Accepted o → length runs ≤ length out → (Ok told ≡ to_runs o out) × (splice 0 out runs ≡ to_runs_out o out)
   unfolding to_runs to_runs_out
-  runs_written m h = rw (runs_room m h) (refl, list_front out runs needed (runs_even (rows_of o)) (omega (arith, runs_even (rows_of o))))
+  runs_written m h =
+      let p = by_fine (to_runs_verdict o out) (written_of o) to out (runs_judged m refl (alone_fine (dec_le (length runs) (length out)) NoRoom no_operand h)) in
+      (p.0, list_front out runs needed (runs_even (rows_of o)) (omega (arith, runs_even (rows_of o))) ∙ p.1)

@@ -16,9 +16,7 @@ pub fn copy_list(rows: &[u32], out: &mut [u32])
     requires { length rows.now ≤ length out.old }
     ensures { out.new ≡ splice 0 out.old rows.now }
 {
-    for i in 0..rows.len() {
-        out[i] = rows[i];
-    }
+    out[..rows.len()].copy_from_slice(rows);
 }
 
 // All, none or words: chunk by chunk.
@@ -28,11 +26,9 @@ fn list_flat(form: Form, words: &[u64], out: &mut [u32])
 {
     let len = length_of(form);
     let mut k: usize = 0;
-    let mut row: u64 = 0;
-    while row < len {
+    for row in (0..len).step_by(64) {
         let n = chunk_len(len, row);
         k = list_chunk(chunk_of(form, words, row, n), row as u32, k, out);
-        row += n;
     }
 }
 

@@ -9,7 +9,7 @@ ghost use Rattle.std.specs.Prelude.{◌≡◌, ℕ, ◌*◌, ◌/◌, ◌%◌, �
 ghost use Rattle.network.specs.Lanes.{before, down8, each, each2, gathered, joined, landed8, landed_at, move_to, packed8, packed_at, parity8};
 ghost use Rattle.network.specs.Lanes.{undo_from, up8, zeros8};
 
-use super::num::{bytes, wrapping_mul};
+use super::num::bytes;
 
 // In each byte, the count of its set bits.
 pub fn counts(mask: u64) -> u64
@@ -24,10 +24,11 @@ pub fn counts(mask: u64) -> u64
 pub fn below(mask: u64) -> u64
     ensures { result ≡ before 8 0 mask }
 {
-    wrapping_mul(counts(mask), bytes(1)) << 8
+    counts(mask).wrapping_mul(bytes(1)) << 8
 }
 
-// In byte j, the 8 bits of the source from the number in byte j of from on.
+// In byte j, the 8 bits of the source from the number in byte j of from on. `join` shifts the other way round at either place, and one function
+// of both would need two closures to say where a byte comes from and where it goes.
 pub fn gather(source: u64, from: u64) -> u64
     requires { (j : ℕ) → from / 2 ^ (8 * j) % 256 < 64 }
     ensures { result ≡ gathered 8 source from }
@@ -76,6 +77,7 @@ pub fn parity(zeros: u64, shift: u32) -> u64
     ensures { result ≡ each (parity8 shift) 8 zeros }
 {
     let mut p = zeros;
+    // the length doubles: it is what the loop has come to, and no index
     let mut len = shift;
     while len < 8 {
         p ^= up(p, len);
@@ -138,9 +140,7 @@ pub fn spread(low: u64, landed: [u64; 3]) -> u64
     ensures { result ≡ undo_from 64 landed 3 low }
 {
     let mut result = low;
-    let mut i: usize = 3;
-    while i > 0 {
-        i -= 1;
+    for i in (0usize..3).rev() {
         let l = landed[i];
         result = (result & !l) | ((result & l) << (1u32 << i));
     }

@@ -15,11 +15,12 @@ use Rattle.rules.specs.declared.Form.TheVariants.{All, None, Words, List as List
 use Rattle.rules.specs.Operand.{Operand, rows_by, rows_of, length_of, count_by, count_of, limit, checks_by, Accepted}
 use Rattle.rules.proofs.OperandLaws.{words_reach, apart}
 use Rattle.operand.specs.Flat.{has_row_numbers, has_runs, has_words, start_of, FlatBy, Flat, flat}
+use Rattle.rows.specs.Table.{no_operand}
 
 pub accepted_flat : (o : Operand) → has_row_numbers o.form ≡ false → has_runs o.form ≡ false → Accepted o → Flat o
 accepted_flat o = by o.form
   where
-    by : (f : Form) → has_row_numbers f ≡ false → has_runs f ≡ false → Met (checks_by f 0 o) → FlatBy f o.words
+    by : (f : Form) → has_row_numbers f ≡ false → has_runs f ≡ false → Met (checks_by f no_operand o) → FlatBy f o.words
     by (All n) e d m = m.0
     by (None n) e d m = m.0
     by (Words start len claimed) e d m = (m.0, m.1.0, omega (arith, words_reach start len claimed o m))
@@ -61,7 +62,7 @@ pub accepted_words : (o : Operand) → has_words o.form ≡ true → Accepted o
     → InView (start_of o.form) (length_of o.form) o.words × (rows_of o ≡ view (start_of o.form) (length_of o.form) o.words)
 accepted_words o = by o.form
   where
-    by : (f : Form) → has_words f ≡ true → Met (checks_by f 0 o) → InView (start_of f) (length_of f) o.words × (rows_by f o ≡ view (start_of f) (length_of f) o.words)
+    by : (f : Form) → has_words f ≡ true → Met (checks_by f no_operand o) → InView (start_of f) (length_of f) o.words × (rows_by f o ≡ view (start_of f) (length_of f) o.words)
     by (All n) e m = absurd (false≢true e)
     by (None n) e m = absurd (false≢true e)
     by (Words start len claimed) e m = ((m.0, m.1.0, omega (arith, words_reach start len claimed o m)), refl)
@@ -73,7 +74,7 @@ pub accepted_runs : (o : Operand) → has_runs o.form ≡ true → Accepted o
     → Apart 0 (length_of o.form) o.numbers × (rows_of o ≡ in_runs (length_of o.form) o.numbers) × (count_of o ≡ run_lengths o.numbers)
 accepted_runs o = by o.form
   where
-    by : (f : Form) → has_runs f ≡ true → Met (checks_by f 0 o)
+    by : (f : Form) → has_runs f ≡ true → Met (checks_by f no_operand o)
         → Apart 0 (length_of f) o.numbers × (rows_by f o ≡ in_runs (length_of f) o.numbers) × (count_by f o.numbers ≡ run_lengths o.numbers)
     by (All n) e m = absurd (false≢true e)
     by (None n) e m = absurd (false≢true e)

@@ -12,6 +12,7 @@ use Rattle.rules.specs.Operand.{Operand, rows_by, rows_of, length_of, count_by, 
 use Rattle.rows.specs.Runs.{in_runs, run_lengths, Apart}
 use Rattle.rules.proofs.OperandLaws.{ascending, apart}
 use Rattle.operand.specs.Flat.{has_row_numbers, has_runs}
+use Rattle.rows.specs.Table.{no_operand}
 
 -- what counts as a list and has no runs has its rows lent as numbers, and what does not has neither
 pub list_numbers : (f : Form) → counts_as_list f ≡ true → has_runs f ≡ false → has_row_numbers f ≡ true
@@ -38,7 +39,7 @@ no_runs_lem (Runs len) e = e
 pub accepted_list : (o : Operand) → has_row_numbers o.form ≡ true → Accepted o → Ascending 0 (length_of o.form) o.numbers
 accepted_list o = by o.form
   where
-    by : (f : Form) → has_row_numbers f ≡ true → Met (checks_by f 0 o) → Ascending 0 (length_of f) o.numbers
+    by : (f : Form) → has_row_numbers f ≡ true → Met (checks_by f no_operand o) → Ascending 0 (length_of f) o.numbers
     by (All n) e m = absurd (false≢true e)
     by (None n) e m = absurd (false≢true e)
     by (Words start len claimed) e m = absurd (false≢true e)
@@ -70,7 +71,7 @@ list_count o = by o.form
 pub accepted_runs : (o : Operand) → has_runs o.form ≡ true → Accepted o → Apart 0 (length_of o.form) o.numbers
 accepted_runs o = by o.form
   where
-    by : (f : Form) → has_runs f ≡ true → Met (checks_by f 0 o) → Apart 0 (length_of f) o.numbers
+    by : (f : Form) → has_runs f ≡ true → Met (checks_by f no_operand o) → Apart 0 (length_of f) o.numbers
     by (All n) e m = absurd (false≢true e)
     by (None n) e m = absurd (false≢true e)
     by (Words start len claimed) e m = absurd (false≢true e)

@@ -1,33 +1,43 @@
--- What the checks of two operands tell together, and their counts where both are accepted. By the law of parts in order: a count that is not known
--- is asked for only where a refusal was told before.
+-- What the checks of two operands tell together: self's refusal, or else the other's, or else both counts. By the law of parts in order.
 -- Assumes nothing.
 use Prim.Native.Nat.{ℕ}
-use mathlib.Core.Path.{◌≡◌, refl, ◌∙◌}
-use mathlib.Core.List.{[]}
-use Rattle.rows.specs.declared.Verdict.{Verdict}
-use Rattle.rows.specs.declared.Verdict.TheVariants.{Fine, Refused}
-use Rattle.rows.specs.Table.{first, if_fine}
-use Rattle.rows.proofs.TableLaws.{never, then_told, last_told, then_fine}
+use mathlib.Core.Path.{◌≡◌, sym, ap, ◌∙◌}
+use mathlib.Core.List.{[], ◌∷◌}
+use Rattle.std.specs.Prelude.{Ok, Err}
+use Rattle.rows.specs.declared.Refusal.{Refusal}
+use Rattle.rows.specs.Table.{Verdict, operand_1, operand_2, first, if_fine}
+use Rattle.rows.specs.WordAnswer.{value_told}
+use Rattle.rows.proofs.TableLaws.{granted_ok, granted_err, passes_ok, then_fine, parts_first, parts_ok, parts_err, parts_last}
 use Rattle.rules.specs.Operand.{Operand, count_of, operand_checks}
 use Rattle.rules.specs.Compose.{both_checks}
 use Rattle.operand.specs.Counts.{checked_of}
 
-of_fine : (v : Verdict) (n : ℕ) → v ≡ Fine → if_fine v n 0 ≡ n
-of_fine Fine n e = refl
-of_fine (Refused z) n e = never e
-
 module _ (s r : Operand) where
-  abbrev own : Verdict
-  own = first (operand_checks 1 s)
+  pub both_err_own : {x : Refusal} → checked_of operand_1 s ≡ Err x → first (both_checks s r) ≡ Err x
+  both_err_own e = parts_err (operand_checks operand_1 s) (operand_checks operand_2 r ∷ []) (granted_err (first (operand_checks operand_1 s)) (count_of s) e)
 
-  abbrev ranked : Verdict
-  ranked = first (operand_checks 2 r)
+  pub both_own : {n : ℕ} → checked_of operand_1 s ≡ Ok n → first (both_checks s r) ≡ first (operand_checks operand_2 r)
+  both_own e =
+      parts_ok (operand_checks operand_1 s) (operand_checks operand_2 r ∷ []) (granted_ok (first (operand_checks operand_1 s)) e).0
+      ∙ parts_last (operand_checks operand_2 r)
 
-  pub both_verdict : if_fine (first (operand_checks 1 s)) (first (operand_checks 2 r)) (first (operand_checks 1 s)) ≡ first (both_checks s r)
-  both_verdict = then_told (operand_checks 1 s) (operand_checks 2 r) [] refl refl (last_told (operand_checks 2 r) refl)
+  pub both_err_other : {n : ℕ} {x : Refusal} → checked_of operand_1 s ≡ Ok n → checked_of operand_2 r ≡ Err x → first (both_checks s r) ≡ Err x
+  both_err_other e f = both_own e ∙ granted_err (first (operand_checks operand_2 r)) (count_of r) f
 
   -- where both are accepted, the counts told are their own
-  pub both_counts : first (both_checks s r) ≡ Fine → ((checked_of 1 s).count ≡ count_of s) × ((checked_of 2 r).count ≡ count_of r)
+  pub both_ok : {n m : ℕ} → checked_of operand_1 s ≡ Ok n → checked_of operand_2 r ≡ Ok m → (first (both_checks s r) ≡ Ok tt) × (count_of s ≡ n) × (count_of r ≡ m)
+  both_ok e f =
+      let own = granted_ok (first (operand_checks operand_1 s)) e in
+      let other = granted_ok (first (operand_checks operand_2 r)) f in
+      (both_own e ∙ other.0, own.1, other.1)
+
+  -- and the counts that their checks tell are their own wherever both are accepted
+  pub both_counts : first (both_checks s r) ≡ Ok tt → (value_told (checked_of operand_1 s) ≡ count_of s) × (value_told (checked_of operand_2 r) ≡ count_of r)
   both_counts e =
-      let f = then_fine own ranked (both_verdict ∙ e) in
-      (of_fine own (count_of s) f.0, of_fine ranked (count_of r) f.1)
+      let f = then_fine (first (operand_checks operand_1 s)) (first (operand_checks operand_2 r)) (sym both_verdict ∙ e) in
+      (ap value_told (passes_ok (first (operand_checks operand_1 s)) (count_of s) f.0), ap value_told (passes_ok (first (operand_checks operand_2 r)) (count_of r) f.1))
+    where
+      both_verdict : first (both_checks s r) ≡ if_fine (first (operand_checks operand_1 s)) (first (operand_checks operand_2 r)) (first (operand_checks operand_1 s))
+      both_verdict =
+          parts_first (operand_checks operand_1 s) (operand_checks operand_2 r) []
+          ∙ ap (λ (v : Verdict). if_fine (first (operand_checks operand_1 s)) v (first (operand_checks operand_1 s))) (parts_last (operand_checks operand_2 r))

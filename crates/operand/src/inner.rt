@@ -4,3 +4,4 @@ pub mod checks;
 pub mod chunks;
 pub mod counts;
 pub mod forms;
+pub mod states;

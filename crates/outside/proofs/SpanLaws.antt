@@ -16,7 +16,6 @@ use lib.Seq.{drop-cons}
 use Rattle.rows.specs.Lists.{member, Ascending}
 use Rattle.rows.specs.Runs.{held, Apart}
 use Rattle.rows.proofs.RunLaws.{held_past, held_first}
-use Rattle.outside.specs.First.{First, Reach}
 use Rattle.outside.specs.Spans.{doubled, Rising, Come, Stands}
 
 -- ---- runs and entries are spans
@@ -131,40 +130,3 @@ module _ (ns : List ℕ) (e i b first past : ℕ) (h : i < length ns / 2)
         in_it = λ row l m n. w.behind row l ∙ ap (held row) is ∙ held_first row first past left m n;
         some = λ l. (r.1, k);
       }
-
--- ---- what the span at which a walk stands tells of the rows
-
-module _ (ns : List ℕ) (e b first past : ℕ) (s : Stands ns e b first past) where
-  pub stands_in : first < b → b ≤ e → First (λ i. held i ns) b e b
-  stands_in h k = record {
-    on = omega arith;
-    within = k;
-    clear = λ i l m. absurd (omega arith);
-    here = λ l. s.in_it b (omega arith) (omega arith) (s.some (omega arith)).1;
-  }
-
-  pub stands_after : b ≤ first → First (λ i. held i ns) b e first
-  stands_after h = record {
-    on = h;
-    within = s.low;
-    clear = s.before;
-    here = λ l. s.in_it first h (omega arith) (s.some l).0;
-  }
-
-  pub reach_past : first ≤ b → b < e → Reach (λ i. held i ns) b e past
-  reach_past h k =
-      let ahead : b < past = (s.some (omega arith)).1 in
-      record {
-        on = omega arith;
-        within = s.high;
-        full = λ i l m. s.in_it i l (omega arith) m;
-        stuck = λ p. absurd (omega arith);
-      }
-
-  pub reach_none : b < first → b < e → Reach (λ i. held i ns) b e b
-  reach_none h k = record {
-    on = omega arith;
-    within = omega arith;
-    full = λ i l m. absurd (omega arith);
-    stuck = λ p. s.before b (omega arith) h;
-  }

@@ -5,9 +5,7 @@ use Prim.Native.Nat.{ℕ, ◌≤◌, ◌<◌}
 use native.Mathlib.Nat.{zero-add}
 use native.Mathlib.Omega.{arith}
 use mathlib.Core.Path.{◌≡◌, sym, ap, ◌∙◌}
-use mathlib.Core.Bool.{true, false}
 use mathlib.Core.List.{List}
-use lib.ListN.{get_or-replicate}
 use Rattle.rows.specs.Lists.{member, listed}
 use Rattle.rows.specs.Runs.{held, in_runs}
 use Rattle.rows.proofs.ListLaws.{tab_at}
@@ -16,17 +14,17 @@ use Rattle.rules.specs.declared.Form.TheVariants.{All, None, Words, List as List
 use Rattle.rules.specs.Operand.{lent, rows_of, length_of, Accepted}
 use Rattle.rules.proofs.OperandLaws.{words_reach, ascending, apart}
 use Rattle.outside.specs.First.{has, First, Reach}
-use Rattle.outside.specs.Spans.{spans, Come}
+use Rattle.outside.specs.Spans.{doubled, Come}
 use Rattle.outside.specs.Walks.{Walks}
-use Rattle.outside.proofs.FirstLaws.{clear_none, first_none, first_as, reach_as}
+use Rattle.outside.proofs.FirstLaws.{first_as, reach_as}
 use Rattle.outside.proofs.SpanLaws.{apart_rising, ascending_rising, doubled_held, come_start, come_later}
 
 -- ---- what numbers say of a row
 
-listed_has : (len : ℕ) (es : List ℕ) (i : ℕ) → i < len → has (listed len es) i ≡ held i (spans false es)
+listed_has : (len : ℕ) (es : List ℕ) (i : ℕ) → i < len → has (listed len es) i ≡ held i (doubled es)
 listed_has len es i h = tab_at 0 len (λ k. member k es) i h ∙ ap (λ (k : ℕ). member k es) (zero-add i) ∙ sym (doubled_held i es)
 
-runs_has : (len : ℕ) (ns : List ℕ) (i : ℕ) → i < len → has (in_runs len ns) i ≡ held i (spans true ns)
+runs_has : (len : ℕ) (ns : List ℕ) (i : ℕ) → i < len → has (in_runs len ns) i ≡ held i ns
 runs_has len ns i h = tab_at 0 len (λ k. held k ns) i h ∙ ap (λ (k : ℕ). held k ns) (zero-add i)
 
 -- ---- it begins at row 0
@@ -36,14 +34,14 @@ accepted_walks (All n) ws es m = tt
 accepted_walks (None n) ws es m = tt
 accepted_walks (Words start len claimed) ws es m =
     (m.0, m.1.0, omega (arith, words_reach start len claimed (lent (Words start len claimed) ws es) m))
-accepted_walks (Listed len) ws es m = come_start (spans false es) len (ascending_rising 0 len es (ascending len es m.1.0 m.1.1.0))
+accepted_walks (Listed len) ws es m = come_start (doubled es) len (ascending_rising 0 len es (ascending len es m.1.0 m.1.1.0))
 accepted_walks (Runs len) ws es m = come_start es len (apart_rising 0 0 len es (omega arith) (apart 0 len es m.1.0))
 
 pub walks_later : (f : Form) (ws es : List ℕ) (i b c : ℕ) → b ≤ c → Walks f ws es i b → Walks f ws es i c
 walks_later (All n) ws es i b c h w = tt
 walks_later (None n) ws es i b c h w = tt
 walks_later (Words start len claimed) ws es i b c h w = w
-walks_later (Listed len) ws es i b c h w = come_later (spans false es) len i b c h w
+walks_later (Listed len) ws es i b c h w = come_later (doubled es) len i b c h w
 walks_later (Runs len) ws es i b c h w = come_later es len i b c h w
 
 -- ---- its next set row r from row b on
@@ -52,17 +50,11 @@ abbrev pub NextSet : Form → List ℕ → List ℕ → ℕ → ℕ → ℕ → 
 NextSet f ws es b i r = Walks f ws es i r × First (has (rows_of (lent f ws es))) b (length_of f) r
 
 module _ (ws es : List ℕ) (b i : ℕ) where
-  pub set_all : (n : ℕ) → b ≤ n → NextSet (All n) ws es b i b
-  set_all n h = (tt, record { on = omega arith; within = h; clear = clear_none _ b; here = λ l. get_or-replicate n b true false l })
+  pub set_listed : (len r : ℕ) → Come (doubled es) len i r → First (λ k. held k (doubled es)) b len r → NextSet (Listed len) ws es b i r
+  set_listed len r w f = (w, first_as (λ k. held k (doubled es)) (has (listed len es)) b len r (listed_has len es) f)
 
-  pub set_none : (n : ℕ) → b ≤ n → NextSet (None n) ws es b i n
-  set_none n h = (tt, first_none _ b n h (λ k l m. get_or-replicate n k false false m))
-
-  pub set_listed : (len r : ℕ) → Come (spans false es) len i r → First (λ k. held k (spans false es)) b len r → NextSet (Listed len) ws es b i r
-  set_listed len r w f = (w, first_as (λ k. held k (spans false es)) (has (listed len es)) b len r (listed_has len es) f)
-
-  pub set_runs : (len r : ℕ) → Come (spans true es) len i r → First (λ k. held k (spans true es)) b len r → NextSet (Runs len) ws es b i r
-  set_runs len r w f = (w, first_as (λ k. held k (spans true es)) (has (in_runs len es)) b len r (runs_has len es) f)
+  pub set_runs : (len r : ℕ) → Come es len i r → First (λ k. held k es) b len r → NextSet (Runs len) ws es b i r
+  set_runs len r w f = (w, first_as (λ k. held k es) (has (in_runs len es)) b len r (runs_has len es) f)
 
 -- ---- it has all rows from row b to before r
 
@@ -70,32 +62,10 @@ abbrev pub Reaches : Form → List ℕ → List ℕ → ℕ → ℕ → ℕ → 
 Reaches f ws es b i r = Walks f ws es i r × Reach (has (rows_of (lent f ws es))) b (length_of f) r
 
 module _ (ws es : List ℕ) (b i : ℕ) where
-  pub reach_all : (n : ℕ) → b < n → Reaches (All n) ws es b i n
-  reach_all n h = (
-    tt,
-    record {
-      on = omega arith;
-      within = omega arith;
-      full = λ k l m. get_or-replicate n k true false m;
-      stuck = λ e. absurd (omega arith);
-    },
-  )
-
-  pub reach_no : (n : ℕ) → b < n → Reaches (None n) ws es b i b
-  reach_no n h = (
-    tt,
-    record {
-      on = omega arith;
-      within = omega arith;
-      full = λ k l m. absurd (omega arith);
-      stuck = λ e. get_or-replicate n b false false h;
-    },
-  )
-
-  pub reach_listed : (len r : ℕ) → b < len → Come (spans false es) len i r → Reach (λ k. held k (spans false es)) b len r
+  pub reach_listed : (len r : ℕ) → b < len → Come (doubled es) len i r → Reach (λ k. held k (doubled es)) b len r
       → Reaches (Listed len) ws es b i r
-  reach_listed len r h w f = (w, reach_as (λ k. held k (spans false es)) (has (listed len es)) b len r h (listed_has len es) f)
+  reach_listed len r h w f = (w, reach_as (λ k. held k (doubled es)) (has (listed len es)) b len r h (listed_has len es) f)
 
-  pub reach_runs : (len r : ℕ) → b < len → Come (spans true es) len i r → Reach (λ k. held k (spans true es)) b len r
+  pub reach_runs : (len r : ℕ) → b < len → Come es len i r → Reach (λ k. held k es) b len r
       → Reaches (Runs len) ws es b i r
-  reach_runs len r h w f = (w, reach_as (λ k. held k (spans true es)) (has (in_runs len es)) b len r h (runs_has len es) f)
+  reach_runs len r h w f = (w, reach_as (λ k. held k es) (has (in_runs len es)) b len r h (runs_has len es) f)

@@ -26,6 +26,8 @@ use Rattle.rows.proofs.TurnLaws.{xor_bits}
 use Rattle.rows.proofs.ClearLaws.{rows_low, count_low}
 use Rattle.rows.proofs.SelectLaws.{selects}
 use Rattle.rows.proofs.RecoverLaws.{outside_row}
+use Rattle.outside.specs.declared.words.Sought.{Sought}
+use Rattle.outside.specs.declared.words.Sought.TheVariants.{Set, Unset}
 use Rattle.outside.specs.First.{has, sought, flipped, Clear, First}
 use Rattle.outside.proofs.FirstLaws.{clear_join, first_behind, first_wider}
 
@@ -180,11 +182,16 @@ module _ (sstart kstart len b n : ℕ) (sws kws : List ℕ) (few : n ≤ 64) (sh
 
 -- ---- rows that are sought, in a word: set, or turned over
 
-sought_differs : (set x : Bool) → differs x (not set) ≡ sought set x
-sought_differs true false = refl
-sought_differs true true = refl
-sought_differs false false = refl
-sought_differs false true = refl
+-- of a row that is sought the word has a 0 where it is set, and a 1 where it is not
+abbrev turned : Sought → Bool
+turned Set = false
+turned Unset = true
+
+sought_differs : (which : Sought) (x : Bool) → differs x (turned which) ≡ sought which x
+sought_differs Set false = refl
+sought_differs Set true = refl
+sought_differs Unset false = refl
+sought_differs Unset true = refl
 
 -- each bit of the word that they are held against is one if rows that are not set are sought
 ones_bit : (w i : ℕ) → i < w → has (bits_of w (2 ^ w - 1)) i ≡ true
@@ -195,32 +202,32 @@ ones_bit w i h =
     ∙ get_or-take w all i false h
     ∙ get_or-replicate w i true false h
 
-flipped_bit : (set : Bool) (n i : ℕ) → n ≤ 64 → i < n → has (bits_of n (flipped set)) i ≡ not set
-flipped_bit true n i few h = zero_has n i h
-flipped_bit false n i few h =
+flipped_bit : (which : Sought) (n i : ℕ) → n ≤ 64 → i < n → has (bits_of n (flipped which)) i ≡ turned which
+flipped_bit Set n i few h = zero_has n i h
+flipped_bit Unset n i few h =
     ap (λ (l : List Bool). has l i) (sym (take_bits n 64 (2 ^ 64 - 1) few))
     ∙ get_or-take n (bits_of 64 (2 ^ 64 - 1)) i false h
     ∙ ones_bit 64 i (omega arith)
 
-module _ (set : Bool) (start len b n : ℕ) (ws : List ℕ) (few : n ≤ 64) (short : b + n ≤ len) where
+module _ (which : Sought) (start len b n : ℕ) (ws : List ℕ) (few : n ≤ 64) (short : b + n ≤ len) where
   abbrev rows : ℕ
   rows = read start b 64 ws
 
   abbrev held : ℕ
-  held = bit_xor rows (flipped set)
+  held = bit_xor rows (flipped which)
 
   cut : bit_and held (2 ^ n - 1) ≡ word_of (bits_of n held)
   cut = and_mask held n ∙ sym (word_of_bits_of_mod n held)
 
-  held_bit : (i : ℕ) → i < n → has (bits_of n held) i ≡ sought set (has (view start len ws) (b + i))
+  held_bit : (i : ℕ) → i < n → has (bits_of n held) i ≡ sought which (has (view start len ws) (b + i))
   held_bit i h =
-      ap (λ (l : List Bool). has l i) (xor_bits n rows (flipped set))
-      ∙ both_at differs (bits_of n rows) (bits_of n (flipped set)) (bits_of_length n rows ∙ sym (bits_of_length n (flipped set))) i
+      ap (λ (l : List Bool). has l i) (xor_bits n rows (flipped which))
+      ∙ both_at differs (bits_of n rows) (bits_of n (flipped which)) (bits_of_length n rows ∙ sym (bits_of_length n (flipped which))) i
       (omega (arith, bits_of_length n rows))
-      ∙ ap₂ differs (read_bit start b 64 ws n len i h (omega arith) (omega arith)) (flipped_bit set n i few h)
-      ∙ sought_differs set (has (view start len ws) (b + i))
+      ∙ ap₂ differs (read_bit start b 64 ws n len i h (omega arith) (omega arith)) (flipped_bit which n i few h)
+      ∙ sought_differs which (has (view start len ws) (b + i))
 
-  pub sought_shown : Shown (λ i. sought set (has (view start len ws) i)) b n (bit_and held (2 ^ n - 1))
+  pub sought_shown : Shown (λ i. sought which (has (view start len ws) i)) b n (bit_and held (2 ^ n - 1))
   sought_shown =
       let most : 2 ^ n ≤ 2 ^ 64 = pow_mono few in
       record {

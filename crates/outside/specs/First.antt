@@ -1,20 +1,22 @@
 -- The first row that a test takes, and how far it takes all. No promise to a user rests on it.
 -- Assumes nothing.
 use Rattle.std.specs.Prelude.{ℕ, ◌-◌, ◌^◌, ◌≤◌, ◌<◌, ◌≡◌, Bool, true, false, not, List, get_or}
+use Rattle.outside.specs.declared.words.Sought.{Sought}
+use Rattle.outside.specs.declared.words.Sought.TheVariants.{Set, Unset}
 
 -- s has row i
 abbrev pub has : List Bool → ℕ → Bool
 has s i = get_or s i false
 
 -- what is sought: a row that is set, or one that is not
-abbrev pub sought : Bool → Bool → Bool
-sought true x = x
-sought false x = not x
+abbrev pub sought : Sought → Bool → Bool
+sought Set x = x
+sought Unset x = not x
 
 -- the word that turns each row sought to 1 and each other to 0, against which 64 rows are held
-abbrev pub flipped : Bool → ℕ
-flipped true = 0
-flipped false = 2 ^ 64 - 1
+abbrev pub flipped : Sought → ℕ
+flipped Set = 0
+flipped Unset = 2 ^ 64 - 1
 
 -- of the rows from b to before e the test takes none
 abbrev pub Clear : (ℕ → Bool) → ℕ → ℕ → Type 0

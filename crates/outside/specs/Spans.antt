@@ -1,18 +1,20 @@
 -- Row numbers as spans, in pairs like runs: an entry of a list is a span of one row. Neighbours may touch. What a walk over spans knows that has come
 -- to a row, and of the span that it stands at. No promise to a user rests on it.
 -- Assumes nothing.
-use Rattle.std.specs.Prelude.{ℕ, suc, ◌*◌, ◌≤◌, ◌<◌, ◌≡◌, Bool, true, false, List, [], ◌∷◌, drop}
+use Rattle.std.specs.Prelude.{ℕ, suc, ◌*◌, ◌≤◌, ◌<◌, ◌≡◌, true, false, List, [], ◌∷◌, drop}
 use Rattle.rows.specs.Runs.{held}
+use Rattle.outside.specs.declared.spans.Numbers.{Numbers}
+use Rattle.outside.specs.declared.spans.Numbers.TheVariants.{List as Listed, Runs}
 
 -- each entry, and the row after it
 abbrev pub doubled : List ℕ → List ℕ
 doubled [] = []
 doubled (r ∷ rs) = r ∷ suc r ∷ doubled rs
 
--- the numbers are runs, or they are entries
-abbrev pub spans : Bool → List ℕ → List ℕ
-spans true ns = ns
-spans false ns = doubled ns
+-- a list's numbers are entries
+abbrev pub spans : Numbers → List ℕ
+spans (Listed rows) = doubled rows.now
+spans (Runs rows) = rows.now
 
 -- no span is empty or past row e, each begins at b or above and not before the end of the one before it, and each number has its pair
 abbrev pub Rising : ℕ → ℕ → List ℕ → Type 0

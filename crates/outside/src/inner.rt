@@ -1,4 +1,4 @@
-// What our own crates call: the first row outside self.
+// What our own crates call: the first row outside self, and the next row in words that is set, or is unset.
 ghost use Rattle.std.specs.Prelude.{◌≡◌};
 ghost use Rattle.rows.specs.Rows.{outside};
 ghost use Rattle.rows.specs.Lists.{select};
@@ -6,6 +6,7 @@ ghost use Rattle.rules.specs.Operand.{lent, rows_of, length_of, Accepted};
 
 use super::walks::leap;
 use super::words::first_in_words;
+pub use super::words::{Sought, seek};
 use rows::Row;
 use rules::Form;
 

@@ -25,95 +25,88 @@ pub struct Walk {
     pub row: u64,
 }
 
-fn count_spans(rows: &[u32], runs: bool) -> usize
-    ensures { result ≡ length (spans runs rows.now) / 2 }
-{
-    if runs {
-        return rows.len() / 2;
-    }
-    rows.len()
+// Rows lent as numbers: a list's, each on its own, or runs, in pairs.
+#[derive(Clone, Copy)]
+pub enum Numbers<'a> {
+    List(&'a [u32]),
+    Runs(&'a [u32]),
 }
 
-// Span number i.
-fn span_at(rows: &[u32], runs: bool, i: usize) -> Span
-    requires { i < length (spans runs rows.now) / 2 }
-    ensures { (result.first ≡ get_or (spans runs rows.now) (i * 2) 0)
-        × (result.past ≡ get_or (spans runs rows.now) (i * 2 + 1) 0) }
-{
-    if runs {
-        let first = rows[i * 2] as u64;
-        let past = rows[i * 2 + 1] as u64;
-        return Span { first, past };
-    }
-    let row = rows[i] as u64;
-    let after = row + 1;
-    Span {
-        first: row,
-        past: after,
-    }
-}
-
-// The span that holds the row, or else the first after it, from number next on.
-fn stand(rows: &[u32], runs: bool, len: u64, next: usize, row: u64) -> Place
-    requires { Come (spans runs rows.now) len next row }
-    ensures { Come (spans runs rows.now) len result.next row
-        × Stands (spans runs rows.now) len row result.span.first result.span.past }
-{
-    let n = count_spans(rows, runs);
-    let mut i = next;
-    while i < n {
-        let span = span_at(rows, runs, i);
-        if row < span.past {
-            return Place { next: i, span };
+impl<'a> Numbers<'a> {
+    fn count_spans(self) -> usize
+        ensures { result ≡ length (spans self.entry) / 2 }
+    {
+        match self {
+            Numbers::List(rows) => rows.len(),
+            Numbers::Runs(rows) => rows.len() / 2,
         }
-        i += 1;
     }
-    Place {
-        next: i,
-        span: Span {
-            first: len,
-            past: len,
-        },
-    }
-}
 
-// The next row from row on that a span holds.
-pub fn next_held(rows: &[u32], runs: bool, len: u64, next: usize, row: u64) -> Walk
-    requires { Come (spans runs rows.now) len next row × (row ≤ len) }
-    ensures { Come (spans runs rows.now) len result.next result.row
-        × First (λ i. held i (spans runs rows.now)) row len result.row }
-{
-    let place = stand(rows, runs, len, next, row);
-    let first = place.span.first;
-    if first < row {
-        return Walk {
-            next: place.next,
-            row,
-        };
+    // Span number i.
+    fn span_at(self, i: usize) -> Span
+        requires { i < length (spans self) / 2 }
+        ensures { (result.first ≡ get_or (spans self.entry) (i * 2) 0) × (result.past ≡ get_or (spans self.entry) (i * 2 + 1) 0) }
+    {
+        match self {
+            Numbers::List(rows) => {
+                let row = rows[i] as u64;
+                Span {
+                    first: row,
+                    past: row + 1,
+                }
+            }
+            Numbers::Runs(rows) => Span {
+                first: rows[i * 2] as u64,
+                past: rows[i * 2 + 1] as u64,
+            },
+        }
     }
-    Walk {
-        next: place.next,
-        row: first,
-    }
-}
 
-// The row past the span that holds the row, and the row itself where none does.
-pub fn held_to(rows: &[u32], runs: bool, len: u64, next: usize, row: u64) -> Walk
-    requires { Come (spans runs rows.now) len next row × (row < len) }
-    ensures { Come (spans runs rows.now) len result.next result.row
-        × Reach (λ i. held i (spans runs rows.now)) row len result.row }
-{
-    let place = stand(rows, runs, len, next, row);
-    let first = place.span.first;
-    let past = place.span.past;
-    if first <= row {
-        return Walk {
-            next: place.next,
-            row: past,
-        };
+    // The span that holds the row, or else the first after it, from number next on.
+    fn stand(self, len: u64, next: usize, row: u64) -> Place
+        requires { Come (spans self) len next row }
+        ensures { Come (spans self.entry) len result.next row × Stands (spans self.entry) len row result.span.first result.span.past }
+    {
+        for i in next..self.count_spans() {
+            let span = self.span_at(i);
+            if row < span.past {
+                return Place { next: i, span };
+            }
+        }
+        // None is left, so none is asked for again.
+        Place {
+            next,
+            span: Span {
+                first: len,
+                past: len,
+            },
+        }
     }
-    Walk {
-        next: place.next,
-        row,
+
+    // The next row from row on that a span holds.
+    pub fn next_held(self, len: u64, next: usize, row: u64) -> Walk
+        requires { Come (spans self) len next row × (row ≤ len) }
+        ensures { Come (spans self.entry) len result.next result.row × First (λ i. held i (spans self.entry)) row len result.row }
+    {
+        let Place { next, span } = self.stand(len, next, row);
+        Walk {
+            next,
+            row: span.first.max(row),
+        }
+    }
+
+    // The row past the span that holds the row, and the row itself where none does.
+    pub fn held_to(self, len: u64, next: usize, row: u64) -> Walk
+        requires { Come (spans self) len next row × (row < len) }
+        ensures { Come (spans self.entry) len result.next result.row × Reach (λ i. held i (spans self.entry)) row len result.row }
+    {
+        let Place { next, span } = self.stand(len, next, row);
+        if row < span.first {
+            return Walk { next, row };
+        }
+        Walk {
+            next,
+            row: span.past,
+        }
     }
 }

@@ -5,8 +5,8 @@ ghost use Rattle.rules.specs.Operand.{lent, rows_of, length_of};
 ghost use Rattle.outside.specs.First.{has, First, Reach};
 ghost use Rattle.outside.specs.Walks.{Walks};
 
-use super::spans::{Walk, held_to, next_held};
-use super::words::seek;
+use super::spans::{Numbers, Walk};
+use super::words::{Sought, seek};
 use operand::inner::forms::length_of;
 use rules::Form;
 
@@ -25,10 +25,10 @@ fn next_set(form: Form, words: &[u64], rows: &[u32], next: usize, row: u64) -> W
             claimed: _,
         } => Walk {
             next,
-            row: seek(words, start, length, row, true),
+            row: seek(words, start, length, row, Sought::Set),
         },
-        Form::List { length } => next_held(rows, false, length, next, row),
-        Form::Runs { length } => next_held(rows, true, length, next, row),
+        Form::List { length } => Numbers::List(rows).next_held(length, next, row),
+        Form::Runs { length } => Numbers::Runs(rows).next_held(length, next, row),
     }
 }
 
@@ -47,10 +47,10 @@ fn reach(form: Form, words: &[u64], rows: &[u32], next: usize, row: u64) -> Walk
             claimed: _,
         } => Walk {
             next,
-            row: seek(words, start, length, row, false),
+            row: seek(words, start, length, row, Sought::Unset),
         },
-        Form::List { length } => held_to(rows, false, length, next, row),
-        Form::Runs { length } => held_to(rows, true, length, next, row),
+        Form::List { length } => Numbers::List(rows).held_to(length, next, row),
+        Form::Runs { length } => Numbers::Runs(rows).held_to(length, next, row),
     }
 }
 
@@ -64,6 +64,7 @@ pub fn leap(s: Form, swords: &[u64], srows: &[u32], k: Form, kwords: &[u64], kro
     let mut snext: usize = 0;
     let mut knext: usize = 0;
     let mut row: u64 = 0;
+    // A turn goes on to the row that it found: no range has these steps.
     while row < len {
         let set = next_set(k, kwords, krows, knext, row);
         let here = set.row;

@@ -19,13 +19,11 @@ fn first_in_whole(
     requires { InView sstart len swords.now × InView kstart len kwords.now × (n * 64 ≤ len) }
     ensures { First (has (outside (view sstart len swords.now) (view kstart len kwords.now))) 0 (n * 64) result }
 {
-    let mut i: usize = 0;
-    while i < n {
+    for i in 0..n {
         let bits = whole_word(kwords, kstart, i) & !whole_word(swords, sstart, i);
         if bits != 0 {
             return i as u64 * 64 + u64::trailing_zeros(bits) as u64;
         }
-        i += 1;
     }
     n as u64 * 64
 }
@@ -52,30 +50,35 @@ pub fn first_in_words(swords: &[u64], sstart: u64, kwords: &[u64], kstart: u64, 
     row + u64::trailing_zeros(bits) as u64
 }
 
-// A word of one bit: what turns the rows sought to 1.
-fn flip(set: bool) -> u64
-    ensures { result ≡ flipped set }
-{
-    if set {
-        return 0;
-    }
-    0xffff_ffff_ffff_ffffu64
+// Which rows are sought: those that are set, or those that are not.
+#[derive(Clone, Copy)]
+pub enum Sought {
+    Set,
+    Unset,
 }
 
-// The next row from row on that is set, or is not.
-pub fn seek(words: &[u64], start: u64, len: u64, row: u64, set: bool) -> u64
-    requires { InView start len words.now × (row ≤ len) }
-    ensures { First (λ i. sought set (has (view start len words.now) i)) row len result }
+// A word of one bit: what turns the rows sought to 1.
+fn flip(which: Sought) -> u64
+    ensures { result ≡ flipped which }
 {
-    let turned = flip(set);
-    let mut at = row;
-    while at < len {
+    match which {
+        Sought::Set => 0,
+        Sought::Unset => u64::MAX,
+    }
+}
+
+// The next row from row on that is as sought.
+pub fn seek(words: &[u64], start: u64, len: u64, row: u64, which: Sought) -> u64
+    requires { InView start len words.now × (row ≤ len) }
+    ensures { First (λ i. sought which (has (view start len words.now) i)) row len result }
+{
+    let turned = flip(which);
+    for at in (row..len).step_by(64) {
         let n = chunk_len(len, at);
         let bits = (read(words, start, at) ^ turned) & ones(n);
         if bits != 0 {
             return at + u64::trailing_zeros(bits) as u64;
         }
-        at += n;
     }
     len
 }

@@ -3,18 +3,16 @@ ghost use Rattle.std.specs.Prelude.{◌≡◌};
 ghost use Rattle.rows.specs.WordAnswer.{deposited};
 ghost use Rattle.rules.specs.Operand.{lent};
 ghost use Rattle.rules.specs.Stream.{state_of};
-ghost use Rattle.rules.specs.RecoverStream.{state_of as recoveryStateOf};
+ghost use Rattle.rules.specs.RecoverStream.{state_of as recovery_state_of};
 ghost use Rattle.cells.specs.Probe.{given, ended, deposit_told, select_told, read_told, to_words_done, to_list_done, to_runs_done, compose_done, set_done, sets_done, feed_done, recover_done, recover_feed_done, program_done, answer_told};
 
-use super::tell::{
-    of_answer, of_bad_form, of_fed, of_recovered, of_recovery_fed, of_runs, of_word, of_written,
-};
-use cells::{Given, Told};
-use rows::{Deposited, Rank, Row, Way};
-use rules::{Answer, Form, RecoveryState, State};
+use super::tell::{of_answer, of_bad_form, of_fed, of_recovery_fed, of_runs, of_word, of_written};
+use cells::Told;
+use rows::{Rank, Refusal, Row, Way};
+use rules::{Form, RecoveryState, State, Summary};
 
 // By way 0 the choice with the network, by any other the loop form.
-fn deposit_by(way: u64, source: u64, mask: u64, claimed: u64) -> Deposited
+fn deposit_by(way: u64, source: u64, mask: u64, claimed: u64) -> Result<u64, Refusal>
     ensures { result ≡ deposited source mask claimed }
 {
     if way == 0 {
@@ -26,75 +24,67 @@ fn deposit_by(way: u64, source: u64, mask: u64, claimed: u64) -> Deposited
 pub fn deposit(way: u64, source: u64, mask: u64, claimed: u64) -> Told
     ensures { result ≡ deposit_told source mask claimed }
 {
-    let deposited = deposit_by(way, source, mask, claimed);
-    let refusal = deposited.refusal;
-    of_word(refusal, deposited.word)
+    of_word(deposit_by(way, source, mask, claimed))
 }
 
 pub fn select(word: u64, rank: u64) -> Told
     ensures { result ≡ select_told word rank }
 {
-    let selected = word::select(word, rank);
-    let refusal = selected.refusal;
-    of_word(refusal, selected.position)
+    of_word(word::select(word, rank))
 }
 
 pub fn rank_read(words: &[u64], start: u64, offset: u64) -> Told
     ensures { result ≡ read_told words.now start offset }
 {
-    let read = lent::rank_read(words, start, offset);
-    let refusal = read.refusal;
-    of_word(refusal, read.word)
+    of_word(lent::rank_read(words, start, offset))
 }
 
-pub fn to_words(a: Given, awords: &[u64], arows: &[u32], out: &mut [u64]) -> Told
+pub fn to_words(a: Option<Form>, awords: &[u64], arows: &[u32], out: &mut [u64]) -> Told
     ensures { ended result out.new ≡ to_words_done (given a awords.now arows.now) out.old }
 {
-    match a {
-        Given::Bad => of_bad_form(),
-        Given::Good(form) => of_answer(mask::to_words(form, awords, arows, out)),
-    }
+    let Some(form) = a else {
+        return of_bad_form();
+    };
+    of_answer(mask::to_words(form, awords, arows, out))
 }
 
-pub fn to_list(a: Given, awords: &[u64], arows: &[u32], out: &mut [u32]) -> Told
+pub fn to_list(a: Option<Form>, awords: &[u64], arows: &[u32], out: &mut [u32]) -> Told
     ensures { ended result out.new ≡ to_list_done (given a awords.now arows.now) out.old }
 {
-    match a {
-        Given::Bad => of_bad_form(),
-        Given::Good(form) => of_answer(mask::to_list(form, awords, arows, out)),
-    }
+    let Some(form) = a else {
+        return of_bad_form();
+    };
+    of_answer(mask::to_list(form, awords, arows, out))
 }
 
-pub fn to_runs(a: Given, awords: &[u64], arows: &[u32], out: &mut [u32]) -> Told
+pub fn to_runs(a: Option<Form>, awords: &[u64], arows: &[u32], out: &mut [u32]) -> Told
     ensures { ended result out.new ≡ to_runs_done (given a awords.now arows.now) out.old }
 {
-    match a {
-        Given::Bad => of_bad_form(),
-        Given::Good(form) => of_runs(mask::to_runs(form, awords, arows, out)),
-    }
+    let Some(form) = a else {
+        return of_bad_form();
+    };
+    of_runs(mask::to_runs(form, awords, arows, out))
 }
 
 pub fn compose(
-    a: Given,
+    a: Option<Form>,
     awords: &[u64],
     arows: &[u32],
-    b: Given,
+    b: Option<Form>,
     bwords: &[u64],
     brows: &[u32],
     out: &mut [u64],
 ) -> Told
     ensures { ended result out.new ≡ compose_done (given a awords.now arows.now) (given b bwords.now brows.now) out.old }
 {
-    let Given::Good(s) = a else {
-        return of_bad_form();
-    };
-    let Given::Good(r) = b else {
+    let (Some(s), Some(r)) = (a, b) else {
         return of_bad_form();
     };
     of_answer(intersect_by_rank::intersect_by_rank(s, awords, arows, r, bwords, brows, out))
 }
 
 // By 0 and, by 1 or, by 2 and-not, by any other number not, which ignores b.
+#[tactic(auto, unfolding(cells::specs::Probe::set_done))]
 fn set_operation(
     which: u64,
     a: Form,
@@ -104,7 +94,7 @@ fn set_operation(
     bwords: &[u64],
     brows: &[u32],
     out: &mut [u64],
-) -> Answer
+) -> Result<Summary, Refusal>
     ensures { ended (answer_told result) out.new ≡ set_done which (lent a awords.now arows.now) (lent b bwords.now brows.now) out.old }
 {
     match which {
@@ -117,20 +107,17 @@ fn set_operation(
 
 pub fn set(
     which: u64,
-    a: Given,
+    a: Option<Form>,
     awords: &[u64],
     arows: &[u32],
-    b: Given,
+    b: Option<Form>,
     bwords: &[u64],
     brows: &[u32],
     out: &mut [u64],
 ) -> Told
     ensures { ended result out.new ≡ sets_done which (given a awords.now arows.now) (given b bwords.now brows.now) out.old }
 {
-    let Given::Good(f) = a else {
-        return of_bad_form();
-    };
-    let Given::Good(g) = b else {
+    let (Some(f), Some(g)) = (a, b) else {
         return of_bad_form();
     };
     of_answer(set_operation(which, f, awords, arows, g, bwords, brows, out))
@@ -141,20 +128,17 @@ pub fn feed(
     done: u64,
     ranks: u64,
     kept: u64,
-    a: Given,
+    a: Option<Form>,
     awords: &[u64],
     arows: &[u32],
-    b: Given,
+    b: Option<Form>,
     bwords: &[u64],
     brows: &[u32],
     out: &mut [u64],
 ) -> Told
     ensures { ended result out.new ≡ feed_done (state_of done ranks kept) (given a awords.now arows.now) (given b bwords.now brows.now) out.old }
 {
-    let Given::Good(s) = a else {
-        return of_bad_form();
-    };
-    let Given::Good(r) = b else {
+    let (Some(s), Some(r)) = (a, b) else {
         return of_bad_form();
     };
     let state = State {
@@ -166,23 +150,20 @@ pub fn feed(
 }
 
 pub fn recover(
-    a: Given,
+    a: Option<Form>,
     awords: &[u64],
     arows: &[u32],
-    b: Given,
+    b: Option<Form>,
     bwords: &[u64],
     brows: &[u32],
     out: &mut [u64],
 ) -> Told
     ensures { ended result out.new ≡ recover_done (given a awords.now arows.now) (given b bwords.now brows.now) out.old }
 {
-    let Given::Good(s) = a else {
+    let (Some(s), Some(k)) = (a, b) else {
         return of_bad_form();
     };
-    let Given::Good(k) = b else {
-        return of_bad_form();
-    };
-    of_recovered(recover::recover(s, awords, arows, k, bwords, brows, out))
+    of_answer(recover::recover(s, awords, arows, k, bwords, brows, out))
 }
 
 // From recovery's state of these three numbers.
@@ -190,20 +171,17 @@ pub fn recover_feed(
     done: u64,
     ranks: u64,
     kept: u64,
-    a: Given,
+    a: Option<Form>,
     awords: &[u64],
     arows: &[u32],
-    b: Given,
+    b: Option<Form>,
     bwords: &[u64],
     brows: &[u32],
     out: &mut [u64],
 ) -> Told
-    ensures { ended result out.new ≡ recover_feed_done (recoveryStateOf done ranks kept) (given a awords.now arows.now) (given b bwords.now brows.now) out.old }
+    ensures { ended result out.new ≡ recover_feed_done (recovery_state_of done ranks kept) (given a awords.now arows.now) (given b bwords.now brows.now) out.old }
 {
-    let Given::Good(s) = a else {
-        return of_bad_form();
-    };
-    let Given::Good(k) = b else {
+    let (Some(s), Some(k)) = (a, b) else {
         return of_bad_form();
     };
     let state = RecoveryState {

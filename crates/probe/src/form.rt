@@ -2,22 +2,22 @@
 ghost use Rattle.std.specs.Prelude.{◌≡◌};
 ghost use Rattle.cells.specs.Probe.{form_of};
 
-use cells::Given;
 use rules::Form;
 
-pub fn form_of(kind: u64, length: u64, start: u64, claimed: u64) -> Given
+#[tactic(auto, unfolding(cells::specs::Probe::form_of))]
+pub fn form_of(kind: u64, length: u64, start: u64, claimed: u64) -> Option<Form>
     ensures { result ≡ form_of kind length start claimed }
 {
     match kind {
-        0 => Given::Good(Form::All { length }),
-        1 => Given::Good(Form::None { length }),
-        2 => Given::Good(Form::Words {
+        0 => Some(Form::All { length }),
+        1 => Some(Form::None { length }),
+        2 => Some(Form::Words {
             start,
             length,
             claimed,
         }),
-        3 => Given::Good(Form::List { length }),
-        4 => Given::Good(Form::Runs { length }),
-        _ => Given::Bad,
+        3 => Some(Form::List { length }),
+        4 => Some(Form::Runs { length }),
+        _ => None,
     }
 }

@@ -4,7 +4,7 @@
 
 ghost use Rattle.std.specs.Prelude.{◌≡◌};
 ghost use Rattle.rules.specs.Stream.{state_of};
-ghost use Rattle.rules.specs.RecoverStream.{state_of as recoveryStateOf};
+ghost use Rattle.rules.specs.RecoverStream.{state_of as recovery_state_of};
 ghost use Rattle.cells.specs.Probe.{answer_cells, tells, memory, does, given, form_of, deposit_told, select_told, read_told, to_words_done, to_list_done, to_runs_done, compose_done, sets_done, feed_done, recover_done, recover_feed_done, program_done};
 
 use form::form_of;
@@ -282,7 +282,7 @@ pub fn probe_recover_feed(
     den: &mut [f64],
 )
     ensures { memory out.new ans.new den.new
-        ≡ does (recover_feed_done (recoveryStateOf done ranks kept) (given (form_of aform alength astart aclaimed) awords.now arows.now) (given (form_of bform blength bstart bclaimed) bwords.now brows.now) out.old)
+        ≡ does (recover_feed_done (recovery_state_of done ranks kept) (given (form_of aform alength astart aclaimed) awords.now arows.now) (given (form_of bform blength bstart bclaimed) bwords.now brows.now) out.old)
         (memory out.old ans.old den.old) }
 {
     if !ready(ans.len(), den.len()) {

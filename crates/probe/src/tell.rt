@@ -1,125 +1,138 @@
 // What a call tells, and the one way to write it: every cell on every call.
-ghost use Rattle.std.specs.Prelude.{◌≡◌, ◌≤◌, ◌<◌, length};
-ghost use Rattle.cells.specs.Probe.{answer_cells, enough, over, word_told, bad_told, state_told, answer_told, fed_told, recovered_told, recovery_fed_told, written_told, runs_told};
+ghost use Rattle.std.specs.Prelude.{◌≡◌, ◌≤◌, ◌<◌, length, IsTrue, Ok, Err};
+ghost use Rattle.cells.specs.Probe.{answer_cells, enough, over, word_told, bad_told, answer_told, fed_told, recovery_fed_told, written_told, runs_told};
 
 use cells::Told;
-use laid::inner::copy_words;
 use lines::Written;
+use routes::inner::route_number;
 use rows::Refusal;
-use rows::inner::verdicts::refusal;
-use rules::{Answer, Fed, Recovered, RecoveryFed};
+use rows::inner::numbers::{numbers, row_of};
+use rules::{Fed, RecoveryState, State, Summary};
 
-// A refusal, or its place empty, and a word or a position.
-pub fn of_word(refusal: Refusal, word: u64) -> Told
-    ensures { result ≡ word_told refusal word }
+// A cell that a call does not speak of is 0.
+const NOTHING: Told = Told {
+    refusal: 0,
+    operand: 0,
+    count: 0,
+    route: 0,
+    word: 0,
+    done: 0,
+    ranks: 0,
+    kept: 0,
+    outside: 0,
+    number: 0,
+    density: 0.0,
+};
+
+// With the row outside self that 17 has.
+fn of_refusal(refusal: Refusal) -> Told
+    ensures { result ≡ answer_told (Err refusal) }
 {
+    let (number, operand) = numbers(refusal);
     Told {
-        refusal: refusal.number as u64,
-        operand: refusal.operand as u64,
-        count: 0,
-        route: 0,
-        word,
-        done: 0,
-        ranks: 0,
-        kept: 0,
-        outside: 0,
-        number: 0,
-        density: 0.0,
+        refusal: u64::from(number),
+        operand: u64::from(operand),
+        outside: row_of(refusal.reason),
+        ..NOTHING
     }
 }
 
-// An answer, a state's three numbers, a row outside self, and how many bytes or runs were written.
-fn of_state(answer: Answer, done: u64, ranks: u64, kept: u64, outside: u64, number: u64) -> Told
-    ensures { result ≡ state_told answer done ranks kept outside number }
+fn of_summary(summary: Summary) -> Told
+    ensures { result ≡ answer_told (Ok summary) }
 {
     Told {
-        refusal: answer.refusal.number as u64,
-        operand: answer.refusal.operand as u64,
-        count: answer.summary.count,
-        route: answer.summary.route as u64,
-        word: 0,
-        done,
-        ranks,
-        kept,
-        outside,
-        number,
-        density: answer.summary.density,
+        count: summary.count,
+        route: u64::from(route_number(summary.route)),
+        density: summary.density,
+        ..NOTHING
     }
 }
 
-pub fn of_answer(answer: Answer) -> Told
+// A word or a position, or its refusal, of which no row is told.
+pub fn of_word(answer: Result<u64, Refusal>) -> Told
+    ensures { result ≡ word_told answer }
+{
+    match answer {
+        Ok(word) => Told { word, ..NOTHING },
+        Err(refusal) => Told {
+            outside: 0,
+            ..of_refusal(refusal)
+        },
+    }
+}
+
+pub fn of_answer(answer: Result<Summary, Refusal>) -> Told
     ensures { result ≡ answer_told answer }
 {
-    of_state(answer, 0, 0, 0, 0, 0)
+    match answer {
+        Ok(summary) => of_summary(summary),
+        Err(refusal) => of_refusal(refusal),
+    }
 }
 
-pub fn of_fed(fed: Fed) -> Told
+// One for each stream, since a trait over the two states would be longer than what it saves.
+pub fn of_fed(fed: Fed<State>) -> Told
     ensures { result ≡ fed_told fed }
 {
-    let answer = fed.answer;
-    of_state(
-        answer,
-        fed.state.done.0,
-        fed.state.ranks.0,
-        fed.state.kept,
-        0,
-        0,
-    )
+    Told {
+        done: fed.state.done.0,
+        ranks: fed.state.ranks.0,
+        kept: fed.state.kept,
+        ..of_answer(fed.answer)
+    }
 }
 
-// With the first row outside self, which is 0 without 17.
-pub fn of_recovered(recovered: Recovered) -> Told
-    ensures { result ≡ recovered_told recovered }
-{
-    let answer = recovered.answer;
-    of_state(answer, 0, 0, 0, recovered.outside.0, 0)
-}
-
-pub fn of_recovery_fed(fed: RecoveryFed) -> Told
+pub fn of_recovery_fed(fed: Fed<RecoveryState>) -> Told
     ensures { result ≡ recovery_fed_told fed }
 {
-    let answer = fed.answer;
-    of_state(
-        answer,
-        fed.state.done.0,
-        fed.state.ranks.0,
-        fed.state.kept,
-        fed.outside.0,
-        0,
-    )
+    Told {
+        done: fed.state.done.0,
+        ranks: fed.state.ranks.0,
+        kept: fed.state.kept,
+        ..of_answer(fed.answer)
+    }
 }
 
 // The answer that the program's lines tell, and their length.
 pub fn of_written(written: Written) -> Told
     ensures { result ≡ written_told written }
 {
-    let answer = written.answer;
-    of_state(answer, 0, 0, 0, 0, written.len as u64)
+    Told {
+        number: written.len as u64,
+        ..of_answer(written.answer)
+    }
 }
 
 // The answer of the writer of runs, and how many they are.
-pub fn of_runs(written: rules::Written) -> Told
+pub fn of_runs(written: Result<rules::Written, Refusal>) -> Told
     ensures { result ≡ runs_told written }
 {
-    let answer = written.answer;
-    of_state(answer, 0, 0, 0, 0, written.runs)
+    match written {
+        Ok(written) => Told {
+            number: written.runs,
+            ..of_summary(written.summary)
+        },
+        Err(refusal) => of_refusal(refusal),
+    }
 }
 
 // A form that is none: 99, and nothing else is told.
 pub fn of_bad_form() -> Told
     ensures { result ≡ bad_told }
 {
-    of_word(refusal(99, 0), 0)
+    Told {
+        refusal: 99,
+        ..NOTHING
+    }
 }
 
 // There is room for an answer: 16 cells and a density.
+#[tactic(auto, unfolding(cells::specs::Probe::enough))]
 pub fn ready(nans: usize, nden: usize) -> bool
-    ensures { result ≡ enough nans nden }
+    ensures test { result ≡ enough nans nden }
+    ensures room { IsTrue result → (16 ≤ nans) × (0 < nden) }
 {
-    if nans < 16 {
-        return false;
-    }
-    1 <= nden
+    16 <= nans && 1 <= nden
 }
 
 pub fn tell(told: Told, ans: &mut [u64], den: &mut [f64])
@@ -144,6 +157,6 @@ pub fn tell(told: Told, ans: &mut [u64], den: &mut [f64])
         0,
         told.number,
     ];
-    copy_words(&cells, 0, 16, ans);
+    ans[..16].copy_from_slice(&cells);
     den[0] = told.density;
 }

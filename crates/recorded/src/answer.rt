@@ -1,45 +1,61 @@
-// What is recorded of an answer, and what came of a case that was held to it.
-use super::reader::digits::read_number;
-use super::reader::{Cursor, Number};
-use rules::Answer;
+// What is recorded of an answer, and what differs first in a case that is held to it.
+use super::reader::{Malformed, Reader};
+use operand::inner::answers::summary_told;
+use routes::inner::route_number;
+use rows::Refusal;
+use rows::inner::numbers::{numbers, row_of};
+use rules::Summary;
+use std::fmt;
 
-// What differs first in a case, or nothing.
+// What differs first in a case, as README.md numbers it.
 #[derive(Clone, Copy)]
 pub enum Finding {
-    Agrees,
-    Malformed,
-    RefusalDiffers,
-    OperandDiffers,
-    CountDiffers,
-    RouteDiffers,
-    DensityDiffers,
-    StateDiffers,
-    WordDiffers,
-    OutputDiffers,
-    RunsDiffers,
-    RowDiffers,
+    Malformed = 1,
+    RefusalDiffers = 2,
+    OperandDiffers = 3,
+    CountDiffers = 4,
+    RouteDiffers = 5,
+    DensityDiffers = 6,
+    StateDiffers = 7,
+    WordDiffers = 8,
+    OutputDiffers = 9,
+    RunsDiffers = 10,
+    RowDiffers = 11,
 }
 
-// What came of a case, and where the next one starts.
-#[derive(Drop)]
-pub struct Outcome {
-    pub finding: Finding,
-    pub next: Cursor,
+impl fmt::Display for Finding {
+    fn fmt<W: fmt::Write>(&self, f: &mut fmt::Formatter<W>) -> fmt::Result {
+        let number = *self as u8;
+        write!(f, "finding {number}")
+    }
+}
+
+impl From<Malformed> for Finding {
+    fn from(_malformed: Malformed) -> Finding {
+        Finding::Malformed
+    }
+}
+
+// The finding, where what is held to the record is not the same.
+pub fn hold(same: bool, otherwise: Finding) -> Result<(), Finding> {
+    if same { Ok(()) } else { Err(otherwise) }
+}
+
+// A refusal's number and operand, held to what is recorded. Both are 0 where nothing is refused.
+pub fn hold_refusal(refusal: Option<Refusal>, number: u64, operand: u64) -> Result<(), Finding> {
+    let (told_number, told_operand) = refusal.map_or((0, 0), numbers);
+    hold(u64::from(told_number) == number, Finding::RefusalDiffers)?;
+    hold(u64::from(told_operand) == operand, Finding::OperandDiffers)
 }
 
 // What is recorded of an answer.
-#[derive(Drop)]
+#[derive(Clone, Copy)]
 pub struct Expected {
-    pub refusal: u64,
-    pub operand: u64,
-    pub count: u64,
-    pub route: u64,
-    pub density: f64,
-    pub next: Cursor,
-}
-
-fn wide(x: u8) -> u64 {
-    x as u64
+    refusal: u64,
+    operand: u64,
+    count: u64,
+    route: u64,
+    density: f64,
 }
 
 // m halved so many times. Each step is exact, since a density is 0 or at least 2^-20; at 0 nothing is left to halve.
@@ -54,102 +70,43 @@ fn halved(m: u64, times: u64) -> f64 {
     x
 }
 
-pub fn read_expected(text: &[u8], cursor: Cursor) -> Expected {
-    let refusal = read_number(text, cursor);
-    let operand = read_number(text, refusal.next);
-    let count = read_number(text, operand.next);
-    let route = read_number(text, count.next);
-    let m = read_number(text, route.next);
-    let halvings = read_number(text, m.next);
-    let next = halvings.next;
-    Expected {
-        refusal: refusal.value,
-        operand: operand.value,
-        count: count.value,
-        route: route.value,
-        density: halved(m.value, halvings.value),
-        next,
-    }
+// Equal, and of one sign where both are zeros, which a quotient tells apart.
+fn same_float(x: f64, y: f64) -> bool {
+    x == y && 1.0 / x == 1.0 / y
 }
 
 // The row outside self, which stands after the numbers of a recovery's answer. Where none is told it is 0.
-pub fn read_row(text: &[u8], cursor: Cursor, told: bool) -> Number {
-    if told {
-        return read_number(text, cursor);
-    }
-    Number {
-        value: 0,
-        next: cursor,
-    }
+pub fn read_row(reader: &mut Reader<'_>, is_told: bool) -> Result<u64, Malformed> {
+    if is_told { reader.number() } else { Ok(0) }
 }
 
-// Equal, and of one sign where both are zeros, which a quotient tells apart.
-fn same_float(x: f64, y: f64) -> bool {
-    if x != y {
-        return false;
-    }
-    1.0 / x == 1.0 / y
+// The row outside self that an answer tells, and 0 where it tells none.
+pub fn row_told(answer: Result<Summary, Refusal>) -> u64 {
+    answer.err().map_or(0, |refusal| row_of(refusal.reason))
 }
 
-pub fn finding_of(answer: Answer, expected: Expected) -> Finding {
-    let refusal = answer.refusal;
-    let summary = answer.summary;
-    if wide(refusal.number) != expected.refusal {
-        return Finding::RefusalDiffers;
+impl Expected {
+    pub fn read(reader: &mut Reader<'_>) -> Result<Expected, Malformed> {
+        Ok(Expected {
+            refusal: reader.number()?,
+            operand: reader.number()?,
+            count: reader.number()?,
+            route: reader.number()?,
+            density: halved(reader.number()?, reader.number()?),
+        })
     }
-    if wide(refusal.operand) != expected.operand {
-        return Finding::OperandDiffers;
-    }
-    if summary.count != expected.count {
-        return Finding::CountDiffers;
-    }
-    if wide(summary.route) != expected.route {
-        return Finding::RouteDiffers;
-    }
-    if !same_float(summary.density, expected.density) {
-        return Finding::DensityDiffers;
-    }
-    Finding::Agrees
-}
 
-// What the numbers before leave open is decided by one more.
-pub fn and_then(finding: Finding, same: bool, otherwise: Finding) -> Finding {
-    if differs(finding) {
-        return finding;
-    }
-    if same {
-        return finding;
-    }
-    otherwise
-}
-
-// What the answer's numbers leave open is decided by the output slice.
-pub fn outcome_of(finding: Finding, same: bool, next: Cursor) -> Outcome {
-    if !next.fine {
-        return Outcome {
-            finding: Finding::Malformed,
-            next,
-        };
-    }
-    match finding {
-        Finding::Agrees => Outcome {
-            finding: output_finding(same),
-            next,
-        },
-        _ => Outcome { finding, next },
-    }
-}
-
-fn output_finding(same: bool) -> Finding {
-    if same {
-        return Finding::Agrees;
-    }
-    Finding::OutputDiffers
-}
-
-pub fn differs(finding: Finding) -> bool {
-    match finding {
-        Finding::Agrees => false,
-        _ => true,
+    pub fn hold(self, answer: Result<Summary, Refusal>) -> Result<(), Finding> {
+        let summary = summary_told(answer);
+        hold_refusal(answer.err(), self.refusal, self.operand)?;
+        hold(summary.count == self.count, Finding::CountDiffers)?;
+        hold(
+            u64::from(route_number(summary.route)) == self.route,
+            Finding::RouteDiffers,
+        )?;
+        hold(
+            same_float(summary.density, self.density),
+            Finding::DensityDiffers,
+        )
     }
 }

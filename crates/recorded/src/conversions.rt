@@ -1,129 +1,69 @@
 // A case of the conversions: scripts/conversions.py says how it is told.
-use super::answer::{Finding, Outcome, and_then, finding_of, outcome_of, read_expected};
-use super::reader::Cursor;
-use super::reader::digits::read_number;
-use super::reader::operands::read_operand;
-use rules::{Form, Written};
+use super::answer::{Expected, Finding, hold};
+use super::reader::operands::{ENTRIES, OUTPUT, Operand, WORDS, read_operand};
+use super::reader::slices::{Element, compare, fill};
+use super::reader::{Malformed, Reader};
+use rows::Refusal;
+use rules::Summary;
 
-// The conversion over an output slice that holds what it is to hold before.
-fn answer_words(
-    text: &[u8],
-    cursor: Cursor,
-    form: Form,
-    words: &[u64],
-    rows: &[u32],
-    out: &mut [u64],
-) -> Outcome {
-    let answer = mask::to_words(form, words, rows, out);
-    let expected = read_expected(text, cursor);
-    let after = super::reader::words::compare(text, expected.next, out);
-    outcome_of(finding_of(answer, expected), after.same, after.next)
+#[derive(Clone, Copy)]
+enum Conversion {
+    ToWords,
+    ToList,
+    ToRuns,
 }
 
-fn answer_list(
-    text: &[u8],
-    cursor: Cursor,
-    form: Form,
-    words: &[u64],
-    rows: &[u32],
-    elements: &mut [u64],
-    out: &mut [u32],
-) -> Outcome {
-    let answer = mask::to_list(form, words, rows, out);
-    let expected = read_expected(text, cursor);
-    let after = super::reader::lists::compare(text, expected.next, elements, out);
-    outcome_of(finding_of(answer, expected), after.same, after.next)
+fn read_conversion(reader: &mut Reader<'_>) -> Result<Conversion, Malformed> {
+    match reader.number()? {
+        1 => Ok(Conversion::ToWords),
+        2 => Ok(Conversion::ToList),
+        3 => Ok(Conversion::ToRuns),
+        _ => Err(Malformed),
+    }
 }
 
-// What was written, held to what is told of it: the number of runs stands after the answer's numbers.
-fn compare_runs(
-    text: &[u8],
-    cursor: Cursor,
-    written: Written,
-    elements: &mut [u64],
-    out: &[u32],
-) -> Outcome {
-    let answer = written.answer;
-    let expected = read_expected(text, cursor);
-    let due = read_number(text, expected.next);
-    let after = super::reader::lists::compare(text, due.next, elements, out);
-    let same = written.runs == due.value;
-    let finding = and_then(finding_of(answer, expected), same, Finding::RunsDiffers);
-    outcome_of(finding, after.same, after.next)
+// A conversion over an output slice that holds what it is to hold before.
+fn hold_conversion<T: Element, F: FnOnce(&mut [T]) -> Result<Summary, Refusal>>(
+    reader: &mut Reader<'_>,
+    room: &mut [T],
+    convert: F,
+) -> Result<(), Finding>
+    requires { F.IsAlwaysCallable convert }
+{
+    let out = fill(reader, room)?;
+    let answer = convert(out);
+    let expected = Expected::read(reader)?;
+    let same = compare(reader, out)?;
+    expected.hold(answer)?;
+    hold(same, Finding::OutputDiffers)
 }
 
-fn answer_runs(
-    text: &[u8],
-    cursor: Cursor,
-    form: Form,
-    words: &[u64],
-    rows: &[u32],
-    elements: &mut [u64],
-    out: &mut [u32],
-) -> Outcome {
-    let written = mask::to_runs(form, words, rows, out);
-    compare_runs(text, cursor, written, elements, out)
+// The same of the conversion to runs, whose number stands after the answer's numbers.
+fn hold_runs(reader: &mut Reader<'_>, given: Operand<'_>) -> Result<(), Finding> {
+    let mut room = [0u32; ENTRIES];
+    let out = fill(reader, &mut room)?;
+    let written = mask::to_runs(given.form, given.words, given.rows, out);
+    let expected = Expected::read(reader)?;
+    let due = reader.number()?;
+    let same = compare(reader, out)?;
+    expected.hold(written.map(|written| written.summary))?;
+    let runs = written.map_or(0, |written| written.runs);
+    hold(runs == due, Finding::RunsDiffers)?;
+    hold(same, Finding::OutputDiffers)
 }
 
-// Over the words that the output is to hold before.
-fn run_to_words(text: &[u8], cursor: Cursor, form: Form, words: &[u64], rows: &[u32]) -> Outcome {
-    let mut out = [0u64; 16388];
-    let before = super::reader::words::fill(text, cursor, &mut out);
-    let size = before.length;
-    answer_words(text, before.next, form, words, rows, &mut out[..size])
-}
-
-// Over the entries that it is to hold before.
-fn run_to_list(text: &[u8], cursor: Cursor, form: Form, words: &[u64], rows: &[u32]) -> Outcome {
-    let mut elements = [0u64; 4100];
-    let mut out = [0u32; 4100];
-    let before = super::reader::lists::fill(text, cursor, &mut elements, &mut out);
-    let size = before.length;
-    answer_list(
-        text,
-        before.next,
-        form,
-        words,
-        rows,
-        &mut elements,
-        &mut out[..size],
-    )
-}
-
-// Over the numbers that it is to hold before.
-fn run_to_runs(text: &[u8], cursor: Cursor, form: Form, words: &[u64], rows: &[u32]) -> Outcome {
-    let mut elements = [0u64; 4100];
-    let mut out = [0u32; 4100];
-    let before = super::reader::lists::fill(text, cursor, &mut elements, &mut out);
-    let size = before.length;
-    answer_runs(
-        text,
-        before.next,
-        form,
-        words,
-        rows,
-        &mut elements,
-        &mut out[..size],
-    )
-}
-
-pub fn run_case(text: &[u8], cursor: Cursor) -> Outcome {
-    let mut words = [0u64; 16386];
-    let mut rows = [0u32; 4100];
-    let operation = read_number(text, cursor);
-    let told = read_operand(text, operation.next, &mut words, &mut rows);
-    let chosen = operation.value;
-    let form = told.form;
-    let next = told.next;
-    let size = told.size;
-    let entries = told.entries;
-    match chosen {
-        1 => run_to_words(text, next, form, &words[..size], &rows[..entries]),
-        2 => run_to_list(text, next, form, &words[..size], &rows[..entries]),
-        3 => run_to_runs(text, next, form, &words[..size], &rows[..entries]),
-        _ => Outcome {
-            finding: Finding::Malformed,
-            next,
-        },
+pub fn run_case(reader: &mut Reader<'_>) -> Result<(), Finding> {
+    let mut words = [0u64; WORDS];
+    let mut rows = [0u32; ENTRIES];
+    let conversion = read_conversion(reader)?;
+    let given = read_operand(reader, &mut words, &mut rows)?;
+    match conversion {
+        Conversion::ToWords => hold_conversion(reader, &mut [0u64; OUTPUT], |out| {
+            mask::to_words(given.form, given.words, given.rows, out)
+        }),
+        Conversion::ToList => hold_conversion(reader, &mut [0u32; ENTRIES], |out| {
+            mask::to_list(given.form, given.words, given.rows, out)
+        }),
+        Conversion::ToRuns => hold_runs(reader, given),
     }
 }

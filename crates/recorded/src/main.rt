@@ -2,16 +2,16 @@
 // says where each file's answers come from.
 #![tactic(auto)]
 
-use answer::{Finding, Outcome, differs};
+use answer::Finding;
 use feeds::Stream;
-use reader::Cursor;
+use reader::Reader;
+use reads::read_full;
 use std::rt::Files;
-use std::{fs, io};
+use std::{fmt, fs, io};
 
 mod answer;
 mod conversions;
 mod feeds;
-mod input;
 mod pairs;
 mod reader;
 mod words;
@@ -26,82 +26,49 @@ enum Subject {
     Words,
 }
 
-// How many cases agreed, and what came of the one after them.
-#[derive(Drop)]
-struct Tally {
-    agreed: u64,
+// The first case that differs, counted from 1, and what differs there.
+#[derive(Clone, Copy)]
+struct Failure {
+    case: u64,
     finding: Finding,
 }
 
+impl fmt::Display for Failure {
+    fn fmt<W: fmt::Write>(&self, f: &mut fmt::Formatter<W>) -> fmt::Result {
+        let Failure { case, finding } = *self;
+        write!(f, "case {case}: {finding}")
+    }
+}
+
 // Each case has room of its own for what it reads and writes.
-fn run_case(subject: Subject, text: &[u8], cursor: Cursor) -> Outcome {
+fn run_case(subject: Subject, reader: &mut Reader<'_>) -> Result<(), Finding> {
     match subject {
-        Subject::Conversions => conversions::run_case(text, cursor),
-        Subject::Pairs => pairs::run_case(text, cursor),
-        Subject::Feeds => feeds::run_case(Stream::Composition, text, cursor),
-        Subject::RecoveryFeeds => feeds::run_case(Stream::Recovery, text, cursor),
-        Subject::Words => words::run_case(text, cursor),
+        Subject::Conversions => conversions::run_case(reader),
+        Subject::Pairs => pairs::run_case(reader),
+        Subject::Feeds => feeds::run_case(Stream::Composition, reader),
+        Subject::RecoveryFeeds => feeds::run_case(Stream::Recovery, reader),
+        Subject::Words => words::run_case(reader),
     }
 }
 
-// Every case in turn, up to the first that differs. The text starts with their number.
-fn run_all(subject: Subject, text: &[u8]) -> Tally {
-    let cases = reader::digits::read_number(text, reader::start());
-    let total = cases.value;
-    let mut next = cases.next;
-    let mut agreed: u64 = 0;
-    while agreed < total {
-        let outcome = run_case(subject, text, next);
-        let finding = outcome.finding;
-        if differs(finding) {
-            return Tally { agreed, finding };
-        }
-        next = outcome.next;
-        agreed += 1;
+// Every case in turn, up to the first that differs: how many agreed. The text starts with their number, and nothing may stand after
+// the last of them.
+fn run_all(subject: Subject, text: &[u8]) -> Result<u64, Failure> {
+    let mut reader = Reader::new(text);
+    let total = reader.digits();
+    for agreed in 0..total {
+        run_case(subject, &mut reader).map_err(|finding| Failure {
+            case: agreed.wrapping_add(1),
+            finding,
+        })?;
     }
-    Tally {
-        agreed,
-        finding: end_finding(next.fine, reader::digits::at_end(text, next)),
+    if !reader.at_end() {
+        return Err(Failure {
+            case: total.wrapping_add(1),
+            finding: Finding::Malformed,
+        });
     }
-}
-
-// Nothing may stand after the last case, and a file without its number of cases is malformed too.
-fn end_finding(fine: bool, ended: bool) -> Finding {
-    if !fine {
-        return Finding::Malformed;
-    }
-    if !ended {
-        return Finding::Malformed;
-    }
-    Finding::Agrees
-}
-
-// What differs first, as README.md numbers it.
-fn number_of(finding: Finding) -> u64 {
-    match finding {
-        Finding::Agrees => 0,
-        Finding::Malformed => 1,
-        Finding::RefusalDiffers => 2,
-        Finding::OperandDiffers => 3,
-        Finding::CountDiffers => 4,
-        Finding::RouteDiffers => 5,
-        Finding::DensityDiffers => 6,
-        Finding::StateDiffers => 7,
-        Finding::WordDiffers => 8,
-        Finding::OutputDiffers => 9,
-        Finding::RunsDiffers => 10,
-        Finding::RowDiffers => 11,
-    }
-}
-
-// Cases are counted from 1.
-fn print_tally(rt: &impl Print, tally: Tally) -> io::Result<()> {
-    let finding = tally.finding;
-    if differs(finding) {
-        let case = tally.agreed.wrapping_add(1);
-        return println!(rt; "case {case}: finding {}", number_of(finding));
-    }
-    println!(rt; "{} cases, 0 differ", tally.agreed)
+    Ok(total)
 }
 
 // A file that cannot be opened is told on standard error, and the others are run all the same.
@@ -111,9 +78,13 @@ fn run_file<R: Files + Print + Eprint>(rt: &R, subject: Subject, name: &str) -> 
         Err(error) => return eprintln!(rt; "{name}: {error}"),
     };
     let mut file = [0u8; 500000];
-    let size = input::read_full(&mut opened, &mut file);
+    // what came before a read that failed is run
+    let (size, _) = read_full(&mut opened, &mut file);
     print!(rt; "{name}: ")?;
-    print_tally(rt, run_all(subject, &file[..size]))
+    match run_all(subject, &file[..size]) {
+        Ok(cases) => println!(rt; "{cases} cases, 0 differ"),
+        Err(failure) => println!(rt; "{failure}"),
+    }
 }
 
 fn main(rt: HostRuntime) -> io::Result<()> {

@@ -1,88 +1,74 @@
-// Reads recorded cases: a text of hex numbers with blanks between them, and slices told as arithmetic stretches. Nothing here
-// traps: what is malformed turns the cursor's `fine` off for good, and the values that come after it mean nothing.
-use digits::read_number;
-
-pub mod digits;
-pub mod forms;
-pub mod lists;
+// Reads recorded cases: a text of hex numbers with blanks between them. Nothing here traps: what is malformed is an error.
 pub mod operands;
-pub mod words;
+pub mod slices;
 
-// Where the reader stands, and whether all that it has read was well formed.
+// The text is not told as README.md says.
 #[derive(Clone, Copy)]
-pub struct Cursor {
-    pub at: usize,
-    pub fine: bool,
-}
+pub struct Malformed;
 
+// What is left of a text.
 #[derive(Drop)]
-pub struct Number {
-    pub value: u64,
-    pub next: Cursor,
+pub struct Reader<'a> {
+    rest: &'a [u8],
+    // What was read is malformed, and nothing after it is a number. A flag beside the errors, since a malformed case without feeds agrees,
+    // and the first later case that has any is told in its place: what the program prints on such a file may not change.
+    is_spoilt: bool,
 }
 
-// The elements first, first + step, first + 2 * step and so on modulo 2^64, `count` of them.
-#[derive(Clone, Copy)]
-pub struct Stretch {
-    pub count: u64,
-    pub first: u64,
-    pub step: u64,
-    pub next: Cursor,
-}
+impl<'a> Reader<'a> {
+    pub fn new(text: &'a [u8]) -> Reader<'a> {
+        Reader {
+            rest: text,
+            is_spoilt: false,
+        }
+    }
 
-// How many elements were laid into a lent slice.
-#[derive(Drop)]
-pub struct Filled {
-    pub length: usize,
-    pub next: Cursor,
-}
+    // The next digits modulo 2^64, also where they are no number: one has one to sixteen digits, in lower case, and a blank or the text's
+    // end after it. The reader stands after the digits.
+    pub fn digits(&mut self) -> u64 {
+        let blanks = self.rest.iter().take_while(|byte| is_blank(**byte)).count();
+        let text = &self.rest[blanks..];
+        let len = text.iter().map_while(|byte| digit(*byte)).count();
+        let value = text
+            .iter()
+            .map_while(|byte| digit(*byte))
+            .fold(0, |value, digit| (value << 4) | digit);
+        let rest = &text[len..];
+        let is_number = matches!(len, 1..=16) && rest.first().is_none_or(|byte| is_blank(*byte));
+        self.is_spoilt |= !is_number;
+        self.rest = rest;
+        value
+    }
 
-// Whether a slice is the one that the text tells.
-#[derive(Drop)]
-pub struct Compared {
-    pub same: bool,
-    pub next: Cursor,
-}
+    // The next number.
+    pub fn number(&mut self) -> Result<u64, Malformed> {
+        let value = self.digits();
+        if self.is_spoilt {
+            return Err(Malformed);
+        }
+        Ok(value)
+    }
 
-// The start of a text.
-pub fn start() -> Cursor {
-    Cursor { at: 0, fine: true }
-}
+    // What was read has no room where it belongs.
+    pub fn spoil(&mut self) -> Malformed {
+        self.is_spoilt = true;
+        Malformed
+    }
 
-// A stretch is told as its count, its first element and its step.
-pub fn read_stretch(text: &[u8], cursor: Cursor) -> Stretch {
-    let count = read_number(text, cursor);
-    let first = read_number(text, count.next);
-    let step = read_number(text, first.next);
-    let next = step.next;
-    Stretch {
-        count: count.value,
-        first: first.value,
-        step: step.value,
-        next,
+    // Nothing was malformed, and nothing but blanks is left.
+    pub fn at_end(&self) -> bool {
+        !self.is_spoilt && self.rest.iter().all(|byte| is_blank(*byte))
     }
 }
 
-// The places from `from` to `to` hold all of the stretch.
-fn is_whole(stretch: Stretch, from: usize, to: usize) -> bool {
-    if to < from {
-        return false;
-    }
-    (to - from) as u64 == stretch.count
+fn is_blank(byte: u8) -> bool {
+    matches!(byte, b' ' | b'\n')
 }
 
-// The cursor after a stretch, off where the stretch did not fit.
-fn after_stretch(stretch: Stretch, fitted: bool) -> Cursor {
-    if_held(stretch.next, fitted)
-}
-
-// The cursor, off where what was read does not hold.
-pub fn if_held(cursor: Cursor, held: bool) -> Cursor {
-    if !held {
-        return Cursor {
-            at: cursor.at,
-            fine: false,
-        };
+fn digit(byte: u8) -> Option<u64> {
+    match byte {
+        b'0'..=b'9' => Some(u64::from(byte - b'0')),
+        b'a'..=b'f' => Some(u64::from(byte - b'a') + 10),
+        _ => None,
     }
-    cursor
 }

@@ -6,11 +6,10 @@ ghost use Rattle.rules.specs.Operand.{lent};
 ghost use Rattle.rules.specs.Recover.{recovered, recovered_out};
 
 use inner::judge::judge;
-use inner::whole::{recover_within, tell};
-use operand::inner::answers::refused;
+use inner::whole::recover_within;
 use operand::inner::counts::Counted;
-use rows::Verdict;
-use rules::{Form, Recovered};
+use rows::Refusal;
+use rules::{Form, Summary};
 
 pub mod inner;
 
@@ -24,24 +23,18 @@ pub fn recover(
     kwords: &[u64],
     krows: &[u32],
     out: &mut [u64],
-) -> Recovered
+) -> Result<Summary, Refusal>
     ensures { (result ≡ recovered (lent s swords.now srows.now) (lent k kwords.now krows.now) out.old)
         × (out.new ≡ recovered_out (lent s swords.now srows.now) (lent k kwords.now krows.now) out.old) }
 {
-    let judged = judge(s, swords, srows, k, kwords, krows, out.len() as u64);
-    let verdict = judged.verdict;
-    match verdict {
-        Verdict::Refused(refusal) => tell(refused(refusal), judged.outside),
-        Verdict::Fine => {
-            let own = Counted {
-                form: s,
-                count: judged.set,
-            };
-            let other = Counted {
-                form: k,
-                count: judged.kept,
-            };
-            recover_within(own, swords, srows, other, kwords, krows, out)
-        }
-    }
+    let judged = judge(s, swords, srows, k, kwords, krows, out.len() as u64)?;
+    let own = Counted {
+        form: s,
+        count: judged.set,
+    };
+    let other = Counted {
+        form: k,
+        count: judged.kept,
+    };
+    Ok(recover_within(own, swords, srows, other, kwords, krows, out))
 }

@@ -6,10 +6,9 @@ ghost use Rattle.rules.specs.Operand.{lent};
 ghost use Rattle.rules.specs.RecoverStream.{masks_of, fresh, fed, fed_out};
 
 use judge::judge;
-use operand::inner::answers::refused;
 use operand::inner::counts::Counted;
-use rows::{Rank, Row, Verdict};
-use rules::{Form, RecoveryFed, RecoveryState};
+use rows::{Rank, Row};
+use rules::{Fed, Form, RecoveryState};
 use step::step;
 
 mod judge;
@@ -44,20 +43,16 @@ pub fn feed(
     kwords: &[u64],
     krows: &[u32],
     out: &mut [u64],
-) -> RecoveryFed
+) -> Fed<RecoveryState>
     ensures { (result ≡ fed state (masks_of (lent s swords.now srows.now) (lent k kwords.now krows.now)) out.old)
         × (out.new ≡ fed_out state (masks_of (lent s swords.now srows.now) (lent k kwords.now krows.now)) out.old) }
 {
-    let judged = judge(state, s, swords, srows, k, kwords, krows, out.len() as u64);
-    let verdict = judged.verdict;
-    let outside = judged.outside;
-    match verdict {
-        Verdict::Refused(refusal) => RecoveryFed {
-            answer: refused(refusal),
-            outside,
+    match judge(state, s, swords, srows, k, kwords, krows, out.len() as u64) {
+        Err(refusal) => Fed {
+            answer: Err(refusal),
             state,
         },
-        Verdict::Fine => {
+        Ok(judged) => {
             let own = Counted {
                 form: s,
                 count: judged.set,

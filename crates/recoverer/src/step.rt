@@ -1,16 +1,15 @@
 // An accepted feed: the piece recovered and laid from the first rank not fed on, and the state moved past it.
 ghost use Rattle.std.specs.Prelude.{◌≡◌, ◌+◌, ◌≤◌, length};
-ghost use Rattle.rows.specs.declared.Verdict.TheVariants.{Fine};
 ghost use Rattle.rules.specs.Operand.{lent, limit};
 ghost use Rattle.rules.specs.RecoverStream.{masks_of, state_of, judged, fed_by, out_by};
 ghost use Rattle.operand.specs.Counts.{Counts};
 
-use operand::inner::answers::{NO_ROUTE, accepted};
+use operand::inner::answers::accepted;
 use operand::inner::counts::Counted;
 use operand::inner::forms::length_of;
 use recover::inner::lay::lay_recovery;
 use rows::{Rank, Row};
-use rules::{RecoveryFed, RecoveryState};
+use rules::{Fed, RecoveryState};
 
 // The state past so many rows more, so many of them self's, and so many of those kept.
 fn moved(state: RecoveryState, rows: Row, ranks: Rank, kept: u64) -> RecoveryState
@@ -36,11 +35,11 @@ pub fn step(
     kwords: &[u64],
     krows: &[u32],
     out: &mut [u64],
-) -> RecoveryFed
-    requires { (judged state (masks_of (lent s.form swords.now srows.now) (lent k.form kwords.now krows.now)) (length out.old) ≡ Fine)
+) -> Fed<RecoveryState>
+    requires { (judged state (masks_of (lent s.form swords.now srows.now) (lent k.form kwords.now krows.now)) (length out.old) ≡ Ok tt)
         × Counts s swords.now srows.now × Counts k kwords.now krows.now }
-    ensures { (result ≡ fed_by Fine state (masks_of (lent s.form swords.now srows.now) (lent k.form kwords.now krows.now)))
-        × (out.new ≡ out_by Fine state (masks_of (lent s.form swords.now srows.now) (lent k.form kwords.now krows.now)) out.old) }
+    ensures { (result ≡ fed_by (Ok tt) state (masks_of (lent s.form swords.now srows.now) (lent k.form kwords.now krows.now)))
+        × (out.new ≡ out_by (Ok tt) state (masks_of (lent s.form swords.now srows.now) (lent k.form kwords.now krows.now)) out.old) }
 {
     let at = state.ranks.0;
     let own = s.form;
@@ -49,10 +48,8 @@ pub fn step(
     let ranks = Rank(s.count);
     let next = moved(state, rows, ranks, k.count);
     lay_recovery(s, swords, srows, other, kwords, krows, at, out);
-    let answer = accepted(k.count, NO_ROUTE, s.count);
-    RecoveryFed {
-        answer,
-        outside: Row(0),
+    Fed {
+        answer: Ok(accepted(k.count, None, s.count)),
         state: next,
     }
 }

@@ -1,7 +1,7 @@
 // The choice: document 01's route table in one place, its factors, and the number of a route.
 ghost use Rattle.std.specs.Prelude.{◌≡◌, cond, ◌*◌, ◌≤◌, ltb};
 ghost use Rattle.rules.specs.Operand.{length_of, counts_as_list};
-ghost use Rattle.rules.specs.Route.{way_by, route_by, number_of, published};
+ghost use Rattle.rules.specs.Route.{way_by, route_by, number_of, route_number, published};
 
 use operand::inner::counts::{Counted, is_empty, is_full};
 use operand::inner::forms::{counts_as_list, length_of};
@@ -44,6 +44,16 @@ pub fn number(route: Route) -> u8
             Way::Network => 9,
             Way::Loop => 10,
         },
+    }
+}
+
+// As C callers and the program's lines have it: 0 where there is no route.
+pub fn route_number(route: Option<Route>) -> u8
+    ensures { result ≡ route_number route }
+{
+    match route {
+        None => 0,
+        Some(route) => number(route),
     }
 }
 

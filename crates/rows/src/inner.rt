@@ -1,3 +1,3 @@
-// What our own crates call: the makers of refusals and verdicts, and of what deposit, select and rank read answer.
-pub mod answers;
+// What our own crates call: the makers of refusals, the parts of tables of checks that all operations have, and a refusal's numbers.
+pub mod numbers;
 pub mod verdicts;

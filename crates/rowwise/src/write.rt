@@ -9,15 +9,14 @@ ghost use Rattle.rules.specs.Operand.{lent, length_of};
 ghost use Rattle.rules.specs.SetOps.{combination, row_of};
 ghost use Rattle.operand.specs.Flat.{Abreast};
 
-use super::op::{apply, chunk};
+use super::op::{And, AndNot, Not, Or, RowOperation, chunk};
 use laid::inner::{clear_last, put};
 use lent::inner::{chunk_len, whole_word};
 use operand::inner::forms::length_of;
 use rules::{Form, Operation};
 
 // The first n words of the result of two operands in words, and how many of their rows are set.
-fn write_whole(
-    op: Operation,
+fn write_whole<O: RowOperation>(
     awords: &[u64],
     astart: u64,
     bwords: &[u64],
@@ -26,25 +25,22 @@ fn write_whole(
     out: &mut [u64],
 ) -> u64
     requires { InView astart (n * 64) awords.now × InView bstart (n * 64) bwords.now × (n ≤ length out.old) }
-    ensures { (result ≡ count (both (row_of op) (view astart (n * 64) awords.now) (view bstart (n * 64) bwords.now)))
-        × (out.new ≡ laid 0 (both (row_of op) (view astart (n * 64) awords.now) (view bstart (n * 64) bwords.now)) out.old) }
+    ensures { (result ≡ count (both O.on_rows (view astart (n * 64) awords.now) (view bstart (n * 64) bwords.now)))
+        × (out.new ≡ laid 0 (both O.on_rows (view astart (n * 64) awords.now) (view bstart (n * 64) bwords.now)) out.old) }
 {
     let mut count: u64 = 0;
-    let mut i: usize = 0;
-    while i < n {
+    for i in 0..n {
         let x = whole_word(awords, astart, i);
         let y = whole_word(bwords, bstart, i);
-        let bits = apply(op, x, y);
+        let bits = O::on_words(x, y);
         out[i] = bits;
         count += u64::count_ones(bits) as u64;
-        i += 1;
     }
     count
 }
 
 // The result's rows chunk by chunk, and how many of them are set.
-fn write_chunks(
-    op: Operation,
+fn write_chunks<O: RowOperation>(
     a: Form,
     awords: &[u64],
     b: Form,
@@ -52,26 +48,23 @@ fn write_chunks(
     out: &mut [u64],
 ) -> u64
     requires { Abreast (lent a awords.now []) (lent b bwords.now []) × (length_of a ≤ length out.old * 64) }
-    ensures { (result ≡ count (combination (row_of op) (lent a awords.now []) (lent b bwords.now [])))
-        × (out.new ≡ laid 0 (combination (row_of op) (lent a awords.now []) (lent b bwords.now [])) out.old) }
+    ensures { (result ≡ count (combination O.on_rows (lent a awords.now []) (lent b bwords.now [])))
+        × (out.new ≡ laid 0 (combination O.on_rows (lent a awords.now []) (lent b bwords.now [])) out.old) }
 {
     let len = length_of(a);
     let mut sum: u64 = 0;
-    let mut row: u64 = 0;
-    while row < len {
+    for row in (0..len).step_by(64) {
         let n = chunk_len(len, row);
-        let bits = chunk(op, a, awords, b, bwords, row, n);
+        let bits = chunk::<O>(a, awords, b, bwords, row, n);
         put(out, row, n, bits);
         sum += u64::count_ones(bits) as u64;
-        row += n;
     }
     sum
 }
 
 // The result's rows over out from bit 0 on, and how many of them are set. Where both operands are in words, whole words are made without
 // a look at the forms; what is left of them, and every other mix, goes chunk by chunk.
-fn write_rows(
-    op: Operation,
+fn write_rows<O: RowOperation>(
     a: Form,
     awords: &[u64],
     b: Form,
@@ -79,8 +72,8 @@ fn write_rows(
     out: &mut [u64],
 ) -> u64
     requires { Abreast (lent a awords.now []) (lent b bwords.now []) × (length_of a ≤ length out.old * 64) }
-    ensures { (result ≡ count (combination (row_of op) (lent a awords.now []) (lent b bwords.now [])))
-        × (out.new ≡ laid 0 (combination (row_of op) (lent a awords.now []) (lent b bwords.now [])) out.old) }
+    ensures { (result ≡ count (combination O.on_rows (lent a awords.now []) (lent b bwords.now [])))
+        × (out.new ≡ laid 0 (combination O.on_rows (lent a awords.now []) (lent b bwords.now [])) out.old) }
 {
     let Form::Words {
         start: astart,
@@ -88,7 +81,7 @@ fn write_rows(
         claimed: _,
     } = a
     else {
-        return write_chunks(op, a, awords, b, bwords, out);
+        return write_chunks::<O>(a, awords, b, bwords, out);
     };
     let Form::Words {
         start: bstart,
@@ -96,19 +89,36 @@ fn write_rows(
         claimed: _,
     } = b
     else {
-        return write_chunks(op, a, awords, b, bwords, out);
+        return write_chunks::<O>(a, awords, b, bwords, out);
     };
-    let sum = write_whole(op, awords, astart, bwords, bstart, (len / 64) as usize, out);
+    let sum = write_whole::<O>(awords, astart, bwords, bstart, (len / 64) as usize, out);
     let rest = len % 64;
     if rest == 0 {
         return sum;
     }
-    let bits = chunk(op, a, awords, b, bwords, len - rest, rest);
+    let bits = chunk::<O>(a, awords, b, bwords, len - rest, rest);
     put(out, len - rest, rest, bits);
     sum + u64::count_ones(bits) as u64
 }
 
 // The result's rows as whole words from the start on, and how many of them are set.
+fn write_all<O: RowOperation>(
+    a: Form,
+    awords: &[u64],
+    b: Form,
+    bwords: &[u64],
+    out: &mut [u64],
+) -> u64
+    requires { Abreast (lent a awords.now []) (lent b bwords.now []) × (words_for (length_of a) ≤ length out.old) }
+    ensures { (result ≡ count (combination O.on_rows (lent a awords.now []) (lent b bwords.now [])))
+        × (out.new ≡ written (length_of a) (combination O.on_rows (lent a awords.now []) (lent b bwords.now [])) out.old) }
+{
+    let len = length_of(a);
+    clear_last(out, len);
+    write_rows::<O>(a, awords, b, bwords, out)
+}
+
+// The same, by the operation that is asked for: it is told here, once, and not again in the loops.
 pub fn write(
     op: Operation,
     a: Form,
@@ -121,7 +131,10 @@ pub fn write(
     ensures { (result ≡ count (combination (row_of op) (lent a awords.now []) (lent b bwords.now [])))
         × (out.new ≡ written (length_of a) (combination (row_of op) (lent a awords.now []) (lent b bwords.now [])) out.old) }
 {
-    let len = length_of(a);
-    clear_last(out, len);
-    write_rows(op, a, awords, b, bwords, out)
+    match op {
+        Operation::And => write_all::<And>(a, awords, b, bwords, out),
+        Operation::Or => write_all::<Or>(a, awords, b, bwords, out),
+        Operation::AndNot => write_all::<AndNot>(a, awords, b, bwords, out),
+        Operation::Not => write_all::<Not>(a, awords, b, bwords, out),
+    }
 }

@@ -10,6 +10,7 @@ use Rattle.rows.proofs.RowLaws.{compose_length, compose_count}
 use Rattle.rules.specs.Operand.{Operand, rows_of, length_of, count_of, Accepted}
 use Rattle.rules.specs.Compose.{Paired, both_checks, result}
 use Rattle.rules.proofs.OperandLaws.{accepted_as, accepted_length, accepted_count}
+use Rattle.rows.specs.Table.{operand_1, operand_2}
 
 module _ (s r : Operand) where
   pub both_met : Met (both_checks s r) ↔ (Accepted s × Accepted r)
@@ -19,10 +20,10 @@ module _ (s r : Operand) where
       to m =
           let p = (parts_met _ _).0 m in
           let q = (parts_met _ _).0 p.1 in
-          ((accepted_as 1 s).0 p.0, (accepted_as 2 r).0 q.0)
+          ((accepted_as operand_1 s).0 p.0, (accepted_as operand_2 r).0 q.0)
 
       from : Accepted s × Accepted r → Met (both_checks s r)
-      from t = (parts_met _ _).1 ((accepted_as 1 s).1 t.0, (parts_met _ _).1 ((accepted_as 2 r).1 t.1, none_met))
+      from t = (parts_met _ _).1 ((accepted_as operand_1 s).1 t.0, (parts_met _ _).1 ((accepted_as operand_2 r).1 t.1, none_met))
 
   -- the rank mask has a row for each set row of self
   pub ranks_length : Paired s r → length (rows_of r) ≡ count (rows_of s)

@@ -7,8 +7,8 @@ use mathlib.Core.Path.{◌≡◌, refl, sym, ap, subst, ◌∙◌}
 use mathlib.Core.Bool.{Bool}
 use mathlib.Core.List.{List, [], ◌∷◌, ◌++◌}
 use lib.ListN.{length, length-append}
-use Rattle.rows.specs.declared.Verdict.{Verdict}
-use Rattle.rows.specs.declared.Verdict.TheVariants.{Fine, Refused}
+use Rattle.rows.specs.Table.{Verdict}
+use Rattle.std.specs.Prelude.{Ok, Err}
 use Rattle.rows.specs.Rows.{count, compose, splice}
 use Rattle.rows.specs.Words.{bits_of_all}
 use Rattle.rows.specs.Laid.{words_for, laid, written}
@@ -16,7 +16,7 @@ use Rattle.rows.specs.Table.{first}
 use Rattle.rows.proofs.RowLaws.{compose_length, compose_append, count_append, count_le_length}
 use Rattle.rows.proofs.SpliceLaws.{splice_nil}
 use Rattle.rows.proofs.LaidLaws.{laid_length}
-use Rattle.rules.specs.declared.Answer.{Answer}
+use Rattle.rules.specs.Answer.{Answer}
 use Rattle.rules.specs.declared.State.{State}
 use Rattle.rules.specs.Operand.{limit, in_words, rows_of, length_of, Accepted}
 use Rattle.rules.specs.Answer.{answered}
@@ -27,7 +27,9 @@ use Rattle.rules.specs.Demand3.{once, once_out, Pieces, joined, AllAccepted, tak
 use Rattle.rules.proofs.OperandLaws.{accepted_length, accepted_count, in_words_rows, in_words_accepted}
 use Rattle.rules.proofs.Compositions.{compose_fine, composed_accepts}
 use Rattle.rules.proofs.Feeds.{feed_fine, feed_takes}
-use Rattle.rules.proofs.StreamLaws.{laid_then, laid_within, laid_past, Within, Accepts, self_length, self_limit, rank_length, kept_length, moved_within, refused_number}
+use Rattle.rules.proofs.StreamLaws.{laid_then, laid_within, laid_past, Within, Accepts, self_length, self_limit, rank_length, kept_length, moved_within}
+use Rattle.rows.specs.Table.{number_told}
+use Rattle.rules.specs.Answer.{summary_told}
 
 abbrev selves : List Pair → List Bool
 selves ps = joined (λ p. p.self) ps
@@ -51,7 +53,7 @@ Goes ps st out t = Ran st out t (selves (taken ps t.answers)) (ranks (taken ps t
 step : (st : State) (p : Pair) (out : List ℕ) (ps : List Pair) (v : Verdict) → judged st p (length out) ≡ v
     → ((st : State) (out : List ℕ) → Goes ps st out (run st out ps))
     → Goes (p ∷ ps) st out (after (fed_by v st p).answer (run (fed_by v st p).state (out_by v st p out) ps))
-step st p out ps Fine e ih =
+step st p out ps (Ok u) e ih =
     let a = feed_takes st p (length out) e in
     let st' = moved st p in
     let out' = laid st.done.0 (kept p) out in
@@ -74,13 +76,9 @@ step st p out ps Fine e ih =
       limited = λ h. omega (arith, more, self, q.limited (omega (arith, self, a.limited)));
       room = λ h. (let g : st.done.0 + length (rows_of p.self) ≤ length out' * 64 = omega (arith, self, a.space) in omega (arith, more, q.room g));
     }
-step st p out ps (Refused x) e ih = skip x.number refl
-  where
-    skip : (n : ℕ) → x.number ≡ n → Goes (p ∷ ps) st out (after (fed_by (Refused x) st p).answer (run st out ps))
-    skip zero h = absurd (refused_number st p (length out) x e h)
-    skip (suc n) h =
-        let q = ih st out in
-        rw h (record { matched = q.matched; bits = q.bits; counts = zero-add _ ∙ q.counts; state = q.state; limited = q.limited; room = q.room })
+step st p out ps (Err x) e ih =
+    let q = ih st out in
+    record { matched = q.matched; bits = q.bits; counts = zero-add _ ∙ q.counts; state = q.state; limited = q.limited; room = q.room }
 
 ran : (ps : List Pair) (st : State) (out : List ℕ) → Goes ps st out (run st out ps)
 ran [] st out =
@@ -97,8 +95,8 @@ ran (p ∷ ps) st out = step st p out ps (judged st p (length out)) refl (ran ps
 -- ---- from the fresh state
 
 -- the whole, where it is accepted
-answers : (w : Pair) (out : List ℕ) → first (compose_checks w.self w.rank (length out)) ≡ Fine
-    → (once w out ≡ answered Fine (kept w) (routed published w.self w.rank)) × (once_out w out ≡ written (long w) (kept w) out)
+answers : (w : Pair) (out : List ℕ) → first (compose_checks w.self w.rank (length out)) ≡ Ok tt
+    → (once w out ≡ answered (Ok tt) (kept w) (routed published w.self w.rank)) × (once_out w out ≡ written (long w) (kept w) out)
 unfolding composed composed_out
 answers w out f = rw f (refl, refl)
 
@@ -111,10 +109,10 @@ whole w out t ws wr q =
     let m : Paired w.self w.rank = record { self = ws; rank = wr; ranks = sym lr ∙ q.matched ∙ cs } in
     let f = (compose_fine w.self w.rank (length out)).1 (m, omega (arith, fits)) in
     let d = answers w out f in
-    let n : (once w out).summary.count ≡ count (kept w) = ap (λ (a : Answer). a.summary.count) d.0 in
+    let n : (summary_told (once w out)).count ≡ count (kept w) = ap (λ (a : Answer). (summary_told a).count) d.0 in
     let lk : length (kept w) ≡ long w = kept_length w m in
     record {
-      accepted = ap (λ (a : Answer). a.refusal.number) d.0;
+      accepted = ap (λ (a : Answer). (number_told a)) d.0;
       rows = rw d.1 (laid_within (long w) (kept w) out t.out lk fits q.bits);
       others = laid_past (long w) (kept w) out t.out lk fits q.bits;
       counts = q.counts ∙ sym n;

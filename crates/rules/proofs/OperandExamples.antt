@@ -11,14 +11,17 @@ use lib.Ieee.{fin, round}
 use Rattle.rows.specs.declared.Refusal.{Refusal}
 use Rattle.rows.specs.Word.{bits_of}
 use Rattle.rows.specs.Runs.{runs_of}
-use Rattle.rows.specs.Table.{first, refusal, no_refusal, told}
+use Rattle.rows.specs.Table.{first, refusal}
 use Rattle.rules.specs.declared.Form.TheVariants.{All, None, Words, List as Listed, Runs}
 use Rattle.rules.specs.Operand.{Operand, lent, operand_checks}
 use Rattle.rules.specs.Answer.{density_of}
+use Rattle.rows.specs.declared.Reason.TheVariants.{LengthOverLimit, StartOver63, TooFewWords, CountDiffers, NotAscending, EntryPastLength, RunsUnfit}
+use Rattle.rows.specs.Table.{Verdict, operand_1}
+use Rattle.std.specs.Prelude.{Ok, Err}
 
 -- what is told of it as operand 1
-abbrev pub refusal_of : Operand → Refusal
-refusal_of o = told (first (operand_checks 1 o))
+abbrev pub verdict_of : Operand → Verdict
+verdict_of o = first (operand_checks operand_1 o)
 
 -- an operand that is accepted, or one with its refusal; or rows and their runs; or a count, a length, and the density m * 2 ^ e
 pub data Case : Type 0 where
@@ -28,8 +31,8 @@ pub data Case : Type 0 where
   quotient : (n len m : ℕ) (e : ℤ) → Case
 
 abbrev pub Holds : Case → Type 0
-Holds (accepts o) = refusal_of o ≡ no_refusal
-Holds (refuses o x) = refusal_of o ≡ x
+Holds (accepts o) = verdict_of o ≡ Ok tt
+Holds (refuses o x) = verdict_of o ≡ Err x
 Holds (runs rows ns) = runs_of rows ≡ ns
 Holds (quotient n len m e) = density_of n len ≡ fin false m e
 
@@ -39,31 +42,31 @@ Every (c ∷ cs) = Holds c × Every cs
 
 abbrev pub cases : List Case
 cases =
-    refuses (lent (Listed 10) [] (3 ∷ 9 ∷ 9 ∷ [])) (refusal 5 1)
-    ∷ refuses (lent (Listed 10) [] (3 ∷ 10 ∷ [])) (refusal 6 1)
+    refuses (lent (Listed 10) [] (3 ∷ 9 ∷ 9 ∷ [])) (refusal NotAscending operand_1)
+    ∷ refuses (lent (Listed 10) [] (3 ∷ 10 ∷ [])) (refusal EntryPastLength operand_1)
     ∷ accepts (lent (Listed 10) [] [])
-    ∷ refuses (lent (Listed 10) [] (11 ∷ 3 ∷ [])) (refusal 5 1)
-    ∷ refuses (lent (Listed 0) [] (0 ∷ [])) (refusal 6 1)
+    ∷ refuses (lent (Listed 10) [] (11 ∷ 3 ∷ [])) (refusal NotAscending operand_1)
+    ∷ refuses (lent (Listed 0) [] (0 ∷ [])) (refusal EntryPastLength operand_1)
     ∷ accepts (lent (All 1048576) [] [])
-    ∷ refuses (lent (All 1048577) [] []) (refusal 1 1)
-    ∷ refuses (lent (None (2 ^ 64 - 1)) [] []) (refusal 1 1)
+    ∷ refuses (lent (All 1048577) [] []) (refusal LengthOverLimit operand_1)
+    ∷ refuses (lent (None (2 ^ 64 - 1)) [] []) (refusal LengthOverLimit operand_1)
     ∷ accepts (lent (Words 0 0 0) [] [])
-    ∷ refuses (lent (Words 1 0 0) [] []) (refusal 3 1)
+    ∷ refuses (lent (Words 1 0 0) [] []) (refusal TooFewWords operand_1)
     ∷ accepts (lent (Words 1 0 0) (7 ∷ []) [])
-    ∷ refuses (lent (Words 64 1048577 9) [] []) (refusal 1 1)
-    ∷ refuses (lent (Words 64 1 9) [] []) (refusal 2 1)
+    ∷ refuses (lent (Words 64 1048577 9) [] []) (refusal LengthOverLimit operand_1)
+    ∷ refuses (lent (Words 64 1 9) [] []) (refusal StartOver63 operand_1)
     ∷ accepts (lent (Words 60 6 2) ((2 ^ 63) ∷ 1 ∷ []) [])
-    ∷ refuses (lent (Words 60 6 3) ((2 ^ 63) ∷ 1 ∷ []) []) (refusal 4 1)
+    ∷ refuses (lent (Words 60 6 3) ((2 ^ 63) ∷ 1 ∷ []) []) (refusal CountDiffers operand_1)
     ∷ accepts (lent (Runs 10) [] [])
     ∷ accepts (lent (Runs 10) [] (0 ∷ 3 ∷ 4 ∷ 10 ∷ []))
-    ∷ refuses (lent (Runs 10) [] (0 ∷ 3 ∷ 3 ∷ 5 ∷ [])) (refusal 14 1)
-    ∷ refuses (lent (Runs 10) [] (4 ∷ 4 ∷ [])) (refusal 14 1)
-    ∷ refuses (lent (Runs 10) [] (4 ∷ 11 ∷ [])) (refusal 14 1)
-    ∷ refuses (lent (Runs 10) [] (4 ∷ 6 ∷ 8 ∷ [])) (refusal 14 1)
-    ∷ refuses (lent (Runs 0) [] (0 ∷ 0 ∷ [])) (refusal 14 1)
-    ∷ refuses (lent (Runs 10) [] (6 ∷ 8 ∷ 2 ∷ 4 ∷ [])) (refusal 14 1)
-    ∷ refuses (lent (Runs 10) [] (4294967295 ∷ 0 ∷ [])) (refusal 14 1)
-    ∷ refuses (lent (Runs 1048577) [] (4 ∷ 4 ∷ [])) (refusal 1 1)
+    ∷ refuses (lent (Runs 10) [] (0 ∷ 3 ∷ 3 ∷ 5 ∷ [])) (refusal RunsUnfit operand_1)
+    ∷ refuses (lent (Runs 10) [] (4 ∷ 4 ∷ [])) (refusal RunsUnfit operand_1)
+    ∷ refuses (lent (Runs 10) [] (4 ∷ 11 ∷ [])) (refusal RunsUnfit operand_1)
+    ∷ refuses (lent (Runs 10) [] (4 ∷ 6 ∷ 8 ∷ [])) (refusal RunsUnfit operand_1)
+    ∷ refuses (lent (Runs 0) [] (0 ∷ 0 ∷ [])) (refusal RunsUnfit operand_1)
+    ∷ refuses (lent (Runs 10) [] (6 ∷ 8 ∷ 2 ∷ 4 ∷ [])) (refusal RunsUnfit operand_1)
+    ∷ refuses (lent (Runs 10) [] (4294967295 ∷ 0 ∷ [])) (refusal RunsUnfit operand_1)
+    ∷ refuses (lent (Runs 1048577) [] (4 ∷ 4 ∷ [])) (refusal LengthOverLimit operand_1)
     ∷ runs [] []
     ∷ runs (false ∷ false ∷ false ∷ []) []
     ∷ runs (true ∷ true ∷ true ∷ []) (0 ∷ 3 ∷ [])

@@ -14,7 +14,7 @@ use Rattle.rows.specs.Rows.{count}
 use Rattle.rows.specs.Lists.{Ascending}
 use Rattle.rows.specs.Runs.{Apart}
 use Rattle.rows.specs.Laid.{words_for}
-use Rattle.rows.specs.Table.{Met}
+use Rattle.rows.specs.Table.{Named, no_operand, Met}
 use Rattle.rows.proofs.RowLaws.{count_le_length}
 use Rattle.rows.proofs.WordsLaws.{view_length, words_of_bits}
 use Rattle.rows.proofs.FitLaws.{all_fit}
@@ -55,10 +55,10 @@ apart b len (first ∷ past ∷ ns) t =
 
 -- ---- the needs do not depend on which operand it is
 
-pub accepted_as : (k : ℕ) (o : Operand) → Met (operand_checks k o) ↔ Accepted o
+pub accepted_as : (k : Named) (o : Operand) → Met (operand_checks k o) ↔ Accepted o
 accepted_as k o = by o.form
   where
-    by : (f : Form) → Met (checks_by f k o) ↔ Met (checks_by f 0 o)
+    by : (f : Form) → Met (checks_by f k o) ↔ Met (checks_by f no_operand o)
     by (All n) = (λ m. m, λ m. m)
     by (None n) = (λ m. m, λ m. m)
     by (Words start len claimed) = (λ m. m, λ m. m)
@@ -78,7 +78,7 @@ count_false (suc n) = count_false n
 pub accepted_limit : (o : Operand) → Accepted o → length_of o.form ≤ limit
 accepted_limit o = by o.form
   where
-    by : (f : Form) → Met (checks_by f 0 o) → length_of f ≤ limit
+    by : (f : Form) → Met (checks_by f no_operand o) → length_of f ≤ limit
     by (All n) m = m.0
     by (None n) m = m.0
     by (Words start len claimed) m = m.0
@@ -86,13 +86,13 @@ accepted_limit o = by o.form
     by (Runs len) m = m.0
 
 -- `search` finds the need where it stands, so that the order is the theorem's alone to say
-pub words_reach : (start len claimed : ℕ) (o : Operand) → Met (checks_by (Words start len claimed) 0 o) → words_for (start + len) ≤ length o.words
+pub words_reach : (start len claimed : ℕ) (o : Operand) → Met (checks_by (Words start len claimed) no_operand o) → words_for (start + len) ≤ length o.words
 words_reach start len claimed o m = search
 
 pub accepted_length : (o : Operand) → Accepted o → length (rows_of o) ≡ length_of o.form
 accepted_length o = by o.form
   where
-    by : (f : Form) → Met (checks_by f 0 o) → length (rows_by f o) ≡ length_of f
+    by : (f : Form) → Met (checks_by f no_operand o) → length (rows_by f o) ≡ length_of f
     by (All n) m = length-replicate n true
     by (None n) m = length-replicate n false
     by (Words start len claimed) m = view_length start len o.words (omega (arith, words_reach start len claimed o m))
@@ -102,7 +102,7 @@ accepted_length o = by o.form
 pub accepted_count : (o : Operand) → Accepted o → count (rows_of o) ≡ count_of o
 accepted_count o = by o.form
   where
-    by : (f : Form) → Met (checks_by f 0 o) → count (rows_by f o) ≡ count_by f o.numbers
+    by : (f : Form) → Met (checks_by f no_operand o) → count (rows_by f o) ≡ count_by f o.numbers
     by (All n) m = count_true n
     by (None n) m = count_false n
     by (Words start len claimed) m = sym (search)

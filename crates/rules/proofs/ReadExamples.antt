@@ -6,8 +6,11 @@ use mathlib.Core.Path.{◌≡◌, refl}
 use mathlib.Core.List.{List, [], ◌∷◌}
 use native.Mathlib.Decide.{dec_le}
 use Rattle.rows.specs.Word.{bits_of, word_of}
-use Rattle.rows.specs.Table.{first, refusal, no_refusal}
-use Rattle.rows.specs.WordAnswer.{read_answer, rank_read}
+use Rattle.rows.specs.Table.{first, refusal}
+use Rattle.rows.specs.WordAnswer.{rank_read}
+use Rattle.rows.specs.declared.Reason.TheVariants.{StartOver63}
+use Rattle.rows.specs.Table.{no_operand}
+use Rattle.std.specs.Prelude.{Ok, Err}
 
 -- words, start, offset, and the answer
 pub data Case : Type 0 where
@@ -15,8 +18,8 @@ pub data Case : Type 0 where
   refuses : (words : List ℕ) (start offset : ℕ) → Case
 
 abbrev pub Holds : Case → Type 0
-Holds (reads ws s o w) = rank_read ws s o ≡ read_answer no_refusal w
-Holds (refuses ws s o) = rank_read ws s o ≡ read_answer (refusal 2 0) 0
+Holds (reads ws s o w) = rank_read ws s o ≡ Ok w
+Holds (refuses ws s o) = rank_read ws s o ≡ Err (refusal StartOver63 no_operand)
 
 abbrev pub Every : List Case → Type 0
 Every [] = Unit {0}

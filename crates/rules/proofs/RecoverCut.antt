@@ -7,8 +7,8 @@ use mathlib.Core.Path.{◌≡◌, refl, sym, ap, ◌∙◌}
 use mathlib.Core.Bool.{Bool}
 use mathlib.Core.List.{List, [], ◌∷◌, ◌++◌}
 use lib.ListN.{length, length-append}
-use Rattle.rows.specs.declared.Verdict.{Verdict}
-use Rattle.rows.specs.declared.Verdict.TheVariants.{Fine, Refused}
+use Rattle.rows.specs.Table.{Verdict}
+use Rattle.std.specs.Prelude.{Ok, Err}
 use Rattle.rows.specs.Rows.{count, recover, outside, splice}
 use Rattle.rows.specs.Words.{bits_of_all}
 use Rattle.rows.specs.Laid.{words_for, laid, written}
@@ -17,7 +17,7 @@ use Rattle.rows.proofs.RowLaws.{count_append}
 use Rattle.rows.proofs.RecoverLaws.{recover_length, recover_append, inside_append}
 use Rattle.rows.proofs.SpliceLaws.{splice_nil}
 use Rattle.rows.proofs.LaidLaws.{laid_length}
-use Rattle.rules.specs.declared.Answer.{Answer}
+use Rattle.rules.specs.Answer.{Answer}
 use Rattle.rules.specs.declared.RecoveryState.{RecoveryState}
 use Rattle.rules.specs.Operand.{limit, in_words, rows_of, Accepted}
 use Rattle.rules.specs.Answer.{answered, no_route}
@@ -28,7 +28,9 @@ use Rattle.rules.specs.RecoverCut.{once, once_out, Pieces, Whole, Forward, Conve
 use Rattle.rules.proofs.OperandLaws.{accepted_length, accepted_count, accepted_limit, in_words_rows, in_words_accepted}
 use Rattle.rules.proofs.StreamLaws.{laid_then, laid_within, laid_past}
 use Rattle.rules.proofs.Recoveries.{lengths_same, recover_fine, recovered_accepts}
-use Rattle.rules.proofs.RecoverFeeds.{Bounded, Accepts, self_length, self_count, ranks_length, moved_bounded, refused_number, feed_fine}
+use Rattle.rules.proofs.RecoverFeeds.{Bounded, Accepts, self_length, self_count, ranks_length, moved_bounded, feed_fine}
+use Rattle.rows.specs.Table.{number_told}
+use Rattle.rules.specs.Answer.{summary_told}
 
 abbrev selves : List Masks → List Bool
 selves ms = joined (λ m. m.self) ms
@@ -53,7 +55,7 @@ Goes ms st out t = Ran st out t (selves (taken ms t.answers)) (kepts (taken ms t
 step : (st : RecoveryState) (m : Masks) (out : List ℕ) (ms : List Masks) (v : Verdict) → judged st m (length out) ≡ v
     → ((st : RecoveryState) (out : List ℕ) → Goes ms st out (run st out ms))
     → Goes (m ∷ ms) st out (after (fed_by v st m).answer (run (fed_by v st m).state (out_by v st m out) ms))
-step st m out ms Fine e ih =
+step st m out ms (Ok u) e ih =
     let a = (feed_fine st m (length out)).0 e in
     let w = a.within in
     let st' = moved st m in
@@ -80,22 +82,17 @@ step st m out ms Fine e ih =
       limited = λ h. omega (arith, more, self_length m w, q.limited (omega (arith, self_length m w, a.limited)));
       room = λ h. (let g : st.ranks.0 + count s ≤ length out' * 64 = omega (arith, size, self_count m w, a.space) in omega (arith, size, sets, q.room g));
     }
-step st m out ms (Refused x) e ih = skip x.number refl
-  where
-    skip : (n : ℕ) → x.number ≡ n → Goes (m ∷ ms) st out (after (fed_by (Refused x) st m).answer (run st out ms))
-    skip zero h = absurd (refused_number st m (length out) x e h)
-    skip (suc n) h =
-        let q = ih st out in
-        rw h
-        (record {
-          matched = q.matched;
-          inside = q.inside;
-          bits = q.bits;
-          counts = zero-add _ ∙ q.counts;
-          state = q.state;
-          limited = q.limited;
-          room = q.room;
-        })
+step st m out ms (Err x) e ih =
+    let q = ih st out in
+    record {
+      matched = q.matched;
+      inside = q.inside;
+      bits = q.bits;
+      counts = zero-add _ ∙ q.counts;
+      state = q.state;
+      limited = q.limited;
+      room = q.room;
+    }
 
 ran : (ms : List Masks) (st : RecoveryState) (out : List ℕ) → Goes ms st out (run st out ms)
 ran [] st out =
@@ -113,8 +110,8 @@ ran (m ∷ ms) st out = step st m out ms (judged st m (length out)) refl (ran ms
 -- ---- from the fresh state
 
 -- the whole, where it is accepted
-answers : (w : Masks) (out : List ℕ) → first (recover_checks w.self w.kept (length out)) ≡ Fine
-    → (once w out ≡ answered Fine (ranks w) no_route) × (once_out w out ≡ written (set w) (ranks w) out)
+answers : (w : Masks) (out : List ℕ) → first (recover_checks w.self w.kept (length out)) ≡ Ok tt
+    → (once w out ≡ answered (Ok tt) (ranks w) no_route) × (once_out w out ≡ written (set w) (ranks w) out)
 unfolding recovered recovered_out
 answers w out f = rw f (refl, refl)
 
@@ -126,10 +123,10 @@ whole w out t ws wk q =
     let fits : set w ≤ length out * 64 = omega (arith, zero-add (count (rows_of w.self)), cs, q.room (omega arith)) in
     let m : Within w.self w.kept = record { self = ws; kept = wk; lengths = sym lk ∙ q.matched ∙ ls; inside = q.inside } in
     let d = answers w out ((recover_fine w.self w.kept (length out)).1 (m, omega (arith, fits))) in
-    let n : (once w out).summary.count ≡ count (ranks w) = ap (λ (a : Answer). a.summary.count) d.0 in
+    let n : (summary_told (once w out)).count ≡ count (ranks w) = ap (λ (a : Answer). (summary_told a).count) d.0 in
     let lr : length (ranks w) ≡ set w = ranks_length w m in
     record {
-      accepted = ap (λ (a : Answer). a.refusal.number) d.0;
+      accepted = ap (λ (a : Answer). (number_told a)) d.0;
       ranks = rw d.1 (laid_within (set w) (ranks w) out t.out lr fits q.bits);
       others = laid_past (set w) (ranks w) out t.out lr fits q.bits;
       counts = q.counts ∙ sym n;

@@ -10,34 +10,38 @@ use mathlib.Core.Logic.{◌↔◌, ◌≢◌, ◌⊎◌, inl, inr}
 use mathlib.Core.Bool.{Bool, false}
 use mathlib.Core.List.{List, [], ◌∷◌}
 use lib.ListN.{length, get_or}
+use Rattle.rows.specs.declared.Row.{Row}
 use Rattle.rows.specs.declared.Refusal.{Refusal}
-use Rattle.rows.specs.declared.Verdict.TheVariants.{Fine, Refused}
+use Rattle.std.specs.Prelude.{None, Ok, Err}
 use Rattle.rows.specs.Rows.{count, splice}
 use Rattle.rows.specs.Lists.{select}
 use Rattle.rows.specs.Words.{bits_of_all}
 use Rattle.rows.specs.Laid.{words_for}
-use Rattle.rows.specs.Table.{Line, First, Met, Numbered, in_order, refusal, no_refusal}
-use Rattle.rows.proofs.TableLaws.{same_refusal, never, fine_exactly, parts_met, none_met, parts_refuses, parts_numbered, none_numbered}
+use Rattle.rows.specs.Table.{row_told, Named, Line, First, Met, in_order, refusal}
+use Rattle.rows.proofs.TableLaws.{same_refusal, never, fine_exactly, parts_met, none_met, parts_refuses, granted_refuses, granted_number}
 use Rattle.rows.proofs.RowLaws.{count_le_length}
 use Rattle.rows.proofs.RecoverLaws.{recover_length, recover_rank, FirstOutside, first_outside}
 use Rattle.rows.proofs.SpliceLaws.{splice_before, splice_in, splice_after}
 use Rattle.rows.proofs.WordsLaws.{bits_of_all_length}
 use Rattle.rows.proofs.LaidLaws.{laid_bits}
 use Rattle.rules.specs.declared.RecoveryState.{RecoveryState}
-use Rattle.rules.specs.declared.RecoveryFed.{RecoveryFed}
+use Rattle.rules.specs.declared.Fed.{Fed}
 use Rattle.rules.specs.Operand.{limit, rows_of, length_of, count_of, Accepted}
-use Rattle.rules.specs.Answer.{density_of, no_route}
+use Rattle.rules.specs.Answer.{density_of}
 use Rattle.rules.specs.Compose.{both_checks}
-use Rattle.rules.specs.Recover.{strays, Within, lengths_checks, inside_checks, room_checks}
+use Rattle.rules.specs.Recover.{strays, first_stray, Within, lengths_checks, inside_checks, room_checks}
 use Rattle.rules.specs.RecoverStream.{Masks, long, set, ranks, state_of, state_checks, limit_checks, feed_checks, moved, judged, fed, fed_out}
 use Rattle.rules.proofs.OperandLaws.{accepted_length, accepted_count}
 use Rattle.rules.proofs.Operands.{operand_numbers}
-use Rattle.rules.proofs.AnswerLaws.{Bare, answer_refuses, answer_accepts, refuses_numbered, nothing_done}
+use Rattle.rules.proofs.AnswerLaws.{Bare, nothing_done}
 use Rattle.rules.proofs.Writes.{bit_at, row}
 use Rattle.rules.proofs.ComposeLaws.{both_met}
-use Rattle.rules.proofs.Compositions.{OperandRefuses, both_refuses, both_numbered}
+use Rattle.rules.proofs.Compositions.{OperandRefuses, both_refuses}
 use Rattle.rules.proofs.StreamLaws.{bound_met, bound_refuses}
-use Rattle.rules.proofs.Recoveries.{recovery_length, recovery_count, told_first, told_else, number, some}
+use Rattle.rules.proofs.Recoveries.{recovery_length, recovery_count, told_else, number, same_row, some}
+use Rattle.rows.specs.declared.Reason.TheVariants.{LengthsDiffer, NoRoom, StateOutOfBound, StreamOverLimit, RowOutside}
+use Rattle.rows.specs.Table.{operand_1, operand_2, no_operand, number_told}
+use Rattle.rules.specs.Answer.{summary_told}
 
 -- refusal 10's bound
 abbrev pub Bounded : RecoveryState → Type 0
@@ -96,80 +100,68 @@ module _ (st : RecoveryState) (m : Masks) where
 
   abbrev pub PieceRefuses : ℕ → Refusal → Type 0
   PieceRefuses room x =
-      ((x ≡ refusal 7 0) × (length_of m.kept.form ≢ long m))
-      ⊎ ((x ≡ refusal 11 0) × (length_of m.kept.form ≡ long m) × (limit < st.done.0 + long m))
-      ⊎ ((x ≡ refusal 17 0) × (length_of m.kept.form ≡ long m) × (st.done.0 + long m ≤ limit) × (count (away m) ≢ 0))
-      ⊎ ((x ≡ refusal 8 0) × (length_of m.kept.form ≡ long m) × (st.done.0 + long m ≤ limit) × (count (away m) ≡ 0) × (room < words_for (st.ranks.0 + set m)))
+      ((x ≡ refusal LengthsDiffer no_operand) × (length_of m.kept.form ≢ long m))
+      ⊎ ((x ≡ refusal StreamOverLimit no_operand) × (length_of m.kept.form ≡ long m) × (limit < st.done.0 + long m))
+      ⊎ ((x ≡ refusal (RowOutside (first_stray m.self m.kept)) no_operand) × (length_of m.kept.form ≡ long m) × (st.done.0 + long m ≤ limit) × (count (away m) ≢ 0))
+      ⊎ ((x ≡ refusal NoRoom no_operand) × (length_of m.kept.form ≡ long m) × (st.done.0 + long m ≤ limit) × (count (away m) ≡ 0) × (room < words_for (st.ranks.0 + set m)))
 
   abbrev pub Refuses : ℕ → Refusal → Type 0
   Refuses room x =
-      ((x ≡ refusal 10 0) × (¬ Bounded st))
+      ((x ≡ refusal StateOutOfBound no_operand) × (¬ Bounded st))
       ⊎ (Bounded st × OperandRefuses m.self m.kept x)
       ⊎ (Bounded st × Accepted m.self × Accepted m.kept × PieceRefuses room x)
 
   bounded_met : Met (state_checks st) ↔ Bounded st
   bounded_met = bound_met st.kept st.ranks.0 st.done.0
 
-  state_refuses : (x : Refusal) → First (state_checks st) (Refused x) ↔ ((x ≡ refusal 10 0) × (¬ Bounded st))
+  state_refuses : (x : Refusal) → First (state_checks st) (Err x) ↔ ((x ≡ refusal StateOutOfBound no_operand) × (¬ Bounded st))
   state_refuses = bound_refuses st.kept st.ranks.0 st.done.0
 
-  piece_refuses : (room : ℕ) (x : Refusal) → First (in_order (later room)) (Refused x) ↔ PieceRefuses room x
+  piece_refuses : (room : ℕ) (x : Refusal) → First (in_order (later room)) (Err x) ↔ PieceRefuses room x
   unfolding in_order
   piece_refuses room x = (to, from)
     where
-      to : First (in_order (later room)) (Refused x) → PieceRefuses room x
+      to : First (in_order (later room)) (Err x) → PieceRefuses room x
       to (inr (a, e)) = inl (same_refusal e, a)
       to (inl (a, inr (b, e))) = inr (inl (same_refusal e, a, omega (arith, b)))
       to (inl (a, inl (b, inr (c, e)))) = inr (inr (inl (same_refusal e, a, b, c)))
       to (inl (a, inl (b, inl (c, inr (d, e))))) = inr (inr (inr (same_refusal e, a, b, c, omega (arith, d))))
       to (inl (a, inl (b, inl (c, inl (d, e))))) = never e
 
-      from : PieceRefuses room x → First (in_order (later room)) (Refused x)
-      from (inl (e, a)) = inr (a, ap Refused e)
-      from (inr (inl (e, a, b))) = inl (a, inr (λ h. omega arith, ap Refused e))
-      from (inr (inr (inl (e, a, b, c)))) = inl (a, inl (b, inr (c, ap Refused e)))
-      from (inr (inr (inr (e, a, b, c, d)))) = inl (a, inl (b, inl (c, inr (λ h. omega arith, ap Refused e))))
+      from : PieceRefuses room x → First (in_order (later room)) (Err x)
+      from (inl (e, a)) = inr (a, ap Err e)
+      from (inr (inl (e, a, b))) = inl (a, inr (λ h. omega arith, ap Err e))
+      from (inr (inr (inl (e, a, b, c)))) = inl (a, inl (b, inr (c, ap Err e)))
+      from (inr (inr (inr (e, a, b, c, d)))) = inl (a, inl (b, inl (c, inr (λ h. omega arith, ap Err e))))
 
-  table_refuses : (room : ℕ) (x : Refusal) → First (feed_checks st m room) (Refused x) ↔ Refuses room x
+  table_refuses : (room : ℕ) (x : Refusal) → First (feed_checks st m room) (Err x) ↔ Refuses room x
   table_refuses room x =
       let p = parts_refuses (state_checks st) (both ∷ later room) x in
       (λ h. one (p.0 h), λ w. p.1 (from w))
     where
-      operand_part : First (in_order (both ∷ later room)) (Refused x) ↔ (First both (Refused x) ⊎ (Met both × First (in_order (later room)) (Refused x)))
+      operand_part : First (in_order (both ∷ later room)) (Err x) ↔ (First both (Err x) ⊎ (Met both × First (in_order (later room)) (Err x)))
       operand_part = parts_refuses both (later room) x
 
-      two : Bounded st → First both (Refused x) ⊎ (Met both × First (in_order (later room)) (Refused x)) → Refuses room x
+      two : Bounded st → First both (Err x) ⊎ (Met both × First (in_order (later room)) (Err x)) → Refuses room x
       two b (inl h) = inr (inl (b, (both_refuses m.self m.kept x).0 h))
       two b (inr (t, h)) = let a = (both_met m.self m.kept).0 t in inr (inr (b, a.0, a.1, (piece_refuses room x).0 h))
 
-      one : First (state_checks st) (Refused x) ⊎ (Met (state_checks st) × First (in_order (both ∷ later room)) (Refused x)) → Refuses room x
+      one : First (state_checks st) (Err x) ⊎ (Met (state_checks st) × First (in_order (both ∷ later room)) (Err x)) → Refuses room x
       one (inl h) = inl ((state_refuses x).0 h)
       one (inr (t, h)) = two (bounded_met.0 t) (operand_part.0 h)
 
-      from : Refuses room x → First (state_checks st) (Refused x) ⊎ (Met (state_checks st) × First (in_order (both ∷ later room)) (Refused x))
+      from : Refuses room x → First (state_checks st) (Err x) ⊎ (Met (state_checks st) × First (in_order (both ∷ later room)) (Err x))
       from (inl t) = inl ((state_refuses x).1 t)
       from (inr (inl (b, t))) = inr (bounded_met.1 b, operand_part.1 (inl ((both_refuses m.self m.kept x).1 t)))
       from (inr (inr (b, s, k, t))) = inr (bounded_met.1 b, operand_part.1 (inr ((both_met m.self m.kept).1 (s, k), (piece_refuses room x).1 t)))
 
   module _ (out : List ℕ) where
     -- each refusal, its number and its operand, exactly when
-    pub fed_refuses : (x : Refusal) → zero < x.number → ((fed st m out).answer.refusal ≡ x) ↔ Refuses (length out) x
+    pub fed_refuses : (x : Refusal) → ((fed st m out).answer ≡ Err x) ↔ Refuses (length out) x
     unfolding judged
-    fed_refuses x z =
-        let t = answer_refuses (feed_checks st m (length out)) _ _ x z in
+    fed_refuses x =
+        let t = granted_refuses (feed_checks st m (length out)) _ x in
         (λ e. (table_refuses (length out) x).0 (t.0 e), λ w. t.1 ((table_refuses (length out) x).1 w))
-
-  feed_numbered : (room : ℕ) → Numbered (feed_checks st m room)
-  feed_numbered room =
-      parts_numbered _ _ (omega arith, (omega arith, (omega arith, tt)))
-      (parts_numbered _ _ (both_numbered m.self m.kept)
-      (parts_numbered _ _ (omega arith, tt)
-      (parts_numbered _ _ (omega arith, tt) (parts_numbered _ _ (omega arith, tt) (parts_numbered _ _ (omega arith, tt) none_numbered)))))
-
-  -- no refusal tells the number 0
-  pub refused_number : (room : ℕ) (x : Refusal) → judged st m room ≡ Refused x → x.number ≢ 0
-  unfolding judged
-  refused_number room = refuses_numbered (feed_checks st m room) (feed_numbered room)
 
   -- the needs part by part; `search` finds each where it stands, so that the order is the theorem's alone to say
   feed_met : (room : ℕ) → Met (feed_checks st m room) ↔ Accepts st m room
@@ -205,23 +197,23 @@ module _ (st : RecoveryState) (m : Masks) where
           with_met _ _ (search) (with_met _ _ (search) (with_met _ _ (search) (with_met _ _ (search) (with_met _ _ (search) (with_met _ _ (search) none_met)))))
 
   -- a feed that has what it needs is let pass, and no other
-  pub feed_fine : (room : ℕ) → (judged st m room ≡ Fine) ↔ Accepts st m room
+  pub feed_fine : (room : ℕ) → (judged st m room ≡ Ok tt) ↔ Accepts st m room
   unfolding judged
   feed_fine room = (λ e. (feed_met room).0 ((fine_exactly (feed_checks st m room)).0 e), λ t. (fine_exactly (feed_checks st m room)).1 ((feed_met room).1 t))
 
   module _ (out : List ℕ) where
     -- and number 0, accepted, exactly otherwise
-    pub fed_accepts : ((fed st m out).answer.refusal.number ≡ 0) ↔ Accepts st m (length out)
+    pub fed_accepts : ((number_told (fed st m out).answer) ≡ 0) ↔ Accepts st m (length out)
     unfolding judged
     fed_accepts =
-        let t = answer_accepts (feed_checks st m (length out)) _ _ (feed_numbered (length out)) in
+        let t = granted_number (feed_checks st m (length out)) _ in
         (λ e. (feed_met (length out)).0 (t.0 e), λ a. t.1 ((feed_met (length out)).1 a))
 
     -- a refusal hands the state back as given and changes no lent word, and reports count 0, route 0 and density 0.0
-    pub fed_refused : (fed st m out).answer.refusal.number ≢ 0 → ((fed st m out).state ≡ st) × (fed_out st m out ≡ out) × Bare (fed st m out).answer
+    pub fed_refused : (number_told (fed st m out).answer) ≢ 0 → ((fed st m out).state ≡ st) × (fed_out st m out ≡ out) × Bare (fed st m out).answer
     fed_refused h =
-        let s = nothing_done (judged st m (length out)) (ranks m) no_route _ st h in
-        (s.0, (nothing_done (judged st m (length out)) (ranks m) no_route _ out h).0, s.1)
+        let s = nothing_done (judged st m (length out)) _ _ st h in
+        (s.0, (nothing_done (judged st m (length out)) _ _ out h).0, s.1)
 
     -- an accepted feed keeps refusal 10's bound
     pub fed_bounded : Accepts st m (length out) → Bounded (fed st m out).state
@@ -229,36 +221,35 @@ module _ (st : RecoveryState) (m : Masks) where
 
     -- ---- the row told, counted in the piece: with 17 it is in the second mask and not in self, and no earlier row is; else it is 0
 
-    -- 17 is told where a row lies outside, and nowhere else
-    seventeen : (x : Refusal) → x.number ≡ 17 → Refuses (length out) x → 0 < count (away m)
-    seventeen x e (inl t) = absurd (omega (arith, e, number t.0))
-    seventeen x e (inr (inl (b, inl w))) = absurd (omega (arith, e, operand_numbers 1 m.self x w))
-    seventeen x e (inr (inl (b, inr (s, w)))) = absurd (omega (arith, e, operand_numbers 2 m.kept x w))
-    seventeen x e (inr (inr (b, s, k, inl t))) = absurd (omega (arith, e, number t.0))
-    seventeen x e (inr (inr (b, s, k, inr (inl t)))) = absurd (omega (arith, e, number t.0))
-    seventeen x e (inr (inr (b, s, k, inr (inr (inl (f, l, d, h)))))) = some (count (away m)) h
-    seventeen x e (inr (inr (b, s, k, inr (inr (inr t))))) = absurd (omega (arith, e, number t.0))
+    -- 17 is told where a row lies outside, and of the first that does
+    seventeen : (row : Row) (k : Named) → Refuses (length out) (refusal (RowOutside row) k) → (row ≡ first_stray m.self m.kept) × (0 < count (away m))
+    seventeen row k (inl t) = absurd (omega (arith, number t.0))
+    seventeen row k (inr (inl (b, inl w))) = absurd (omega (arith, operand_numbers operand_1 m.self _ w))
+    seventeen row k (inr (inl (b, inr (s, w)))) = absurd (omega (arith, operand_numbers operand_2 m.kept _ w))
+    seventeen row k (inr (inr (b, s, t, inl e))) = absurd (omega (arith, number e.0))
+    seventeen row k (inr (inr (b, s, t, inr (inl e)))) = absurd (omega (arith, number e.0))
+    seventeen row k (inr (inr (b, s, t, inr (inr (inl (e, l, d, h)))))) = (same_row e, some (count (away m)) h)
+    seventeen row k (inr (inr (b, s, t, inr (inr (inr e))))) = absurd (omega (arith, number e.0))
 
-    pub fed_outside_first : (fed st m out).answer.refusal.number ≡ 17 → FirstOutside (rows_of m.self) (rows_of m.kept) (fed st m out).outside.0
-    fed_outside_first e =
-        let told = told_first (judged st m (length out)) (ranks m) no_route (away m) e in
-        let x = (fed st m out).answer.refusal in
-        let found = seventeen x e ((fed_refuses out x (omega (arith, e))).0 refl) in
-        subst (FirstOutside (rows_of m.self) (rows_of m.kept)) (sym told) (first_outside (rows_of m.self) (rows_of m.kept) found)
+    pub fed_outside_first : (row : Row) (k : Named) → (fed st m out).answer ≡ Err (refusal (RowOutside row) k) → FirstOutside (rows_of m.self) (rows_of m.kept) row.0
+    fed_outside_first row k e =
+        let t = seventeen row k ((fed_refuses out (refusal (RowOutside row) k)).0 e) in
+        subst (λ (r : Row). FirstOutside (rows_of m.self) (rows_of m.kept) r.0) (sym t.0) (first_outside (rows_of m.self) (rows_of m.kept) t.1)
 
-    pub fed_outside_else : (fed st m out).answer.refusal.number ≢ 17 → (fed st m out).outside.0 ≡ 0
-    fed_outside_else = told_else (judged st m (length out)) (ranks m) no_route (away m)
+    -- the row told is 0 in every other answer
+    pub fed_outside_else : number_told (fed st m out).answer ≢ 17 → row_told (fed st m out).answer ≡ 0
+    fed_outside_else = told_else (fed st m out).answer
 
 -- what an accepted feed leaves: from the state's ranks on a bit for each of the piece's set rows, the r-th as the r-th of them is kept, and no other
 -- bit written; the second mask's count, route 0 and the density told; and all three numbers added to
-pub record Feeds (st : RecoveryState) (m : Masks) (gave : RecoveryFed) (left out : List ℕ) : Type 0 where
-  pub accepted : gave.answer.refusal ≡ no_refusal
+pub record Feeds (st : RecoveryState) (m : Masks) (gave : Fed RecoveryState) (left out : List ℕ) : Type 0 where
+  pub accepted : number_told gave.answer ≡ 0
   pub bits : (r : ℕ) → r < set m → bit_at left (st.ranks.0 + r) ≡ row m.kept (select (rows_of m.self) r)
   pub others : (i : ℕ) → (i < st.ranks.0) ⊎ (st.ranks.0 + set m ≤ i) → bit_at left i ≡ bit_at out i
-  pub counted : gave.answer.summary.count ≡ count_of m.kept
-  pub route : gave.answer.summary.route ≡ 0
-  pub dense : gave.answer.summary.density ≡ density_of gave.answer.summary.count (set m)
-  pub state : gave.state ≡ state_of (st.done.0 + long m) (st.ranks.0 + set m) (st.kept + gave.answer.summary.count)
+  pub counted : (summary_told gave.answer).count ≡ count_of m.kept
+  pub route : (summary_told gave.answer).route ≡ None
+  pub dense : (summary_told gave.answer).density ≡ density_of (summary_told gave.answer).count (set m)
+  pub state : gave.state ≡ state_of (st.done.0 + long m) (st.ranks.0 + set m) (st.kept + (summary_told gave.answer).count)
 
 pub fed_feeds : (st : RecoveryState) (m : Masks) (out : List ℕ) → Accepts st m (length out) → Feeds st m (fed st m out) (fed_out st m out) out
 fed_feeds st m out t =
@@ -292,7 +283,7 @@ fed_nothing st m out t z =
     let f = fed_feeds st m out t in
     let w = t.within in
     let none : set m ≡ 0 = omega (arith, count_le_length (rows_of m.self), self_length m w, self_count m w, z) in
-    let kept : (fed st m out).answer.summary.count ≡ 0 = f.counted ∙ omega (arith, count_le_length (ranks m), ranks_length m w, ranks_count m w, none) in
+    let kept : (summary_told (fed st m out).answer).count ≡ 0 = f.counted ∙ omega (arith, count_le_length (ranks m), ranks_length m w, ranks_count m w, none) in
     (f.state ∙ rw (z, none, kept) (simp add-zero), λ i. f.others i (side i none (dec_le (suc i) st.ranks.0)))
   where
     side : (i : ℕ) → set m ≡ 0 → Dec (suc i ≤ st.ranks.0) → (i < st.ranks.0) ⊎ (st.ranks.0 + set m ≤ i)

@@ -11,8 +11,8 @@ use native.Mathlib.Omega.{arith}
 use lib.Dec.{T, leb, le→leb, ltb, lt→ltb}
 use lib.ListN.{length, take, drop}
 use lib.Seq.{take_at, drop_at}
-use Rattle.rows.specs.declared.Verdict.{Verdict}
-use Rattle.rows.specs.declared.Verdict.TheVariants.{Fine}
+use Rattle.rows.specs.Table.{Verdict}
+use Rattle.std.specs.Prelude.{None, Ok}
 use Rattle.rows.specs.Rows.{count}
 use Rattle.rows.specs.Lists.{Ascending, set_rows}
 use Rattle.rows.specs.Runs.{Apart, runs_of, runs_in}
@@ -20,7 +20,7 @@ use Rattle.rows.specs.Laid.{words_for, written}
 use Rattle.rows.specs.Table.{first, if_fine}
 use Rattle.rows.proofs.ListLaws.{rows_count, rows_ascending, listed_rows}
 use Rattle.rows.proofs.RunLaws.{runs_apart, runs_back, runs_even, rows_back}
-use Rattle.rules.specs.declared.Answer.{Answer}
+use Rattle.rules.specs.Answer.{Answer}
 use Rattle.rules.specs.declared.Form.TheVariants.{Words, List as Listed, Runs}
 use Rattle.rules.specs.Operand.{Operand, lent, climbs, last_below, runs_fit, rows_of, length_of, count_of, Accepted}
 use Rattle.rules.specs.Answer.{density_of, accepted, answered}
@@ -28,6 +28,10 @@ use Rattle.rules.specs.Convert.{convert_checks, to_words_verdict, to_words, to_w
 use Rattle.rules.proofs.OperandLaws.{apart, accepted_length, accepted_count, accepted_limit}
 use Rattle.rules.proofs.Writes.{row, Writes, writes, written_back, Lists, WritesRuns}
 use Rattle.rules.proofs.Conversions.{convert_fine}
+use Rattle.rules.specs.Answer.{summed, summary_told}
+use Rattle.rules.specs.Convert.{written_of, answer_of, runs_told}
+use Rattle.rows.specs.Table.{number_told, granted}
+use Rattle.rules.specs.Answer.{no_route}
 
 T_both : (a b : Bool) → T a → T b → T (a && b)
 T_both true b s t = t
@@ -60,7 +64,7 @@ module _ (o : Operand) (out : List ℕ) (well : Accepted o) where
   abbrev len : ℕ
   len = length_of o.form
 
-  fine : (needed : ℕ) → needed ≤ length out → first (convert_checks o needed (length out)) ≡ Fine
+  fine : (needed : ℕ) → needed ≤ length out → first (convert_checks o needed (length out)) ≡ Ok tt
   fine needed h = (convert_fine o needed (length out)).1 (well, h)
 
   module _ (room : words_for (length_of o.form) ≤ length out) where
@@ -76,9 +80,9 @@ module _ (o : Operand) (out : List ℕ) (well : Accepted o) where
         (written_back len rows out (accepted_length o well) (accepted_limit o well) room)
 
     -- its rows bit by bit, their own count, route 0, their density, the tail and the later words
-    pub to_words_writes : Writes (length_of o.form) (row o) 0 (to_words o out) (to_words_out o out) out
+    pub to_words_writes : Writes (length_of o.form) (row o) None (to_words o out) (to_words_out o out) out
     unfolding to_words to_words_out
-    to_words_writes = writes (to_words_verdict o out) (fine (words_for len) room) len rows 0 out (accepted_length o well) (row o) (λ i h. refl)
+    to_words_writes = writes (to_words_verdict o out) (fine (words_for len) room) len rows no_route out (accepted_length o well) (row o) (λ i h. refl)
 
   module _ (room : count_of o ≤ length out) where
     size : length (set_rows 0 rows) ≡ count_of o
@@ -117,22 +121,22 @@ module _ (o : Operand) (out : List ℕ) (well : Accepted o) where
         })
 
   module _ (room : runs_in (rows_of o) * 2 ≤ length out) where
-    told : (to_runs o out).runs ≡ runs_in rows
+    told : runs_told (to_runs o out) ≡ runs_in rows
     unfolding to_runs
-    told = ap (λ (v : Verdict). if_fine v (runs_in rows) 0) (fine (runs_in rows * 2) room)
+    told = ap (λ (v : Verdict). runs_told (granted v (written_of o))) (fine (runs_in rows * 2) room)
 
     to_runs_out_lem : to_runs_out o out ≡ runs_of rows ++ drop (runs_in rows * 2) out
     unfolding to_runs_out
     to_runs_out_lem = ap (λ (v : Verdict). if_fine v (runs_of rows ++ drop (runs_in rows * 2) out) out) (fine (runs_in rows * 2) room)
 
-    written_runs : take ((to_runs o out).runs * 2) (to_runs_out o out) ≡ runs_of rows
+    written_runs : take (runs_told (to_runs o out) * 2) (to_runs_out o out) ≡ runs_of rows
     written_runs =
         ap (λ (n : ℕ). take (n * 2) (to_runs_out o out)) told
         ∙ ap (take (runs_in rows * 2)) to_runs_out_lem
         ∙ take_at (runs_of rows) (drop (runs_in rows * 2) out) (runs_in rows * 2) (runs_even rows)
 
     -- the numbers written, with the same length, are an operand with the same rows
-    pub to_runs_back : let back = lent (Runs (length_of o.form)) [] (take ((to_runs o out).runs * 2) (to_runs_out o out)) in
+    pub to_runs_back : let back = lent (Runs (length_of o.form)) [] (take (runs_told (to_runs o out) * 2) (to_runs_out o out)) in
         Accepted back × (rows_of back ≡ rows_of o)
     to_runs_back =
         let long = accepted_length o well in
@@ -141,30 +145,34 @@ module _ (o : Operand) (out : List ℕ) (well : Accepted o) where
 
     -- and no other numbers are: runs that are accepted and have these rows are, number by number, those written
     pub to_runs_only : (ns : List ℕ) → Accepted (lent (Runs (length_of o.form)) [] ns) → rows_of (lent (Runs (length_of o.form)) [] ns) ≡ rows_of o
-        → ns ≡ take ((to_runs o out).runs * 2) (to_runs_out o out)
+        → ns ≡ take (runs_told (to_runs o out) * 2) (to_runs_out o out)
     to_runs_only ns met same = sym (runs_back len ns (apart 0 len ns met.1.0)) ∙ ap runs_of same ∙ sym written_runs
 
     -- later numbers stay
-    pub to_runs_later : drop ((to_runs o out).runs * 2) (to_runs_out o out) ≡ drop ((to_runs o out).runs * 2) out
+    pub to_runs_later : drop (runs_told (to_runs o out) * 2) (to_runs_out o out) ≡ drop (runs_told (to_runs o out) * 2) out
     to_runs_later =
         ap (λ (n : ℕ). drop (n * 2) (to_runs_out o out)) told
         ∙ ap (drop (runs_in rows * 2)) to_runs_out_lem
         ∙ drop_at (runs_of rows) (drop (runs_in rows * 2) out) (runs_in rows * 2) (runs_even rows)
         ∙ ap (λ (n : ℕ). drop (n * 2) out) (sym told)
 
-    answer_told_lem : (to_runs o out).answer ≡ accepted (count rows) 0 (length rows)
+    answer_told_lem : answer_of (to_runs o out) ≡ Ok (summed rows no_route)
     unfolding to_runs
-    answer_told_lem = ap (λ (v : Verdict). answered v rows 0) (fine (runs_in rows * 2) room)
+    answer_told_lem = ap (λ (v : Verdict). answer_of (granted v (written_of o))) (fine (runs_in rows * 2) room)
+
+    number_told_lem : number_told (to_runs o out) ≡ 0
+    unfolding to_runs
+    number_told_lem = ap (λ (v : Verdict). number_told (granted v (written_of o))) (fine (runs_in rows * 2) room)
 
     -- its runs as numbers, how many they are, its own count, route 0, the density and the later numbers
     pub to_runs_writes : WritesRuns (length_of o.form) (rows_of o) (to_runs o out) (to_runs_out o out) out
     to_runs_writes =
         record {
-          accepted = ap (λ (a : Answer). a.refusal) answer_told_lem;
-          counted = ap (λ (a : Answer). a.summary.count) answer_told_lem;
+          accepted = number_told_lem;
+          counted = ap (λ (a : Answer). (summary_told a).count) answer_told_lem;
           many = told;
           numbers = written_runs;
-          route = ap (λ (a : Answer). a.summary.route) answer_told_lem;
+          route = ap (λ (a : Answer). (summary_told a).route) answer_told_lem;
           dense = rw answer_told_lem (ap (density_of (count rows)) (accepted_length o well));
           later = to_runs_later;
         }

@@ -12,12 +12,12 @@ use mathlib.Core.List.{List, [], ◌∷◌, ◌++◌}
 use lib.ListN.{length, take, drop}
 use lib.Seq.{take_at, drop_at}
 use Rattle.rows.specs.declared.Refusal.{Refusal}
-use Rattle.rows.specs.declared.Verdict.TheVariants.{Refused}
+use Rattle.std.specs.Prelude.{Err}
 use Rattle.rows.specs.Rows.{count, splice}
 use Rattle.rows.specs.Words.{bits_of_all}
 use Rattle.rows.specs.Laid.{words_for, laid, written}
-use Rattle.rows.specs.Table.{Line, First, Met, Numbered, need, refusal}
-use Rattle.rows.proofs.TableLaws.{never, same_refusal, parts_numbered, none_numbered}
+use Rattle.rows.specs.Table.{Line, First, Met, need, refusal}
+use Rattle.rows.proofs.TableLaws.{never, same_refusal}
 use Rattle.rows.proofs.RowLaws.{count_le_length}
 use Rattle.rows.proofs.SpliceLaws.{splice_append, splice_eq}
 use Rattle.rows.proofs.WordsLaws.{bits_of_all_length}
@@ -29,8 +29,8 @@ use Rattle.rules.specs.Compose.{Paired}
 use Rattle.rules.specs.Stream.{Pair, long, kept, feed_checks, moved, judged}
 use Rattle.rules.proofs.OperandLaws.{accepted_length, accepted_count, accepted_limit}
 use Rattle.rules.proofs.ComposeLaws.{ranks_length, result_length, result_count}
-use Rattle.rules.proofs.AnswerLaws.{refuses_numbered}
-use Rattle.rules.proofs.Compositions.{both_numbered}
+use Rattle.rows.specs.declared.Reason.TheVariants.{StateOutOfBound}
+use Rattle.rows.specs.Table.{no_operand}
 
 -- ---- refusal 10's bound, of any stream's three numbers
 
@@ -39,24 +39,24 @@ module _ (kept ranks done : ℕ) where
   Bound = (kept ≤ ranks) × (ranks ≤ done) × (done ≤ limit)
 
   abbrev pub bound_checks : List Line
-  bound_checks = need (dec_le kept ranks) 10 0 ∷ need (dec_le ranks done) 10 0 ∷ need (dec_le done limit) 10 0 ∷ []
+  bound_checks = need (dec_le kept ranks) StateOutOfBound no_operand ∷ need (dec_le ranks done) StateOutOfBound no_operand ∷ need (dec_le done limit) StateOutOfBound no_operand ∷ []
 
   pub bound_met : Met bound_checks ↔ Bound
   bound_met = (λ m. (m.0, m.1.0, m.1.1.0), λ w. (w.0, (w.1, (w.2, tt))))
 
-  pub bound_refuses : (x : Refusal) → First bound_checks (Refused x) ↔ ((x ≡ refusal 10 0) × (¬ Bound))
+  pub bound_refuses : (x : Refusal) → First bound_checks (Err x) ↔ ((x ≡ refusal StateOutOfBound no_operand) × (¬ Bound))
   bound_refuses x = (to, λ t. from (dec_le kept ranks) (dec_le ranks done) t.0 t.1)
     where
-      to : First bound_checks (Refused x) → (x ≡ refusal 10 0) × (¬ Bound)
+      to : First bound_checks (Err x) → (x ≡ refusal StateOutOfBound no_operand) × (¬ Bound)
       to (inr (a, e)) = (same_refusal e, λ w. a w.0)
       to (inl (a, inr (b, e))) = (same_refusal e, λ w. b w.1)
       to (inl (a, inl (b, inr (c, e)))) = (same_refusal e, λ w. c w.2)
       to (inl (a, inl (b, inl (c, e)))) = never e
 
-      from : Dec (kept ≤ ranks) → Dec (ranks ≤ done) → x ≡ refusal 10 0 → (¬ Bound) → First bound_checks (Refused x)
-      from (yes a) (yes b) e h = inl (a, inl (b, inr (λ c. h (a, b, c), ap Refused e)))
-      from (yes a) (no b) e h = inl (a, inr (b, ap Refused e))
-      from (no a) d e h = inr (a, ap Refused e)
+      from : Dec (kept ≤ ranks) → Dec (ranks ≤ done) → x ≡ refusal StateOutOfBound no_operand → (¬ Bound) → First bound_checks (Err x)
+      from (yes a) (yes b) e h = inl (a, inl (b, inr (λ c. h (a, b, c), ap Err e)))
+      from (yes a) (no b) e h = inl (a, inr (b, ap Err e))
+      from (no a) d e h = inr (a, ap Err e)
 
 -- ---- bits laid one after the other on one output
 
@@ -132,15 +132,3 @@ moved_within st p room t =
       omega (arith, t.within.1, count_le_length (rows_of p.self), kept_few p m, self_length p m),
       omega (arith, t.limited, self_length p m),
     )
-
--- ---- what a refusal tells
-
-feed_numbered : (st : State) (p : Pair) (room : ℕ) → Numbered (feed_checks st p room)
-feed_numbered st p room =
-    parts_numbered _ _ (omega arith, (omega arith, (omega arith, tt)))
-    (parts_numbered _ _ (both_numbered p.self p.rank) (parts_numbered _ _ (omega arith, (omega arith, (omega arith, tt))) none_numbered))
-
--- no refusal tells the number 0
-pub refused_number : (st : State) (p : Pair) (room : ℕ) (x : Refusal) → judged st p room ≡ Refused x → x.number ≢ 0
-unfolding judged
-refused_number st p room = refuses_numbered (feed_checks st p room) (feed_numbered st p room)

@@ -8,12 +8,15 @@ use native.Mathlib.Decide.{ℕ_discrete, dec_lt}
 use Rattle.rows.specs.Rows.{count}
 use Rattle.rows.specs.Word.{bits_of, word_of}
 use Rattle.rows.specs.Pdep.{pdep_loop, pdep}
-use Rattle.rows.specs.Table.{first, refusal, no_refusal}
-use Rattle.rows.specs.WordAnswer.{deposit_answer, select_answer, deposited, selected}
+use Rattle.rows.specs.Table.{first, refusal}
+use Rattle.rows.specs.WordAnswer.{deposited, selected}
 use Rattle.rows.proofs.RowLaws.{compose_empty, compose_full}
 use Rattle.rows.proofs.WordLaws.{word_of_bits_of}
 use Rattle.rows.proofs.PdepLaws.{pdep_is}
 use Rattle.rows.proofs.Theorems.{deposit_answers}
+use Rattle.rows.specs.declared.Reason.TheVariants.{NoSuchRank}
+use Rattle.rows.specs.Table.{no_operand}
+use Rattle.std.specs.Prelude.{Ok, Err}
 
 -- source, mask and the word that is deposited, by the mask's own count; a mask and what it makes of every source; word, rank and the
 -- position; word and rank refused with 9
@@ -24,10 +27,10 @@ pub data Case : Type 0 where
   refuses : (word rank : ℕ) → Case
 
 abbrev pub Holds : Case → Type 0
-Holds (deposits s m w) = deposited s m (count (bits_of 64 m)) ≡ deposit_answer no_refusal w
-Holds (takes m w) = (s : ℕ) → s < 2 ^ 64 → deposited s m (count (bits_of 64 m)) ≡ deposit_answer no_refusal (w s)
-Holds (selects n r p) = selected n r ≡ select_answer no_refusal p
-Holds (refuses n r) = selected n r ≡ select_answer (refusal 9 0) 0
+Holds (deposits s m w) = deposited s m (count (bits_of 64 m)) ≡ Ok w
+Holds (takes m w) = (s : ℕ) → s < 2 ^ 64 → deposited s m (count (bits_of 64 m)) ≡ Ok (w s)
+Holds (selects n r p) = selected n r ≡ Ok p
+Holds (refuses n r) = selected n r ≡ Err (refusal NoSuchRank no_operand)
 
 abbrev pub Every : List Case → Type 0
 Every [] = Unit {0}
@@ -49,7 +52,7 @@ cases =
 
 -- what a mask makes of every source, where that is what the published PDEP does
 taken : (m : ℕ) (w : ℕ → ℕ) → ((s : ℕ) → s < 2 ^ 64 → pdep 64 s m ≡ w s) → Holds (takes m w)
-taken m w law s h = deposit_answers s m (count (bits_of 64 m)) refl ∙ ap (λ (n : ℕ). deposit_answer no_refusal n) (law s h)
+taken m w law s h = deposit_answers s m (count (bits_of 64 m)) refl ∙ ap (λ (n : ℕ). Ok n) (law s h)
 
 none : Holds (takes 0 (λ s. 0))
 unfolding bits_of word_of

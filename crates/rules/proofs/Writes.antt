@@ -10,20 +10,26 @@ use native.Mathlib.Nat.{zero-add}
 use native.Mathlib.Omega.{arith}
 use lib.ListN.{length, take, drop, get_or}
 use lib.Seq.{get_or-take}
-use Rattle.rows.specs.declared.Verdict.{Verdict}
-use Rattle.rows.specs.declared.Verdict.TheVariants.{Fine}
+use Rattle.rows.specs.Table.{Verdict}
+use Rattle.std.specs.Prelude.{Ok}
 use Rattle.rows.specs.Rows.{count}
 use Rattle.rows.specs.Words.{bits_of_all}
 use Rattle.rows.specs.Lists.{set_rows}
 use Rattle.rows.specs.Runs.{runs_of, runs_in}
 use Rattle.rows.specs.Laid.{words_for, written}
-use Rattle.rows.specs.Table.{no_refusal, if_fine}
+use Rattle.rows.specs.Table.{number_told, if_fine}
 use Rattle.rows.proofs.WrittenLaws.{written_rows, written_length, written_tail, written_later}
-use Rattle.rules.specs.declared.Answer.{Answer}
+use Rattle.rules.specs.Answer.{Answer}
+use Rattle.rows.specs.declared.Refusal.{Refusal}
 use Rattle.rules.specs.declared.Written.{Written}
+use Rattle.rules.specs.Convert.{answer_of, runs_told}
+use Rattle.std.specs.Prelude.{Option, Result}
 use Rattle.rules.specs.declared.Form.TheVariants.{Words}
 use Rattle.rules.specs.Operand.{Operand, lent, rows_of, limit, Accepted}
+use Rattle.rules.specs.declared.Route.{Route}
 use Rattle.rules.specs.Answer.{answered, density_of}
+use Rattle.rules.specs.Answer.{summary_told}
+use Rattle.std.specs.Prelude.{None, Err}
 
 abbrev pub bit_at : List ℕ → ℕ → Bool
 bit_at ws i = get_or (bits_of_all 64 ws) i false
@@ -33,36 +39,36 @@ abbrev pub row : Operand → ℕ → Bool
 row o i = get_or (rows_of o) i false
 
 -- accepted by a route, with n rows that are as said, their own count and density
-pub record Writes (n : ℕ) (row_at : ℕ → Bool) (by : ℕ) (answer : Answer) (left out : List ℕ) : Type 0 where
-  pub accepted : answer.refusal ≡ no_refusal
+pub record Writes (n : ℕ) (row_at : ℕ → Bool) (by : Option Route) (answer : Answer) (left out : List ℕ) : Type 0 where
+  pub accepted : number_told answer ≡ 0
   pub rows : (i : ℕ) → i < n → bit_at left i ≡ row_at i
-  pub counted : answer.summary.count ≡ count (take n (bits_of_all 64 left))
-  pub route : answer.summary.route ≡ by
-  pub dense : answer.summary.density ≡ density_of answer.summary.count n
+  pub counted : (summary_told answer).count ≡ count (take n (bits_of_all 64 left))
+  pub route : (summary_told answer).route ≡ by
+  pub dense : (summary_told answer).density ≡ density_of (summary_told answer).count n
   pub tail : (i : ℕ) → n ≤ i → i < words_for n * 64 → bit_at left i ≡ false
   pub later : drop (words_for n) left ≡ drop (words_for n) out
 
 -- accepted, with the set rows among these n as entries from the start on: as many as it counts, route 0, their density
 pub record Lists (n : ℕ) (rows : List Bool) (answer : Answer) (left out : List ℕ) : Type 0 where
-  pub accepted : answer.refusal ≡ no_refusal
-  pub counted : answer.summary.count ≡ count rows
-  pub entries : take answer.summary.count left ≡ set_rows 0 rows
-  pub route : answer.summary.route ≡ 0
-  pub dense : answer.summary.density ≡ density_of answer.summary.count n
-  pub later : drop answer.summary.count left ≡ drop answer.summary.count out
+  pub accepted : number_told answer ≡ 0
+  pub counted : (summary_told answer).count ≡ count rows
+  pub entries : take (summary_told answer).count left ≡ set_rows 0 rows
+  pub route : (summary_told answer).route ≡ None
+  pub dense : (summary_told answer).density ≡ density_of (summary_told answer).count n
+  pub later : drop (summary_told answer).count left ≡ drop (summary_told answer).count out
 
 -- accepted, with the runs of these n rows as numbers from the start on: two for each of the runs that it tells, the rows' own count, route 0,
 -- their density
-pub record WritesRuns (n : ℕ) (rows : List Bool) (told : Written) (left out : List ℕ) : Type 0 where
-  pub accepted : told.answer.refusal ≡ no_refusal
-  pub counted : told.answer.summary.count ≡ count rows
-  pub many : told.runs ≡ runs_in rows
-  pub numbers : take (told.runs * 2) left ≡ runs_of rows
-  pub route : told.answer.summary.route ≡ 0
-  pub dense : told.answer.summary.density ≡ density_of told.answer.summary.count n
-  pub later : drop (told.runs * 2) left ≡ drop (told.runs * 2) out
+pub record WritesRuns (n : ℕ) (rows : List Bool) (told : Result Written Refusal) (left out : List ℕ) : Type 0 where
+  pub accepted : number_told told ≡ 0
+  pub counted : (summary_told (answer_of told)).count ≡ count rows
+  pub many : (runs_told told) ≡ runs_in rows
+  pub numbers : take (runs_told told * 2) left ≡ runs_of rows
+  pub route : (summary_told (answer_of told)).route ≡ None
+  pub dense : (summary_told (answer_of told)).density ≡ density_of (summary_told (answer_of told)).count n
+  pub later : drop (runs_told told * 2) left ≡ drop (runs_told told * 2) out
 
-pub writes : (v : Verdict) → v ≡ Fine → (n : ℕ) (rows : List Bool) (by : ℕ) (out : List ℕ) → length rows ≡ n → (row_at : ℕ → Bool) → ((i : ℕ) → i < n → get_or rows i false ≡ row_at i)
+pub writes : (v : Verdict) → v ≡ Ok tt → (n : ℕ) (rows : List Bool) (by : Option Route) (out : List ℕ) → length rows ≡ n → (row_at : ℕ → Bool) → ((i : ℕ) → i < n → get_or rows i false ≡ row_at i)
     → Writes n row_at by (answered v rows by) (if_fine v (written n rows out) out) out
 writes v e n rows by out long row_at law =
     rw e

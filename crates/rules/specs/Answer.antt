@@ -7,11 +7,12 @@ use Rattle.std.proofs.Math.Decide.{ℕ_discrete}
 use Rattle.std.specs.Float.{fin, binary64}
 use Rattle.std.specs.Float.Ieee.{round}
 use Rattle.rows.specs.declared.Refusal.{Refusal}
-use Rattle.rows.specs.declared.Verdict.{Verdict}
-use Rattle.rows.specs.declared.Verdict.TheVariants.{Fine, Refused}
+use Rattle.rows.specs.Table.{Verdict}
+use Rattle.std.specs.Prelude.{Option, None, Result, Ok, Err}
 use Rattle.rows.specs.Rows.{count}
-use Rattle.rows.specs.Table.{choose, no_refusal}
-use Rattle.rules.specs.declared.Answer.{Answer}
+use Rattle.rows.specs.Table.{choose, granted}
+use Rattle.rules.specs.declared.Route.{Route}
+use Rattle.rules.specs.declared.Summary.{Summary}
 
 abbrev pub no_density : Float
 no_density = fin false 0 (pos 0)
@@ -21,24 +22,32 @@ no_density = fin false 0 (pos 0)
 unfoldable pub density_of : ℕ → ℕ → Float
 density_of n len = choose (ℕ_discrete len 0) no_density (round binary64 false n len)
 
--- the route that is told outside composition
-abbrev pub no_route : ℕ
-no_route = 0
+-- outside composition there is no route
+abbrev pub no_route : Option Route
+no_route = None
 
 -- ---- an answer is made here and nowhere else
 
-abbrev pub answer : Refusal → ℕ → ℕ → Float → Answer
-answer r n route density = record { refusal = r; summary = record { count = n; route = route; density = density } }
+-- a refusal, or the summary of the result
+abbrev pub Answer : Type 0
+Answer = Result Summary Refusal
+
+abbrev pub summary : ℕ → Option Route → Float → Summary
+summary n route density = record { count = n; route = route; density = density }
 
 -- accepted: n set rows among len, by this route
-abbrev pub accepted : ℕ → ℕ → ℕ → Answer
-accepted n route len = answer no_refusal n route (density_of n len)
+abbrev pub accepted : ℕ → Option Route → ℕ → Summary
+accepted n route len = summary n route (density_of n len)
 
--- refused: count 0, route 0 and density 0.0
-abbrev pub refused : Refusal → Answer
-refused r = answer r 0 0 no_density
+-- of a result that is these rows, by this route
+abbrev pub summed : List Bool → Option Route → Summary
+summed rows route = accepted (count rows) route (length rows)
 
--- by the verdict, of a result that is these rows, by this route
-abbrev pub answered : Verdict → List Bool → ℕ → Answer
-answered Fine rows route = accepted (count rows) route (length rows)
-answered (Refused r) rows route = refused r
+-- by the verdict
+abbrev pub answered : Verdict → List Bool → Option Route → Answer
+answered v rows route = granted v (summed rows route)
+
+-- what is told of an answer in numbers: of a refusal count 0, no route, whose number is 0, and density 0.0
+abbrev pub summary_told : Answer → Summary
+summary_told (Ok s) = s
+summary_told (Err r) = summary 0 None no_density

@@ -1,14 +1,16 @@
 -- Demand 3, said of runs of the function that the contract of `feed` cites.
 -- Hold it against demand 3: its two sentences stand above `Forward` and `Converse`.
 -- Assumes nothing.
-use Rattle.std.specs.Prelude.{ℕ, zero, suc, ◌+◌, ◌≡◌, Bool, List, [], ◌∷◌, ◌++◌, take, drop}
+use Rattle.std.specs.Prelude.{ℕ, ◌+◌, Ok, Err, ◌≡◌, Bool, List, [], ◌∷◌, ◌++◌, take, drop}
 use Rattle.rows.specs.Rows.{count}
 use Rattle.rows.specs.Words.{bits_of_all}
-use Rattle.rules.specs.declared.Answer.{Answer}
+use Rattle.rules.specs.Answer.{Answer}
 use Rattle.rules.specs.Operand.{Operand, length_of, rows_of, in_words, Accepted}
 use Rattle.rules.specs.Route.{published}
 use Rattle.rules.specs.Compose.{composed, composed_out}
 use Rattle.rules.specs.Stream.{Pair, pair_of, long, state_of, fresh, Run, run}
+use Rattle.rows.specs.Table.{number_told}
+use Rattle.rules.specs.Answer.{summary_told}
 
 -- the whole composed at once, as demand 2 has it: its answer, and the output as it is left
 abbrev pub once : Pair → List ℕ → Answer
@@ -34,35 +36,35 @@ pub record Joins (whole : Pair) (ps : List Pair) : Type 0 where
 -- every feed is accepted; and of any feeds with their answers, the accepted ones, and the counts summed
 abbrev pub AllAccepted : List Answer → Type 0
 AllAccepted [] = Unit {0}
-AllAccepted (a ∷ xs) = (a.refusal.number ≡ 0) × AllAccepted xs
+AllAccepted (a ∷ xs) = ((number_told a) ≡ 0) × AllAccepted xs
 
-abbrev pub keep_if : {A : Type 0} → ℕ → A → List A → List A
-keep_if zero p ps = p ∷ ps
-keep_if (suc n) p ps = ps
+abbrev pub keep_if : {A : Type 0} → Answer → A → List A → List A
+keep_if (Ok s) p ps = p ∷ ps
+keep_if (Err r) p ps = ps
 
 abbrev pub taken : {A : Type 0} → List A → List Answer → List A
 taken [] xs = []
 taken (p ∷ ps) [] = []
-taken (p ∷ ps) (a ∷ xs) = keep_if a.refusal.number p (taken ps xs)
+taken (p ∷ ps) (a ∷ xs) = keep_if a p (taken ps xs)
 
 abbrev pub summed : List Answer → ℕ
 summed [] = 0
-summed (a ∷ xs) = a.summary.count + summed xs
+summed (a ∷ xs) = (summary_told a).count + summed xs
 
 -- a run did what demand 2 says of the whole: it is accepted; its rows stand in the output, and no other bit changed; the counts sum to
 -- its count; and the end state is its length, its set rows and its count
 pub record Whole (whole : Pair) (out : List ℕ) (t : Run) : Type 0 where
-  pub accepted : (once whole out).refusal.number ≡ 0
+  pub accepted : (number_told (once whole out)) ≡ 0
   pub rows : take (long whole) (bits_of_all 64 t.out) ≡ take (long whole) (bits_of_all 64 (once_out whole out))
   pub others : drop (long whole) (bits_of_all 64 t.out) ≡ drop (long whole) (bits_of_all 64 out)
-  pub counts : summed t.answers ≡ (once whole out).summary.count
-  pub state : t.state ≡ state_of (long whole) (count (rows_of whole.self)) (once whole out).summary.count
+  pub counts : summed t.answers ≡ (summary_told (once whole out)).count
+  pub state : t.state ≡ state_of (long whole) (count (rows_of whole.self)) (summary_told (once whole out)).count
 
 -- "Take a pair that demand 2 accepts. Cut self at any rows and the rank mask at the matching ranks, each piece well formed, in any
 -- form. From the fresh state .. every feed is accepted, and rows, summed counts and end state are demand 2's for the whole."
 abbrev pub Forward : Type 0
 Forward =
-    (whole : Pair) (out : List ℕ) (ps : List Pair) → (once whole out).refusal.number ≡ 0 → Pieces ps → Joins whole ps
+    (whole : Pair) (out : List ℕ) (ps : List Pair) → (number_told (once whole out)) ≡ 0 → Pieces ps → Joins whole ps
     → AllAccepted (run fresh out ps).answers × Whole whole out (run fresh out ps)
 
 -- "Conversely any accepted feeds so run, with refused ones between, give demand 2's rows, summed counts and end state for the joined

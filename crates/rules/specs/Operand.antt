@@ -14,6 +14,8 @@ use Rattle.rows.specs.Laid.{words_for}
 use Rattle.rows.specs.Table.{Line, need, Met, dec_t}
 use Rattle.rules.specs.declared.Form.{Form}
 use Rattle.rules.specs.declared.Form.TheVariants.{All, None, Words, List as Listed, Runs}
+use Rattle.rows.specs.declared.Reason.TheVariants.{LengthOverLimit, StartOver63, TooFewWords, CountDiffers, NotAscending, EntryPastLength, ListGiven, RunsUnfit}
+use Rattle.rows.specs.Table.{Named, no_operand}
 
 -- ---- what it is. What depends on the form alone is a function of the form
 
@@ -104,44 +106,44 @@ runs_fit least len [] = true
 runs_fit least len (first ∷ []) = false
 runs_fit least len (first ∷ past ∷ ns) = leb least first && (ltb first past && (leb past len && runs_fit (suc past) len ns))
 
-abbrev pub length_checks : ℕ → ℕ → List Line
-length_checks k len = need (dec_le len limit) 1 k ∷ []
+abbrev pub length_checks : Named → ℕ → List Line
+length_checks k len = need (dec_le len limit) LengthOverLimit k ∷ []
 
-abbrev pub words_checks : ℕ → ℕ → ℕ → ℕ → List ℕ → List Line
+abbrev pub words_checks : Named → ℕ → ℕ → ℕ → List ℕ → List Line
 words_checks k start len claimed ws =
-    need (dec_le len limit) 1 k
-    ∷ need (dec_le start 63) 2 k
-    ∷ need (dec_le (words_for (start + len)) (length ws)) 3 k
-    ∷ need (ℕ_discrete claimed (count (view start len ws))) 4 k
+    need (dec_le len limit) LengthOverLimit k
+    ∷ need (dec_le start 63) StartOver63 k
+    ∷ need (dec_le (words_for (start + len)) (length ws)) TooFewWords k
+    ∷ need (ℕ_discrete claimed (count (view start len ws))) CountDiffers k
     ∷ []
 
-abbrev pub list_checks : ℕ → ℕ → List ℕ → List Line
+abbrev pub list_checks : Named → ℕ → List ℕ → List Line
 list_checks k len es =
-    need (dec_le len limit) 1 k
-    ∷ need (dec_t (climbs es)) 5 k
-    ∷ need (dec_t (last_below len es)) 6 k
+    need (dec_le len limit) LengthOverLimit k
+    ∷ need (dec_t (climbs es)) NotAscending k
+    ∷ need (dec_t (last_below len es)) EntryPastLength k
     ∷ []
 
-abbrev pub runs_checks : ℕ → ℕ → List ℕ → List Line
+abbrev pub runs_checks : Named → ℕ → List ℕ → List Line
 runs_checks k len ns =
-    need (dec_le len limit) 1 k
-    ∷ need (dec_t (runs_fit 0 len ns)) 14 k
+    need (dec_le len limit) LengthOverLimit k
+    ∷ need (dec_t (runs_fit 0 len ns)) RunsUnfit k
     ∷ []
 
-abbrev pub checks_by : Form → ℕ → Operand → List Line
+abbrev pub checks_by : Form → Named → Operand → List Line
 checks_by (All n) k o = length_checks k n
 checks_by (None n) k o = length_checks k n
 checks_by (Words start len claimed) k o = words_checks k start len claimed o.words
 checks_by (Listed len) k o = list_checks k len o.numbers
 checks_by (Runs len) k o = runs_checks k len o.numbers
 
-abbrev pub operand_checks : ℕ → Operand → List Line
+abbrev pub operand_checks : Named → Operand → List Line
 operand_checks k o = checks_by o.form k o
 
 -- a set operation takes no list and no runs: 12, before all others
-abbrev pub set_checks : ℕ → Operand → List Line
-set_checks k o = need (dec_t (not (counts_as_list o.form))) 12 k ∷ operand_checks k o
+abbrev pub set_checks : Named → Operand → List Line
+set_checks k o = need (dec_t (not (counts_as_list o.form))) ListGiven k ∷ operand_checks k o
 
 -- every need is met
 abbrev pub Accepted : Operand → Type 0
-Accepted o = Met (operand_checks 0 o)
+Accepted o = Met (operand_checks no_operand o)

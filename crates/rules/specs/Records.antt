@@ -3,10 +3,11 @@
 -- Assumes nothing.
 use Rattle.std.specs.Prelude.{ℕ, ◌*◌, ◌/◌, ◌%◌, List, [], ◌∷◌, ◌++◌, length, drop}
 use Rattle.std.proofs.Math.Decide.{ℕ_discrete, dec_le}
-use Rattle.rows.specs.declared.Refusal.{Refusal}
-use Rattle.rows.specs.declared.Verdict.{Verdict}
-use Rattle.rows.specs.Table.{Line, need, first, told, if_fine}
+use Rattle.rows.specs.Table.{Verdict}
+use Rattle.rows.specs.Table.{Line, need, first, if_fine}
 use Rattle.rules.specs.declared.Run.{Run}
+use Rattle.rows.specs.declared.Reason.TheVariants.{NoRoom, RunsUnfit}
+use Rattle.rows.specs.Table.{operand_1, no_operand}
 
 abbrev pub run : ℕ → ℕ → Run
 run first past = record { first = first; past = past }
@@ -25,13 +26,13 @@ records_of (first ∷ past ∷ ns) = run first past ∷ records_of ns
 -- ---- to numbers, two for each run; later numbers stay
 
 abbrev pub numbers_checks : List Run → List ℕ → List Line
-numbers_checks rs out = need (dec_le (length rs * 2) (length out)) 8 0 ∷ []
+numbers_checks rs out = need (dec_le (length rs * 2) (length out)) NoRoom no_operand ∷ []
 
 abbrev pub to_numbers_verdict : List Run → List ℕ → Verdict
 to_numbers_verdict rs out = first (numbers_checks rs out)
 
-unfoldable pub to_numbers : List Run → List ℕ → Refusal
-to_numbers rs out = told (to_numbers_verdict rs out)
+unfoldable pub to_numbers : List Run → List ℕ → Verdict
+to_numbers rs out = to_numbers_verdict rs out
 
 unfoldable pub to_numbers_out : List Run → List ℕ → List ℕ
 to_numbers_out rs out = if_fine (to_numbers_verdict rs out) (numbers_of rs ++ drop (length rs * 2) out) out
@@ -40,15 +41,15 @@ to_numbers_out rs out = if_fine (to_numbers_verdict rs out) (numbers_of rs ++ dr
 
 abbrev pub records_checks : List ℕ → List Run → List Line
 records_checks ns out =
-    need (ℕ_discrete (length ns % 2) 0) 14 1
-    ∷ need (dec_le (length ns / 2) (length out)) 8 0
+    need (ℕ_discrete (length ns % 2) 0) RunsUnfit operand_1
+    ∷ need (dec_le (length ns / 2) (length out)) NoRoom no_operand
     ∷ []
 
 abbrev pub to_records_verdict : List ℕ → List Run → Verdict
 to_records_verdict ns out = first (records_checks ns out)
 
-unfoldable pub to_records : List ℕ → List Run → Refusal
-to_records ns out = told (to_records_verdict ns out)
+unfoldable pub to_records : List ℕ → List Run → Verdict
+to_records ns out = to_records_verdict ns out
 
 unfoldable pub to_records_out : List ℕ → List Run → List Run
 to_records_out ns out = if_fine (to_records_verdict ns out) (records_of ns ++ drop (length ns / 2) out) out

@@ -5,16 +5,16 @@
 -- Assumes nothing.
 use Rattle.std.specs.Prelude.{ℕ, ◌≡◌, Bool, List, [], ◌∷◌, length}
 use Rattle.std.proofs.Math.Decide.{ℕ_discrete, dec_le}
-use Rattle.rows.specs.declared.Verdict.{Verdict}
-use Rattle.rows.specs.declared.Verdict.TheVariants.{Fine, Refused}
 use Rattle.rows.specs.Rows.{count, recover, outside}
 use Rattle.rows.specs.Lists.{select}
 use Rattle.rows.specs.Laid.{words_for, written}
-use Rattle.rows.specs.Table.{Line, need, choose, first, in_order, if_fine}
-use Rattle.rules.specs.declared.Recovered.{Recovered}
+use Rattle.rows.specs.Table.{Line, need, first, in_order, if_fine}
+use Rattle.rows.specs.declared.Row.{Row}
 use Rattle.rules.specs.Operand.{Operand, rows_of, length_of, count_of, Accepted}
-use Rattle.rules.specs.Answer.{answered, no_route}
+use Rattle.rules.specs.Answer.{Answer, answered, no_route}
 use Rattle.rules.specs.Compose.{both_checks}
+use Rattle.rows.specs.declared.Reason.TheVariants.{LengthsDiffer, NoRoom, RowOutside}
+use Rattle.rows.specs.Table.{no_operand}
 
 -- the rows of the second mask that lie outside self
 abbrev pub strays : Operand → Operand → List Bool
@@ -27,15 +27,19 @@ pub record Within (s k : Operand) : Type 0 where
   pub lengths : length_of k.form ≡ length_of s.form
   pub inside : count (strays s k) ≡ 0
 
--- 7, the lengths differ; 17, a row lies outside self; 8, the output is shorter than the result
+-- the first of them
+abbrev pub first_stray : Operand → Operand → Row
+first_stray s k = record { 0 = select (strays s k) 0 }
+
+-- 7, the lengths differ; 17, a row lies outside self, with the first that does; 8, the output is shorter than the result
 abbrev pub lengths_checks : Operand → Operand → List Line
-lengths_checks s k = need (ℕ_discrete (length_of k.form) (length_of s.form)) 7 0 ∷ []
+lengths_checks s k = need (ℕ_discrete (length_of k.form) (length_of s.form)) LengthsDiffer no_operand ∷ []
 
 abbrev pub inside_checks : Operand → Operand → List Line
-inside_checks s k = need (ℕ_discrete (count (strays s k)) 0) 17 0 ∷ []
+inside_checks s k = need (ℕ_discrete (count (strays s k)) 0) (RowOutside (first_stray s k)) no_operand ∷ []
 
 abbrev pub room_checks : ℕ → ℕ → List Line
-room_checks bits room = need (dec_le (words_for bits) room) 8 0 ∷ []
+room_checks bits room = need (dec_le (words_for bits) room) NoRoom no_operand ∷ []
 
 -- the checks, for an output of `room` words: the operands', then 7, 17, 8
 abbrev pub recover_checks : Operand → Operand → ℕ → List Line
@@ -45,16 +49,8 @@ recover_checks s k room = in_order (both_checks s k ∷ lengths_checks s k ∷ i
 abbrev pub recovery : Operand → Operand → List Bool
 recovery s k = recover (rows_of s) (rows_of k)
 
--- by the verdict: the answer, and the first row outside self with 17, 0 with all else
-abbrev pub row_told : Verdict → List Bool → ℕ
-row_told Fine rows = 0
-row_told (Refused x) rows = choose (ℕ_discrete x.number 17) (select rows 0) 0
-
-abbrev pub recovered_by : Verdict → Operand → Operand → Recovered
-recovered_by v s k = record { answer = answered v (recovery s k) no_route; outside = record { 0 = row_told v (strays s k) } }
-
-unfoldable pub recovered : Operand → Operand → List ℕ → Recovered
-recovered s k out = recovered_by (first (recover_checks s k (length out))) s k
+unfoldable pub recovered : Operand → Operand → List ℕ → Answer
+recovered s k out = answered (first (recover_checks s k (length out))) (recovery s k) no_route
 
 unfoldable pub recovered_out : Operand → Operand → List ℕ → List ℕ
 recovered_out s k out = if_fine (first (recover_checks s k (length out))) (written (count_of s) (recovery s k) out) out

@@ -5,17 +5,20 @@
 -- Assumes nothing.
 use Rattle.std.specs.Prelude.{ℕ, ◌+◌, Bool, List, [], ◌∷◌, length}
 use Rattle.std.proofs.Math.Decide.{dec_le}
-use Rattle.rows.specs.declared.Verdict.{Verdict}
+use Rattle.rows.specs.Table.{Verdict}
 use Rattle.rows.specs.Rows.{count}
 use Rattle.rows.specs.Laid.{laid}
 use Rattle.rows.specs.Table.{Line, need, first, in_order, if_fine}
-use Rattle.rules.specs.declared.Answer.{Answer}
+use Rattle.rules.specs.Answer.{Answer}
 use Rattle.rules.specs.declared.RecoveryState.{RecoveryState}
-use Rattle.rules.specs.declared.RecoveryFed.{RecoveryFed}
+use Rattle.rules.specs.declared.Fed.{Fed}
 use Rattle.rules.specs.Operand.{Operand, limit, rows_of, length_of, count_of}
 use Rattle.rules.specs.Answer.{answered, no_route}
 use Rattle.rules.specs.Compose.{both_checks}
-use Rattle.rules.specs.Recover.{strays, lengths_checks, inside_checks, room_checks, recovery, row_told}
+use Rattle.rules.specs.Recover.{lengths_checks, inside_checks, room_checks, recovery}
+use Rattle.rules.specs.Stream.{bound_checks}
+use Rattle.rows.specs.declared.Reason.TheVariants.{StreamOverLimit}
+use Rattle.rows.specs.Table.{no_operand}
 
 -- two masks of rows: self and the second mask, whole or a piece of each
 pub record Masks : Type 0 where
@@ -44,17 +47,13 @@ state_of done ranks kept = record { done = record { 0 = done }; ranks = record {
 abbrev pub fresh : RecoveryState
 fresh = state_of 0 0 0
 
--- refusal 10's bound: kept <= ranks <= done <= 1,048,576
+-- refusal 10's bound, of these three numbers too
 abbrev pub state_checks : RecoveryState → List Line
-state_checks st =
-    need (dec_le st.kept st.ranks.0) 10 0
-    ∷ need (dec_le st.ranks.0 st.done.0) 10 0
-    ∷ need (dec_le st.done.0 limit) 10 0
-    ∷ []
+state_checks st = bound_checks st.done.0 st.ranks.0 st.kept
 
 -- 11, done plus the piece's length is over the limit
 abbrev pub limit_checks : ℕ → List Line
-limit_checks end = need (dec_le end limit) 11 0 ∷ []
+limit_checks end = need (dec_le end limit) StreamOverLimit no_operand ∷ []
 
 -- 10; the first operand's, then the second's; 7, 11, 17, 8
 abbrev pub feed_checks : RecoveryState → Masks → ℕ → List Line
@@ -72,10 +71,9 @@ feed_checks st m room =
 abbrev pub moved : RecoveryState → Masks → RecoveryState
 moved st m = state_of (st.done.0 + length (rows_of m.self)) (st.ranks.0 + count (rows_of m.self)) (st.kept + count (ranks m))
 
--- by the verdict: the answer, the row of 17, the state handed back, and the output as it is left, its bits from ranks on and no other written
-abbrev pub fed_by : Verdict → RecoveryState → Masks → RecoveryFed
-fed_by v st m =
-    record { answer = answered v (ranks m) no_route; outside = record { 0 = row_told v (strays m.self m.kept) }; state = if_fine v (moved st m) st }
+-- by the verdict: the answer, the state handed back, and the output as it is left, its bits from ranks on and no other written
+abbrev pub fed_by : Verdict → RecoveryState → Masks → Fed RecoveryState
+fed_by v st m = record { answer = answered v (ranks m) no_route; state = if_fine v (moved st m) st }
 
 abbrev pub out_by : Verdict → RecoveryState → Masks → List ℕ → List ℕ
 out_by v st m out = if_fine v (laid st.ranks.0 (ranks m) out) out
@@ -83,7 +81,7 @@ out_by v st m out = if_fine v (laid st.ranks.0 (ranks m) out) out
 unfoldable pub judged : RecoveryState → Masks → ℕ → Verdict
 judged st m room = first (feed_checks st m room)
 
-abbrev pub fed : RecoveryState → Masks → List ℕ → RecoveryFed
+abbrev pub fed : RecoveryState → Masks → List ℕ → Fed RecoveryState
 fed st m out = fed_by (judged st m (length out)) st m
 
 abbrev pub fed_out : RecoveryState → Masks → List ℕ → List ℕ

@@ -2,7 +2,7 @@
 -- Hold it against the table, line by line; "8 and 10 apply when 16 x self count < self length"; and "self words, 32 x rank count < rank length".
 -- Document 02, P1: "runs count as a list for route choice". The table reads an operand's form and its count, and nothing else.
 -- Assumes nothing.
-use Rattle.std.specs.Prelude.{ℕ, ◌*◌, cond, ltb}
+use Rattle.std.specs.Prelude.{ℕ, ◌*◌, cond, ltb, Option, Some, None}
 use Rattle.rows.specs.declared.Way.{Way}
 use Rattle.rows.specs.declared.Way.TheVariants.{Network, Loop}
 use Rattle.rules.specs.declared.Factors.{Factors}
@@ -40,6 +40,11 @@ number_of (Gathered Network) = 7
 number_of (Gathered Loop) = 8
 number_of (Read Network) = 9
 number_of (Read Loop) = 10
+
+-- as C callers and the program's lines have it: 0 outside composition
+abbrev pub route_number : Option Route → ℕ
+route_number None = 0
+route_number (Some r) = number_of r
 
 -- document 01's factors
 abbrev pub published : Factors

@@ -7,11 +7,13 @@ use Rattle.std.proofs.Math.Decide.{ℕ_discrete, dec_le}
 use Rattle.rows.specs.Word.{both}
 use Rattle.rows.specs.Laid.{words_for, written}
 use Rattle.rows.specs.Table.{Line, need, first, in_order, if_fine}
-use Rattle.rules.specs.declared.Answer.{Answer}
+use Rattle.rules.specs.Answer.{Answer}
 use Rattle.rules.specs.declared.Operation.{Operation}
 use Rattle.rules.specs.declared.Operation.TheVariants.{And, Or, AndNot, Not}
 use Rattle.rules.specs.Operand.{Operand, rows_of, length_of, set_checks}
 use Rattle.rules.specs.Answer.{answered, no_route}
+use Rattle.rows.specs.declared.Reason.TheVariants.{LengthsDiffer, NoRoom}
+use Rattle.rows.specs.Table.{operand_1, operand_2, no_operand}
 
 -- in the first only
 abbrev pub and_not : Bool → Bool → Bool
@@ -29,17 +31,17 @@ row_of Not = λ x y. not x
 abbrev pub pair_checks : Operand → Operand → ℕ → List Line
 pair_checks a b room =
     in_order
-    (set_checks 1 a
-    ∷ set_checks 2 b
-    ∷ (need (ℕ_discrete (length_of a.form) (length_of b.form)) 7 0 ∷ [])
-    ∷ (need (dec_le (words_for (length_of a.form)) room) 8 0 ∷ [])
+    (set_checks operand_1 a
+    ∷ set_checks operand_2 b
+    ∷ (need (ℕ_discrete (length_of a.form) (length_of b.form)) LengthsDiffer no_operand ∷ [])
+    ∷ (need (dec_le (words_for (length_of a.form)) room) NoRoom no_operand ∷ [])
     ∷ [])
 
 abbrev pub not_checks : Operand → ℕ → List Line
 not_checks a room =
     in_order
-    (set_checks 1 a
-    ∷ (need (dec_le (words_for (length_of a.form)) room) 8 0 ∷ [])
+    (set_checks operand_1 a
+    ∷ (need (dec_le (words_for (length_of a.form)) room) NoRoom no_operand ∷ [])
     ∷ [])
 
 -- ---- two operands, by g row by row

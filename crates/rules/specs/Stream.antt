@@ -3,17 +3,19 @@
 -- Assumes nothing.
 use Rattle.std.specs.Prelude.{ℕ, ◌+◌, Bool, List, [], ◌∷◌, length}
 use Rattle.std.proofs.Math.Decide.{ℕ_discrete, dec_le}
-use Rattle.rows.specs.declared.Verdict.{Verdict}
+use Rattle.rows.specs.Table.{Verdict}
 use Rattle.rows.specs.Rows.{count}
 use Rattle.rows.specs.Laid.{words_for, laid}
 use Rattle.rows.specs.Table.{Line, need, first, in_order, if_fine}
-use Rattle.rules.specs.declared.Answer.{Answer}
+use Rattle.rules.specs.Answer.{Answer}
 use Rattle.rules.specs.declared.State.{State}
 use Rattle.rules.specs.declared.Fed.{Fed}
 use Rattle.rules.specs.Operand.{Operand, limit, rows_of, length_of, count_of}
 use Rattle.rules.specs.Answer.{answered}
 use Rattle.rules.specs.Route.{published}
 use Rattle.rules.specs.Compose.{both_checks, result, routed}
+use Rattle.rows.specs.declared.Reason.TheVariants.{LengthsDiffer, NoRoom, StateOutOfBound, StreamOverLimit}
+use Rattle.rows.specs.Table.{no_operand}
 
 -- a pair: self and the rank mask, whole or a piece of each
 pub record Pair : Type 0 where
@@ -40,19 +42,22 @@ abbrev pub fresh : State
 fresh = state_of 0 0 0
 
 -- refusal 10's bound: kept <= ranks <= done <= 1,048,576
-abbrev pub state_checks : State → List Line
-state_checks st =
-    need (dec_le st.kept st.ranks.0) 10 0
-    ∷ need (dec_le st.ranks.0 st.done.0) 10 0
-    ∷ need (dec_le st.done.0 limit) 10 0
+abbrev pub bound_checks : ℕ → ℕ → ℕ → List Line
+bound_checks done ranks kept =
+    need (dec_le kept ranks) StateOutOfBound no_operand
+    ∷ need (dec_le ranks done) StateOutOfBound no_operand
+    ∷ need (dec_le done limit) StateOutOfBound no_operand
     ∷ []
+
+abbrev pub state_checks : State → List Line
+state_checks st = bound_checks st.done.0 st.ranks.0 st.kept
 
 -- 7, the rank piece's length is not the self piece's count; 11, done plus the piece's length is over the limit; 8
 abbrev pub piece_checks : ℕ → ℕ → ℕ → ℕ → List Line
 piece_checks ranks set end room =
-    need (ℕ_discrete ranks set) 7 0
-    ∷ need (dec_le end limit) 11 0
-    ∷ need (dec_le (words_for end) room) 8 0
+    need (ℕ_discrete ranks set) LengthsDiffer no_operand
+    ∷ need (dec_le end limit) StreamOverLimit no_operand
+    ∷ need (dec_le (words_for end) room) NoRoom no_operand
     ∷ []
 
 -- 10; the first operand's, then the second's; 7, 11, 8
@@ -69,7 +74,7 @@ abbrev pub moved : State → Pair → State
 moved st p = state_of (st.done.0 + length (rows_of p.self)) (st.ranks.0 + count (rows_of p.self)) (st.kept + count (kept p))
 
 -- by the verdict: the answer, the state handed back, and the output as it is left, its bits from done on and no other written
-abbrev pub fed_by : Verdict → State → Pair → Fed
+abbrev pub fed_by : Verdict → State → Pair → Fed State
 fed_by v st p = record { answer = answered v (kept p) (routed published p.self p.rank); state = if_fine v (moved st p) st }
 
 abbrev pub out_by : Verdict → State → Pair → List ℕ → List ℕ
@@ -78,7 +83,7 @@ out_by v st p out = if_fine v (laid st.done.0 (kept p) out) out
 unfoldable pub judged : State → Pair → ℕ → Verdict
 judged st p room = first (feed_checks st p room)
 
-abbrev pub fed : State → Pair → List ℕ → Fed
+abbrev pub fed : State → Pair → List ℕ → Fed State
 fed st p out = fed_by (judged st p (length out)) st p
 
 abbrev pub fed_out : State → Pair → List ℕ → List ℕ

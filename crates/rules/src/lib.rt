@@ -35,25 +35,18 @@ pub struct Run {
     pub past: u32,
 }
 
-// What every operation returns of its result: the count of its set rows, the route, 0 outside composition, and the density.
+// What every operation returns of its result: the count of its set rows, the route by which it was composed, none outside composition, and the density.
 #[derive(Clone, Copy)]
 pub struct Summary {
     pub count: u64,
-    pub route: u8,
+    pub route: Option<Route>,
     pub density: f64,
 }
 
-// An answer: a refusal, or its place empty, and the summary.
-#[derive(Clone, Copy)]
-pub struct Answer {
-    pub refusal: Refusal,
-    pub summary: Summary,
-}
-
-// What the writer of runs gives: its answer, and how many runs it wrote.
+// What the writer of runs gives: the summary, and how many runs it wrote.
 #[derive(Clone, Copy)]
 pub struct Written {
-    pub answer: Answer,
+    pub summary: Summary,
     pub runs: u64,
 }
 
@@ -88,40 +81,26 @@ pub enum Operation {
 
 // A stream's state: the rows fed, the ranks fed, which are the set rows among them, and how many rows were kept. The rows fed are the
 // next piece's first row, and the ranks fed its first rank; kept is a count and stands for neither.
-#[derive(Clone, Copy)]
+#[derive(Clone, Copy, Debug, PartialEq, Eq)]
 pub struct State {
     pub done: Row,
     pub ranks: Rank,
     pub kept: u64,
 }
 
-// What a feed gives: its answer, and the state to hand to the next feed.
-#[derive(Clone, Copy)]
-pub struct Fed {
-    pub answer: Answer,
-    pub state: State,
-}
-
-// What a recovery gives: its answer, and with 17 the first row outside self, which is 0 in every other answer.
-#[derive(Clone, Copy)]
-pub struct Recovered {
-    pub answer: Answer,
-    pub outside: Row,
-}
-
 // A recovery stream's state: the rows fed, the ranks fed, which are self's set rows among them, and how many of these were kept. The ranks fed are
 // the next piece's first bit in the output; done is where it begins in both masks.
-#[derive(Clone, Copy)]
+#[derive(Clone, Copy, Debug, PartialEq, Eq)]
 pub struct RecoveryState {
     pub done: Row,
     pub ranks: Rank,
     pub kept: u64,
 }
 
-// What a feed of recovery gives: its answer, with 17 the first row outside self, counted in the piece, and the state to hand to the next feed.
+// What a feed gives: its answer, and the state of its stream to hand to the next feed, which after a refusal is the one that it was given. A row that
+// 17 tells is counted in the piece.
 #[derive(Clone, Copy)]
-pub struct RecoveryFed {
-    pub answer: Answer,
-    pub outside: Row,
-    pub state: RecoveryState,
+pub struct Fed<S> {
+    pub answer: Result<Summary, Refusal>,
+    pub state: S,
 }

@@ -1,5 +1,5 @@
-pub mod NumbersLaws
-pub mod RecordsLaws
-pub mod SweepLaws
+pub mod PairLaws
+pub mod WeighLaws
+pub mod LayLaws
 pub mod SearchLaws
 pub mod FoundLaws

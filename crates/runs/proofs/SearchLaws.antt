@@ -1,106 +1,61 @@
--- An operand's runs, found one after the other: a row sought chunk by chunk, the entries that follow each other, and for every form that the
+-- An operand's runs, found one after the other: the first row sought, the entries that follow each other, and for every form that the
 -- run found and what is left from there on are what was left before. By recursion over rows, entries and numbers.
 -- Assumes nothing.
-use Prim.Native.Nat.{ℕ, zero, suc, ◌+◌, ◌-◌, ◌^◌, ◌≤◌, ◌<◌}
-use native.Mathlib.Nat.{zero-add, add-zero, suc-add, add-suc, add_assoc, lt_of_lt_of_le}
+use Prim.Native.Nat.{ℕ, suc, ◌+◌, ◌-◌, ◌<◌}
+use native.Mathlib.Nat.{add-zero, suc-add, add-suc}
 use native.Mathlib.Omega.{arith}
 use native.Mathlib.Decide.{ℕ_discrete}
-use mathlib.Core.Path.{◌≡◌, refl, sym, ap, ap₂, subst, ◌∙◌}
+use mathlib.Core.Path.{◌≡◌, refl, sym, ap, ◌∙◌}
 use mathlib.Core.Bool.{Bool, true, false, not, cond}
 use mathlib.Core.List.{List, [], ◌∷◌, ◌++◌, map}
-use lib.Bits.{bit_and}
-use lib.Count.{ones, ones_in, count_trailing_zeros}
 use lib.Dec.{eqb}
-use lib.ListN.{length, take, drop, get_or, length-map, length-drop}
-use lib.Pow.{pow_mono}
-use lib.Seq.{drop-cons, drop-drop, length-take-le}
-use Rattle.rows.specs.Rows.{count}
-use Rattle.rows.specs.Word.{bits_of, word_of}
-use Rattle.rows.specs.Lists.{select, set_rows}
+use lib.ListN.{length, drop, get_or, length-map, length-drop}
+use lib.Seq.{drop-cons, drop-drop, get_or-drop}
+use Rattle.std.proofs.lemmas.List.{get_or-map}
+use Rattle.rows.specs.Lists.{select}
 use Rattle.rows.specs.Runs.{turns}
-use Rattle.rows.proofs.ClearLaws.{rows_low}
-use Rattle.rows.proofs.ListLaws.{eqb_same, eqb_other, rows_count}
-use Rattle.rows.proofs.PartLaws.{rows_word}
-use Rattle.rows.proofs.SelectLaws.{select_unset, select_in, select_skip}
-use Rattle.rows.proofs.WordLaws.{word_of_lt, word_of_bits_of, not_bits, ones_word}
+use Rattle.rows.proofs.ListLaws.{eqb_same, eqb_other}
+use Rattle.rows.proofs.SelectLaws.{select_unset}
 use Rattle.turns.specs.Gaps.{unless}
 use Rattle.turns.proofs.ListTurnLaws.{gaps, list_turns}
+use Rattle.outside.specs.declared.words.Sought.{Sought}
+use Rattle.outside.specs.declared.words.Sought.TheVariants.{Set, Unset}
+use Rattle.outside.specs.First.{has, sought, First}
+use Rattle.outside.proofs.FirstLaws.{first_select}
 use Rattle.runs.specs.Searched.{hits, seek_row, run_on}
 
 -- ---- the rows that are sought
 
-hits_append : (x : Bool) (s t : List Bool) → hits x (s ++ t) ≡ hits x s ++ hits x t
-hits_append true s t = refl
-hits_append false [] t = refl
-hits_append false (b ∷ s) t = ap (λ (l : List Bool). not b ∷ l) (hits_append false s t)
+hits_at : (which : Sought) (s : List Bool) (i : ℕ) → i < length s → has (hits which s) i ≡ sought which (has s i)
+hits_at Set s i h = refl
+hits_at Unset s i h = get_or-map not s i false false h
 
-pub hits_length : (x : Bool) (s : List Bool) → length (hits x s) ≡ length s
-hits_length true s = refl
-hits_length false s = length-map s not
+hits_length : (which : Sought) (s : List Bool) → length (hits which s) ≡ length s
+hits_length Set s = refl
+hits_length Unset s = length-map s not
 
--- a word of n bits, and its complement among them
-pub set_hits : (n w : ℕ) → w < 2 ^ n → w ≡ word_of (hits true (bits_of n w))
-set_hits n w h = sym (word_of_bits_of n w h)
-
-pub unset_hits : (n w : ℕ) → w < 2 ^ n → 2 ^ n - 1 - w ≡ word_of (hits false (bits_of n w))
-unset_hits n w h = sym (word_of_bits_of n (2 ^ n - 1 - w) (omega arith)) ∙ ap word_of (not_bits n w h)
-
-no_ones : ones 0 ≡ 0
-unfolding ones ones_in
-no_ones = refl
-
-split_here : (row n : ℕ) (s : List Bool) → drop row s ≡ take n (drop row s) ++ drop (row + n) s
-split_here row n s = sym (take_drop n (drop row s)) ∙ ap (λ (l : List Bool). take n (drop row s) ++ l) (drop-drop n row s)
+-- the first of them from a row on
+pub seek_first : (which : Sought) (from : ℕ) (s : List Bool) (r : ℕ) → First (λ i. sought which (has s i)) from (length s) r → r ≡ seek_row which from s
+seek_first which from s r f = omega (arith, f.on, first_select t (r - from) later)
   where
-    take_drop : (k : ℕ) (l : List Bool) → take k l ++ drop k l ≡ l
-    take_drop zero l = refl
-    take_drop (suc k) [] = refl
-    take_drop (suc k) (b ∷ l) = ap (λ (m : List Bool). b ∷ m) (take_drop k l)
+    t : List Bool
+    t = hits which (drop from s)
 
--- a chunk in which nothing is found is passed, and in one in which something is the lowest bit is it
-module _ (x : Bool) (row n : ℕ) (s : List Bool) (here : ℕ) (short : n ≤ 64) (within : row + n ≤ length s) (is : here ≡ word_of (hits x (take n (drop row s))))
-  where
-    abbrev piece : List Bool
-    piece = hits x (take n (drop row s))
+    long : length t ≡ length s - from
+    long = hits_length which (drop from s) ∙ length-drop from s
 
-    piece_length : length piece ≡ n
-    piece_length = hits_length x (take n (drop row s)) ∙ length-take-le n (drop row s) (omega (arith, length-drop row s))
+    at : (i : ℕ) → from + i < length s → has t i ≡ sought which (has s (from + i))
+    at i h = hits_at which (drop from s) i (omega (arith, length-drop from s)) ∙ ap (sought which) (get_or-drop from s i false)
 
-    parts : hits x (drop row s) ≡ piece ++ hits x (drop (row + n) s)
-    parts = ap (hits x) (split_here row n s) ∙ hits_append x (take n (drop row s)) (drop (row + n) s)
-
-    pub seek_none : here ≡ 0 → seek_row x row s ≡ seek_row x (row + n) s
-    seek_none e =
-        let rest = hits x (drop (row + n) s) in
-        let none : count piece ≡ 0 = sym (ones_word piece) ∙ ap ones (sym is ∙ e) ∙ no_ones in
-        let left : 0 - count piece ≡ 0 = omega (arith, none) in
-        ap (λ (l : List Bool). row + select l 0) parts
-        ∙ ap (λ (k : ℕ). row + k) (select_skip piece rest 0 (omega (arith, none)) ∙ ap₂ (λ (j k : ℕ). j + select rest k) piece_length left)
-        ∙ sym (add_assoc row n (select rest 0))
-
-    low : 0 < here → set_rows 0 piece ≡ count_trailing_zeros 64 here ∷ set_rows 0 (bits_of 64 (bit_and here (here - 1)))
-    low h =
-        let small : here < 2 ^ 64 = subst (λ (k : ℕ). k < 2 ^ 64) (sym is)
-        (lt_of_lt_of_le (word_of_lt piece) (pow_mono {i = length piece} {j = 64} (omega (arith, piece_length)))) in
-        sym (rows_word 0 64 piece (omega (arith, piece_length))) ∙ ap (λ (k : ℕ). set_rows 0 (bits_of 64 k)) (sym is) ∙ rows_low 0 64 here h small
-        ∙ ap (λ (k : ℕ). k ∷ set_rows 0 (bits_of 64 (bit_and here (here - 1)))) (zero-add (count_trailing_zeros 64 here))
-
-    some : 0 < here → 0 < count piece
-    some h = omega (arith, ap length (low h), rows_count 0 piece)
-
-    first : 0 < here → select piece 0 ≡ count_trailing_zeros 64 here
-    first h = ap (λ (l : List ℕ). get_or l 0 (length piece)) (low h)
-
-    pub seek_hit : 0 < here → seek_row x row s ≡ row + count_trailing_zeros 64 here
-    seek_hit h = ap (λ (k : ℕ). row + k) (ap (λ (l : List Bool). select l 0) parts ∙ select_in piece (hits x (drop (row + n) s)) 0 (some h) ∙ first h)
-
-select_most : (s : List Bool) → select s 0 ≤ length s
-select_most [] = omega arith
-select_most (true ∷ s) = omega arith
-select_most (false ∷ s) = omega (arith, select_unset s 0, select_most s)
-
-pub seek_most : (x : Bool) (row : ℕ) (s : List Bool) → row ≤ length s → seek_row x row s ≤ length s
-seek_most x row s h = omega (arith, select_most (hits x (drop row s)), hits_length x (drop row s), length-drop row s)
+    later : First (has t) 0 (length t) (r - from)
+    later = record {
+      on = omega arith;
+      within = omega (arith, long, f.within);
+      clear = λ i h k. at i (omega (arith, f.within)) ∙ f.clear (from + i) (omega arith) (omega arith);
+      here = λ l.
+          let back : from + (r - from) ≡ r = omega (arith, f.on) in
+          at (r - from) (omega (arith, long)) ∙ ap (λ (i : ℕ). sought which (has s i)) back ∙ f.here (omega (arith, long));
+    }
 
 -- ---- the runs of rows: to the next set row, and from there to the next that is not
 
@@ -121,9 +76,9 @@ set_run b (true ∷ t) =
 
 pub words_next : (at : ℕ) (s : List Bool) → 0 < length (turns false at (drop at s))
     → turns false at (drop at s)
-    ≡ seek_row true at s ∷ seek_row false (seek_row true at s) s ∷ turns false (seek_row false (seek_row true at s) s) (drop (seek_row false (seek_row true at s) s) s)
+    ≡ seek_row Set at s ∷ seek_row Unset (seek_row Set at s) s ∷ turns false (seek_row Unset (seek_row Set at s) s) (drop (seek_row Unset (seek_row Set at s) s) s)
 words_next at s h =
-    let f = seek_row true at s in
+    let f = seek_row Set at s in
     let k = select (map not (drop f s)) 0 in
     unset_run at (drop at s) h ∙ ap (λ (l : List Bool). f ∷ turns true f l) (drop-drop (select (drop at s) 0) at s)
     ∙ ap (λ (l : List ℕ). f ∷ l) (set_run f (drop f s) ∙ ap (λ (l : List Bool). (f + k) ∷ turns false (f + k) l) (drop-drop k f s))

@@ -1,5 +1,1 @@
-pub mod Numbered
-pub mod Packed
-pub mod Swept
 pub mod Searched
-pub mod Planned

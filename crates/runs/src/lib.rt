@@ -7,57 +7,78 @@ ghost use Rattle.rules.specs.Operand.{lent};
 ghost use Rattle.rules.specs.Convert.{to_words, to_words_out, to_runs, to_runs_out};
 ghost use Rattle.rules.specs.Records.{numbers_of, to_numbers, to_numbers_out, to_records, to_records_out};
 
-use numbers::{start_numbers, told_by, write_numbers};
-use plan::{plan_runs, runs_of, with_room, written_of};
-use records::{judge_records, pairs_for, write_records};
-use rows::Refusal;
-use rules::{Answer, Form, Run, Written};
-use search::{start_cursor, write_found};
-use words::{begin_laying, finish_laying, lay_each, start_sweep, weigh_each};
+use laid::inner::clear_last;
+use lent::inner::words_for;
+use mask::inner::answers::own_answer;
+use mask::inner::runs::count_runs;
+use operand::inner::answers::accepted;
+use operand::inner::checks::check;
+use operand::inner::counts::Counted;
+use rows::inner::verdicts::{has_room, refusal_of};
+use rows::{Reason, Refusal, Which};
+use rules::{Form, Run, Summary, Written};
+use search::write_found;
+use words::{check_runs, lay_runs};
 
-mod numbers;
-mod plan;
-mod records;
 mod search;
 mod words;
 
 // Records to numbers: two for each run, over the front of out; later numbers stay.
-pub fn to_numbers(runs: &[Run], out: &mut [u32]) -> Refusal
+pub fn to_numbers(runs: &[Run], out: &mut [u32]) -> Result<(), Refusal>
     ensures { (result ≡ to_numbers runs.now out.old) × (out.new ≡ to_numbers_out runs.now out.old) }
 {
-    let started = start_numbers(runs.len(), out.len());
-    let ended = write_numbers(runs, started, out);
-    told_by(ended)
+    has_room(runs.len() as u64 * 2, out.len() as u64)?;
+    for (i, run) in runs.iter().enumerate() {
+        out[2 * i] = run.first;
+        out[2 * i + 1] = run.past;
+    }
+    Ok(())
 }
 
 // Numbers to records: one for each pair, over the front of out; later records stay.
-pub fn to_records(numbers: &[u32], out: &mut [Run]) -> Refusal
+pub fn to_records(numbers: &[u32], out: &mut [Run]) -> Result<(), Refusal>
     ensures { (result ≡ to_records numbers.now out.old) × (out.new ≡ to_records_out numbers.now out.old) }
 {
-    let told = judge_records(numbers.len(), out.len());
-    write_records(numbers, pairs_for(told, numbers.len()), out);
-    told
+    let (pairs, rest) = numbers.as_chunks::<2>();
+    if !rest.is_empty() {
+        return Err(refusal_of(Which::First, Reason::RunsUnfit));
+    }
+    has_room(pairs.len() as u64, out.len() as u64)?;
+    for (i, &[first, past]) in pairs.iter().enumerate() {
+        out[i] = Run { first, past };
+    }
+    Ok(())
 }
 
-// Records to words: what `to_words` tells and writes of their numbers.
-pub fn runs_to_words(length: u64, runs: &[Run], out: &mut [u64]) -> Answer
+// Records to words: what `to_words` tells and writes of their numbers, in two passes, so that nothing is written where a run does not fit.
+pub fn runs_to_words(length: u64, runs: &[Run], out: &mut [u64]) -> Result<Summary, Refusal>
     ensures { (result ≡ to_words (lent (Runs length) [] (numbers_of runs.now)) out.old)
         × (out.new ≡ to_words_out (lent (Runs length) [] (numbers_of runs.now)) out.old) }
 {
-    let started = start_sweep(length);
-    let weighed = weigh_each(runs, started, out);
-    let begun = begin_laying(weighed, out);
-    let laid = lay_each(runs, begun, out);
-    finish_laying(laid, out)
+    let count = check_runs(length, runs)?;
+    has_room(words_for(length), out.len() as u64)?;
+    // the bits past the length in the last word
+    clear_last(out, length);
+    lay_runs(length, runs, out);
+    Ok(accepted(count, None, length))
 }
 
 // Any form to records: what `to_runs` tells and writes, a record for each run; later records stay.
-pub fn to_run_records(form: Form, words: &[u64], rows: &[u32], out: &mut [Run]) -> Written
+pub fn to_run_records(
+    form: Form,
+    words: &[u64],
+    rows: &[u32],
+    out: &mut [Run],
+) -> Result<Written, Refusal>
     ensures { (result ≡ to_runs (lent form words.now rows.now) (numbers_of out.old))
         × (numbers_of out.new ≡ to_runs_out (lent form words.now rows.now) (numbers_of out.old)) }
 {
-    let found = plan_runs(words, rows, form);
-    let plan = with_room(found, out.len());
-    write_found(words, rows, start_cursor(form), runs_of(plan), out);
-    written_of(plan)
+    let count = check(Which::First, form, words, rows)?;
+    let runs = count_runs(form, words, rows) / 2;
+    has_room(runs, out.len() as u64)?;
+    write_found(form, words, rows, &mut out[..runs as usize]);
+    Ok(Written {
+        summary: own_answer(Counted { form, count }),
+        runs,
+    })
 }

@@ -22,9 +22,16 @@ use Rattle.rows.proofs.SpliceLaws.{splice_one, splice_append, splice_eq}
 use Rattle.rows.proofs.WordLaws.{word_of_lt}
 use Rattle.rows.proofs.WordsLaws.{fit_length}
 use Rattle.rows.proofs.FitLaws.{view_step}
-use Rattle.rules.specs.declared.Answer.{Answer}
+use Rattle.rules.specs.Answer.{Answer}
 use Rattle.lines.specs.Text.{digit_of, digits, line, bits_key, decimal_in, decimal, lines, lines_of}
 use Rattle.lines.proofs.SaidLaws.{digits_length}
+use Rattle.std.specs.Prelude.{Ok, Err}
+use Rattle.rows.specs.declared.Refusal.{Refusal}
+use Rattle.rows.specs.Table.{number_of}
+use Rattle.rows.proofs.TableLaws.{chosen}
+use Rattle.rules.specs.declared.Summary.{Summary}
+use Rattle.lines.proofs.AnswerLaws.{lines_refused}
+use Rattle.rules.specs.Route.{route_number}
 
 -- ---- bytes
 
@@ -118,18 +125,11 @@ digit_next i bit ws h e =
     ap digits (view_step 0 i 1 ws (omega arith)) ∙ digits_append (view 0 i ws) bits
     ∙ ap (λ (l : List ℕ). digits (view 0 i ws) ++ l) (one_digit (drop (0 + i) (bits_of_all 64 ws)) ∙ ap (λ (b : ℕ). (48 + b) ∷ []) (sym e))
 
--- ---- an answer's lines
+-- ---- an answer's lines: the rows of what is accepted, and none with a refusal
 
-pub choose_le : {A : Type 0} (d : Dec A) (n : ℕ) → choose d n 0 ≤ n
-choose_le (yes a) n = omega arith
-choose_le (no h) n = omega arith
-
-shown_view : {A : Type 0} (d : Dec A) (n : ℕ) (ws : List ℕ) → view 0 (choose d n 0) ws ≡ choose d (view 0 n ws) []
-shown_view (yes a) n ws = refl
-shown_view (no h) n ws = refl
-
-pub answer_lines : (a : Answer) (n k : ℕ) (ws : List ℕ) → k ≡ choose (ℕ_discrete a.refusal.number 0) n 0
-    → lines a.refusal.number a.summary.route a.summary.count (view 0 k ws) ≡ lines_of a (view 0 n ws)
+pub accepted_lines : (a : Answer) (s : Summary) (rows : List Bool) → a ≡ Ok s → lines 0 (route_number s.route) s.count rows ≡ lines_of a rows
 unfolding lines_of
-answer_lines a n k ws e =
-    ap (lines a.refusal.number a.summary.route a.summary.count) (ap (λ (m : ℕ). view 0 m ws) e ∙ shown_view (ℕ_discrete a.refusal.number 0) n ws)
+accepted_lines a s rows e = rw e (ap (lines 0 (route_number s.route) s.count) (sym (chosen (ℕ_discrete 0 0) rows [] refl)))
+
+pub refused_lines : (a : Answer) (r : Refusal) (rows : List Bool) → a ≡ Err r → lines (number_of r.reason) 0 0 [] ≡ lines_of a rows
+refused_lines a r rows e = rw e (sym (lines_refused r.reason r.operand rows))

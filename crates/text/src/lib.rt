@@ -5,9 +5,8 @@ ghost use Rattle.std.specs.Prelude.{◌≡◌, length};
 ghost use Rattle.lines.specs.Text.{written_for, text_out};
 
 use lines::Written;
-use operand::inner::answers::refused;
+use rows::Reason;
 use rows::inner::verdicts::refusal;
-use rules::Answer;
 
 mod find;
 mod put;
@@ -23,7 +22,7 @@ pub fn answer(input: &[u8], out: &mut [u8]) -> Written
     let len = told.len;
     if out.len() < len {
         return Written {
-            answer: refused(refusal(8, 0)),
+            answer: Err(refusal(Reason::NoRoom)),
             len: 0,
         };
     }

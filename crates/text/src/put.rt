@@ -1,4 +1,5 @@
-// Parts of a text, each put into lent bytes from an index on; each tells the index after it.
+// Parts of a text, each put into lent bytes from an index on; each tells the index after it. No `write!`: std has no clause on which bytes
+// that leaves in a slice that is lent.
 ghost use Rattle.std.specs.Prelude.{◌≡◌, ◌+◌, ◌*◌, ◌≤◌, length};
 ghost use Rattle.std.proofs.Math.Decide.{ℕ_discrete};
 ghost use Rattle.rows.specs.Rows.{splice};
@@ -7,7 +8,10 @@ ghost use Rattle.rows.specs.Table.{choose};
 ghost use Rattle.lines.specs.Text.{digits, line, bits_key, decimal, lines, lines_of, with_text};
 
 use lines::Written;
-use rules::Answer;
+use routes::inner::route_number;
+use rows::Refusal;
+use rows::inner::numbers::number;
+use rules::Summary;
 
 // All of bytes.
 pub fn put_bytes(bytes: &[u8], at: usize, out: &mut [u8]) -> usize
@@ -46,13 +50,11 @@ fn put_digits(words: &[u64], n: usize, at: usize, out: &mut [u8]) -> usize
     requires { (n ≤ length words.now * 64) × (at + n ≤ length out.old) }
     ensures { (result ≡ at + n) × (out.new ≡ splice at out.old (digits (view 0 n words.now))) }
 {
-    let mut i: usize = 0;
-    while i < n {
+    for i in 0..n {
         let bit = lent::inner::chunk(words, 0, i as u64, 1);
         out[at + i] = b'0' + bit as u8;
-        i += 1;
     }
-    at + i
+    at + n
 }
 
 // A line with the first n bits of words.
@@ -79,31 +81,21 @@ fn put_lines(refusal: u8, route: u8, count: u64, words: &[u64], n: usize, out: &
     put_bits(words, n, third, out)
 }
 
-// A refusal shows no rows.
-fn shown(refusal: u8, n: usize) -> usize
-    ensures { result ≡ choose (ℕ_discrete refusal 0) n 0 }
-{
-    if refusal == 0 {
-        return n;
-    }
-    0
-}
-
-// The lines of an answer, whose rows are the first n bits of words.
-pub fn put_answer(answer: Answer, words: &[u64], n: usize, out: &mut [u8]) -> Written
+// The lines of an answer, whose rows are the first n bits of words. A refusal shows no rows.
+pub fn put_answer(
+    answer: Result<Summary, Refusal>,
+    words: &[u64],
+    n: usize,
+    out: &mut [u8],
+) -> Written
     requires { (n ≤ length words.now * 64) × (n + 89 ≤ length out.old) }
     ensures { (result ≡ with_text answer (lines_of answer (view 0 n words.now)))
         × (out.new ≡ splice 0 out.old (lines_of answer (view 0 n words.now)))
         × (result.len ≤ n + 89) }
 {
-    let refusal = answer.refusal.number;
-    let len = put_lines(
-        refusal,
-        answer.summary.route,
-        answer.summary.count,
-        words,
-        shown(refusal, n),
-        out,
-    );
+    let len = match answer {
+        Ok(summary) => put_lines(0, route_number(summary.route), summary.count, words, n, out),
+        Err(refusal) => put_lines(number(refusal.reason), 0, 0, words, 0, out),
+    };
     Written { answer, len }
 }

@@ -4,15 +4,15 @@ ghost use Rattle.rows.specs.Rows.{count, splice};
 ghost use Rattle.rows.specs.Words.{view};
 ghost use Rattle.rows.specs.Laid.{words_for, written};
 ghost use Rattle.lines.specs.Text.{rows_in, answer_for, text_of, with_text};
-ghost use Rattle.lines.specs.Parts.{answer_words, told_words, found_in};
+ghost use Rattle.lines.specs.Parts.{answer_words, told_words, counted, found_in};
 
 use super::find::find;
 use super::put::put_answer;
 use intersect_by_rank::intersect_by_rank;
 use laid::inner::{clear_last, put};
 use lent::inner::{count_view, words_for};
-use lines::{Found, Written};
-use operand::inner::answers::refused;
+use lines::{Masks, Written};
+use rows::Reason;
 use rows::inner::verdicts::refusal;
 use rules::Form;
 
@@ -22,12 +22,9 @@ fn pack(input: &[u8], at: usize, n: usize, words: &mut [u64])
     ensures { words.new ≡ written n (rows_in (drop at input.now)) words.old }
 {
     clear_last(words, n as u64);
-    let mut i: usize = 0;
-    while i < n {
-        // 48 is the code of 0
-        let digit = input[at + i] as u64;
-        put(words, i as u64, 1, digit - 48);
-        i += 1;
+    for i in 0..n {
+        let digit = input[at + i] - b'0';
+        put(words, i as u64, 1, u64::from(digit));
     }
 }
 
@@ -74,7 +71,7 @@ fn tell_words(
 
 // The composition of the two masks that were found, told.
 fn tell_masks(input: &[u8], s: usize, r: usize, out: &mut [u8]) -> Written
-    requires { (found_in input.now ≡ Found.Masks s r) × (8281 ≤ length out.old) }
+    requires { (found_in input.now ≡ Some (counted s r)) × (8281 ≤ length out.old) }
     ensures { (result ≡ with_text (answer_for input.now) (text_of input.now))
         × (out.new ≡ splice 0 out.old (text_of input.now))
         × (result.len ≤ 8281) }
@@ -96,10 +93,10 @@ pub fn tell(input: &[u8], out: &mut [u8]) -> Written
     ensures { (result ≡ with_text (answer_for input.now) (text_of input.now)) × (take result.len out.new ≡ text_of input.now) × (result.len ≤ 8281) }
 {
     match find(input) {
-        Found::Malformed => {
+        None => {
             let none = [0u64; 1];
-            put_answer(refused(refusal(13, 0)), &none, 0, out)
+            put_answer(Err(refusal(Reason::Malformed)), &none, 0, out)
         }
-        Found::Masks { s, r } => tell_masks(input, s, r, out),
+        Some(Masks { s, r }) => tell_masks(input, s, r, out),
     }
 }

@@ -1,14 +1,20 @@
 // A case: an input, and the text that is to be written for it.
-ghost use Rattle.std.specs.Prelude.{◌≤◌, length};
-
 use super::files::{read_answer, read_file};
-use super::output::{MARK, same, untouched};
 use lines::Written;
+use rows::{Reason, Refusal};
+use std::fmt;
 use std::rt::Files;
 
+// What stands in an output before it is lent. No text has this byte.
+const MARK: u8 = 170;
+
+// What is found against the table of the names or against a case.
 #[derive(Clone, Copy)]
 pub enum Finding {
-    Agrees,
+    NoTable,
+    LongTable,
+    NoLastEnd,
+    NoNames,
     BadName,
     NoInput,
     NoAnswer,
@@ -16,100 +22,79 @@ pub enum Finding {
     EightDiffers,
 }
 
-pub fn differs(finding: Finding) -> bool {
-    match finding {
-        Finding::Agrees => false,
-        _ => true,
+impl fmt::Display for Finding {
+    fn fmt<W: fmt::Write>(&self, f: &mut fmt::Formatter<W>) -> fmt::Result {
+        f.write_str(match self {
+            Finding::NoTable => "cannot be read",
+            Finding::LongTable => "too long",
+            Finding::NoLastEnd => "the last line has no end",
+            Finding::NoNames => "no names",
+            Finding::BadName => "no name of 1 to 32 bytes",
+            Finding::NoInput => "the input cannot be read",
+            Finding::NoAnswer => "the answer cannot be read",
+            Finding::TextDiffers => "the text differs",
+            Finding::EightDiffers => "the answer to a shorter output differs",
+        })
     }
+}
+
+// Nothing was written over any of these bytes.
+fn untouched(bytes: &[u8]) -> bool {
+    bytes.iter().all(|byte| *byte == MARK)
 }
 
 // The text for the input is this one, and the bytes after it are as they were.
 fn tells(input: &[u8], text: &[u8]) -> bool {
     let mut out = [MARK; 8228];
     let written = text::answer(input, &mut out);
-    let len = written.len;
-    if !same(&out[..len], text) {
-        return false;
-    }
-    untouched(&out[len..])
+    let (told, later) = out.split_at(written.len);
+    told == text && untouched(later)
 }
 
 // A refusal 8 as document 01 has it, and no text.
 fn is_eight(written: Written) -> bool {
-    let answer = written.answer;
-    let refusal = answer.refusal;
-    let summary = answer.summary;
-    if refusal.number != 8 {
-        return false;
-    }
-    if refusal.operand != 0 {
-        return false;
-    }
-    if summary.count != 0 {
-        return false;
-    }
-    if summary.route != 0 {
-        return false;
-    }
-    if summary.density != 0.0 {
-        return false;
-    }
-    written.len == 0
+    matches!(
+        written,
+        Written {
+            answer: Err(Refusal {
+                reason: Reason::NoRoom,
+                operand: None,
+            }),
+            len: 0,
+        }
+    )
 }
 
 // An output that is a byte shorter than the text gets 8, and is as it was.
 fn refuses_shorter(input: &[u8], text: &[u8]) -> bool {
-    if text.len() == 0 {
-        return false;
-    }
-    if text.len() > 8228 {
+    if text.is_empty() || text.len() > 8228 {
         return false;
     }
     let mut out = [MARK; 8228];
     let short = text.len() - 1;
     let written = text::answer(input, &mut out[..short]);
-    if !is_eight(written) {
-        return false;
-    }
-    untouched(&out)
+    is_eight(written) && untouched(&out)
 }
 
-fn hold(input: &[u8], text: &[u8]) -> Finding {
+fn hold(input: &[u8], text: &[u8]) -> Result<(), Finding> {
     if !tells(input, text) {
-        return Finding::TextDiffers;
+        return Err(Finding::TextDiffers);
     }
     if !refuses_shorter(input, text) {
-        return Finding::EightDiffers;
+        return Err(Finding::EightDiffers);
     }
-    Finding::Agrees
+    Ok(())
 }
 
-fn run_named<R: Files>(rt: &R, name: &[u8]) -> Finding
-    requires { length name.now ≤ 32 }
-{
+pub fn run_case<R: Files>(rt: &R, name: &[u8]) -> Result<(), Finding> {
+    if name.is_empty() || name.len() > 32 {
+        return Err(Finding::BadName);
+    }
     // as many bytes as the program reads
     let mut input = [0u8; 16397];
-    let got = read_file(rt, name, &mut input);
-    if got.failed {
-        return Finding::NoInput;
-    }
+    let n = read_file(rt, name, &mut input).map_err(|_| Finding::NoInput)?;
     // a byte more than the longest text has, so that a longer file differs
     let mut text = [0u8; 8229];
-    let answer = read_answer(rt, name, &mut text);
-    if answer.failed {
-        return Finding::NoAnswer;
-    }
-    let n = got.len;
-    let m = answer.len;
+    let m = read_answer(rt, name, &mut text).map_err(|_| Finding::NoAnswer)?;
     hold(&input[..n], &text[..m])
-}
-
-pub fn run_case<R: Files>(rt: &R, name: &[u8]) -> Finding {
-    if name.len() == 0 {
-        return Finding::BadName;
-    }
-    if name.len() > 32 {
-        return Finding::BadName;
-    }
-    run_named(rt, name)
 }

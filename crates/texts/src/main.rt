@@ -2,9 +2,7 @@
 // after the name the text that is to be written for it.
 #![tactic(auto)]
 
-ghost use Rattle.std.specs.Prelude.{◌≤◌, length};
-
-use case::{Finding, differs, run_case};
+use case::{Finding, run_case};
 use files::read_file;
 use std::io;
 use std::io::Write;
@@ -12,85 +10,55 @@ use std::rt::Files;
 
 mod case;
 mod files;
-mod input;
-mod output;
 
-// How many cases agreed, and whether these are all.
-#[derive(Drop)]
-struct Tally {
-    agreed: u64,
-    all: bool,
+// A finding, and the name of the file that it is against.
+#[derive(Clone, Copy)]
+struct Failure<'a> {
+    name: &'a [u8],
+    finding: Finding,
 }
 
-// The index of the first newline from index at on, or of the end.
-fn line_end(table: &[u8], at: usize) -> usize
-    requires { at ≤ length table.now }
-    ensures { (at ≤ result) × (result ≤ length table.now) }
-{
-    let mut i = at;
-    while i < table.len() {
-        if table[i] == b'\n' {
-            return i;
-        }
-        i += 1;
-    }
-    i
-}
-
-fn print_finding(rt: &impl Print, name: &[u8], finding: Finding) -> io::Result<()> {
-    io::writer(rt).write_all(name)?;
-    match finding {
-        Finding::Agrees => println!(rt; ": agrees"),
-        Finding::BadName => println!(rt; ": no name of 1 to 32 bytes"),
-        Finding::NoInput => println!(rt; ": the input cannot be read"),
-        Finding::NoAnswer => println!(rt; ": the answer cannot be read"),
-        Finding::TextDiffers => println!(rt; ": the text differs"),
-        Finding::EightDiffers => println!(rt; ": the answer to a shorter output differs"),
+// A finding against the table of the names itself.
+fn table_failure(finding: Finding) -> Failure<'static> {
+    Failure {
+        name: b"names",
+        finding,
     }
 }
 
 // Every name in turn, up to the first whose case differs. A last line without its newline is not taken.
-fn run_all<R: Files + Print>(rt: &R, table: &[u8]) -> io::Result<Tally> {
-    let mut agreed: u64 = 0;
-    let mut at: usize = 0;
-    while at < table.len() {
-        let end = line_end(table, at);
-        if end == table.len() {
-            println!(rt; "names: the last line has no end")?;
-            return Ok(Tally { agreed, all: false });
-        }
-        let finding = run_case(rt, &table[at..end]);
-        if differs(finding) {
-            print_finding(rt, &table[at..end], finding)?;
-            return Ok(Tally { agreed, all: false });
-        }
-        agreed += 1;
-        at = end + 1;
+fn run_all<'a, R: Files>(rt: &R, table: &'a [u8]) -> Result<(), Failure<'a>> {
+    for line in table.split_inclusive(|byte| *byte == b'\n') {
+        let [name @ .., b'\n'] = line else {
+            return Err(table_failure(Finding::NoLastEnd));
+        };
+        run_case(rt, name).map_err(|finding| Failure { name, finding })?;
     }
-    Ok(Tally { agreed, all: true })
+    Ok(())
 }
 
-// A table that fills its room may have been cut, and one without names shows nothing.
-fn run_table<R: Files + Print>(rt: &R, table: &[u8], room: usize) -> io::Result<()> {
-    if table.len() == room {
-        return println!(rt; "names: too long");
+// How many cases agreed. A table that fills its room may have been cut, and one without names shows nothing.
+fn run_table<'a, R: Files>(rt: &R, room: &'a mut [u8]) -> Result<usize, Failure<'a>> {
+    let len = read_file(rt, b"names", room).map_err(|_| table_failure(Finding::NoTable))?;
+    if len == room.len() {
+        return Err(table_failure(Finding::LongTable));
     }
-    let tally = run_all(rt, table)?;
-    if !tally.all {
-        return Ok(());
+    let table = &room[..len];
+    run_all(rt, table)?;
+    // each name has a newline after it
+    match table.iter().filter(|byte| **byte == b'\n').count() {
+        0 => Err(table_failure(Finding::NoNames)),
+        cases => Ok(cases),
     }
-    if tally.agreed == 0 {
-        return println!(rt; "names: no names");
-    }
-    println!(rt; "texts: {} cases, 0 differ", tally.agreed)
 }
 
 fn main(rt: HostRuntime) -> io::Result<()> {
     let mut table = [0u8; 4096];
-    let got = read_file(&rt, b"names", &mut table);
-    if got.failed {
-        return println!(rt; "names: cannot be read");
+    match run_table(&rt, &mut table) {
+        Ok(cases) => println!(rt; "texts: {cases} cases, 0 differ"),
+        Err(Failure { name, finding }) => {
+            io::writer(&rt).write_all(name)?;
+            println!(rt; ": {finding}")
+        }
     }
-    let len = got.len;
-    run_table(&rt, &table[..len], 4096)
 }

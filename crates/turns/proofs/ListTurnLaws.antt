@@ -1,7 +1,7 @@
 -- The runs of a list of row numbers: an entry that is not the row past its predecessor ends a run and begins one. By recursion over the
 -- rows against the list of their set rows, and over the list.
 -- Assumes nothing.
-use Prim.Native.Nat.{ℕ, suc, ◌+◌, ◌*◌, ◌≤◌, ◌<◌}
+use Prim.Native.Nat.{ℕ, suc, ◌+◌, ◌-◌, ◌*◌, ◌≤◌, ◌<◌}
 use native.Mathlib.Nat.{zero-add}
 use native.Mathlib.Numerals.{add-one}
 use mathlib.Core.Path.{◌≡◌, refl, sym, ap, ap₂, ◌∙◌}
@@ -10,8 +10,8 @@ use mathlib.Core.Bool.{Bool, true, false}
 use mathlib.Core.List.{List, [], ◌∷◌, ◌++◌}
 use native.Mathlib.Omega.{arith}
 use lib.Dec.{eqb}
-use lib.ListN.{length, drop, get_or, set, length-append, drop_of_length-le}
-use lib.Seq.{drop-cons}
+use lib.ListN.{length, take, drop, get_or, set, length-append, length-drop, drop_of_length-le}
+use lib.Seq.{drop-cons, take_all}
 use Rattle.rows.specs.Rows.{splice}
 use Rattle.rows.specs.Lists.{member, listed, Ascending, set_rows}
 use Rattle.rows.specs.Runs.{turns, runs_of}
@@ -78,18 +78,28 @@ turns_few (r ∷ rs) = omega (arith, gaps_few (suc r) rs)
 pub list_short : (len : ℕ) (rs : List ℕ) → Ascending 0 len rs → length rs ≤ len
 list_short len rs a = omega (arith, listed_count len rs a, count_le_length (listed len rs), tab_length 0 len (λ i. member i rs))
 
-pub list_below : (len : ℕ) (rs : List ℕ) (i : ℕ) → Ascending 0 len rs → i < length rs → get_or rs i 0 < len
+list_below : (len : ℕ) (rs : List ℕ) (i : ℕ) → Ascending 0 len rs → i < length rs → get_or rs i 0 < len
 list_below len rs i a h = below_at len rs i (ascending_below 0 len rs a) h
 
--- ---- entry after entry
+-- ---- entry after entry, of those that a pattern leaves past the first
+
+abbrev pub rest_of : List ℕ → List ℕ
+rest_of rs = take (length rs - 1) (drop 1 rs)
+
+rest_is : (rs : List ℕ) → rest_of rs ≡ drop 1 rs
+rest_is rs = take_all (length rs - 1) (drop 1 rs) (omega (arith, length-drop 1 rs))
+
+pub rest_below : (len : ℕ) (rs : List ℕ) (i : ℕ) → Ascending 0 len rs → i < length (rest_of rs) → get_or (rest_of rs) i 0 < len
+rest_below len [] i a h = absurd (omega arith)
+rest_below len (r ∷ rs) i a h = rw (rest_is (r ∷ rs)) (list_below len (r ∷ rs) (suc i) a (omega (arith, ap length (rest_is (r ∷ rs)))))
 
 pub turns_none : (rs : List ℕ) → length rs ≡ 0 → list_turns rs ≡ []
 turns_none [] e = refl
 turns_none (r ∷ rs) e = absurd (omega arith)
 
-pub turns_first : (rs : List ℕ) → 0 < length rs → list_turns rs ≡ get_or rs 0 0 ∷ gaps (get_or rs 0 0 + 1) (drop 1 rs)
+pub turns_first : (rs : List ℕ) → 0 < length rs → list_turns rs ≡ get_or rs 0 0 ∷ gaps (get_or rs 0 0 + 1) (rest_of rs)
 turns_first [] h = absurd (omega arith)
-turns_first (r ∷ rs) h = ap (λ (p : ℕ). r ∷ gaps p rs) (sym (add-one r))
+turns_first (r ∷ rs) h = ap₂ (λ (p : ℕ) (l : List ℕ). r ∷ gaps p l) (sym (add-one r)) (sym (rest_is (r ∷ rs)))
 
 pub gaps_next : (past i : ℕ) (rs : List ℕ) → i < length rs
     → gaps past (drop i rs) ≡ between past (get_or rs i 0) ++ gaps (get_or rs i 0 + 1) (drop (i + 1) rs)
@@ -128,9 +138,9 @@ gap_written k past i rs out h =
 
 -- the first entry stored, and what follows it; and the end
 pub first_written : (rs out : List ℕ) → 0 < length rs → 0 < length out
-    → splice 1 (set out 0 (get_or rs 0 0)) (gaps (get_or rs 0 0 + 1) (drop 1 rs)) ≡ splice 0 out (list_turns rs)
+    → splice 1 (set out 0 (get_or rs 0 0)) (gaps (get_or rs 0 0 + 1) (rest_of rs)) ≡ splice 0 out (list_turns rs)
 first_written rs out h k =
-    sym (ap (splice 0 out) (turns_first rs h) ∙ splice_cons 0 out (get_or rs 0 0) (gaps (get_or rs 0 0 + 1) (drop 1 rs)) k)
+    sym (ap (splice 0 out) (turns_first rs h) ∙ splice_cons 0 out (get_or rs 0 0) (gaps (get_or rs 0 0 + 1) (rest_of rs)) k)
 
 pub end_written : (k past i : ℕ) (rs out : List ℕ) → length rs ≤ i → set out k past ≡ splice k out (gaps past (drop i rs))
 end_written k past i rs out h = sym (ap (splice k out) (gaps_end past i rs h) ∙ splice_one k out past)

@@ -1,6 +1,6 @@
 -- A mask's runs found chunk by chunk: how many numbers there are before a row, the row before it carried on, and one chunk more.
 -- By the laws of rows against the row before them, of a word and of the whole. Assumes nothing.
-use Prim.Native.Nat.{ℕ, suc, ◌+◌, ◌-◌, ◌*◌, ◌/◌, ◌^◌, ◌≤◌, ◌<◌}
+use Prim.Native.Nat.{ℕ, suc, ◌+◌, ◌-◌, ◌*◌, ◌/◌, ◌^◌, ◌≤◌, ◌<◌, min}
 use mathlib.Core.Path.{◌≡◌, refl, sym, ap, ap₂, ◌∙◌, subst}
 use mathlib.Core.Bool.{Bool, true, false}
 use mathlib.Core.List.{List, []}
@@ -14,10 +14,12 @@ use Rattle.rows.specs.Words.{fit, bits_of_all, view}
 use Rattle.rows.specs.Lists.{set_rows}
 use Rattle.rows.specs.Runs.{runs_of, turns}
 use Rattle.rows.specs.Edges.{edges, last_of}
-use Rattle.rows.proofs.RowLaws.{count_split}
+use Rattle.rows.specs.Asks.{InView}
+use Rattle.rows.proofs.RowLaws.{count_split, count_take_le}
 use Rattle.rows.proofs.WordLaws.{digit_lt, is_one_digit, word_of_lt, ones_word}
 use Rattle.rows.proofs.ListLaws.{rows_count}
 use Rattle.rows.proofs.PartLaws.{view_chunk, count_part}
+use Rattle.rows.proofs.WordsLaws.{view_length}
 use Rattle.rows.proofs.ChunkLaws.{chunk_bits}
 use Rattle.rows.proofs.TurnLaws.{turns_whole, edges_length, edges_part, last_next, last_digit}
 
@@ -28,6 +30,13 @@ pub record Counted (s : List Bool) (row sum carry : ℕ) : Type 0 where
 
 pub counted_none : (s : List Bool) → Counted s 0 0 0
 counted_none s = record { passed = refl; carried = refl }
+
+pub counted_as : (s : List Bool) (row sum carry : ℕ) → Counted s row sum carry
+    → (row' sum' carry' : ℕ) → row' ≡ row → sum' ≡ sum → carry' ≡ carry → Counted s row' sum' carry'
+counted_as s row sum carry so row' sum' carry' r m l = record {
+  passed = m ∙ so.passed ∙ ap (λ (k : ℕ). count (take k (edges false s))) (sym r);
+  carried = l ∙ so.carried ∙ ap (λ (k : ℕ). digit (last_of false (take k s))) (sym r);
+}
 
 pub carry_small : (s : List Bool) (row sum carry : ℕ) → Counted s row sum carry → carry < 2
 carry_small s row sum carry so = omega (arith, so.carried, digit_lt (last_of false (take row s)))
@@ -55,7 +64,7 @@ module _ (s : List Bool) (row n sum carry here : ℕ) (so : Counted s row sum ca
       ∙ sym (edges_part row n false s))
 
   -- as many as the word has ones
-  pub found_ones : (found : ℕ) → found ≡ word_of (edges (is_one carry) (bits_of n here)) → ones found ≡ count (take n (drop row (edges false s)))
+  found_ones : (found : ℕ) → found ≡ word_of (edges (is_one carry) (bits_of n here)) → ones found ≡ count (take n (drop row (edges false s)))
   found_ones found e = ap ones (e ∙ edges_here) ∙ ones_word (take n (drop row (edges false s)))
 
   small : here < 2 ^ suc (n - 1)
@@ -75,6 +84,28 @@ module _ (s : List Bool) (row n sum carry here : ℕ) (so : Counted s row sum ca
   pub counted_next : (added : ℕ) → added ≡ count (take n (drop row (edges false s))) → Counted s (row + n) (sum + added) (here / 2 ^ (n - 1))
   counted_next added e =
       record { passed = ap₂ (λ (x y : ℕ). x + y) so.passed e ∙ sym (count_split row n (edges false s)); carried = carry_on }
+
+-- a chunk read from lent words, and counted
+module _ (start len row sum carry n here found : ℕ) (ws : List ℕ) (in-view : InView start len ws) (so : Counted (view start len ws) row sum carry)
+    (before : row < len) (size : n ≡ min 64 (len - row)) (read : here ≡ word_of (fit n (drop (start + row) (bits_of_all 64 ws))))
+    (turned : found ≡ word_of (edges (is_one carry) (bits_of n here))) where
+  long : length (view start len ws) ≡ len
+  long = view_length start len ws in-view.2
+
+  next : Counted (view start len ws) (row + n) (sum + ones found) (here / 2 ^ (n - 1))
+  next =
+      let some : 0 < n = omega arith in
+      let room : row + n ≤ length (view start len ws) = omega (arith, long) in
+      let word = view_word start row n len here ws (omega arith) in-view.2 read in
+      counted_next (view start len ws) row n sum carry here so some room word (ones found)
+      (found_ones (view start len ws) row n sum carry here so some room word found turned)
+
+  pub counted_chunk : (past more last : ℕ) → past ≡ row + n → more ≡ sum + ones found → last ≡ here / 2 ^ (n - 1) → Counted (view start len ws) past more last
+  counted_chunk past more last p m l = counted_as (view start len ws) _ _ _ next past more last p m l
+
+  -- no more numbers than rows
+  pub chunk_few : sum + ones found ≤ len
+  chunk_few = omega (arith, next.passed, count_take_le (row + n) (edges false (view start len ws)))
 
 -- ---- all rows: the end of a run that the last row is in is a number more
 

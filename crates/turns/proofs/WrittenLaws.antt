@@ -1,7 +1,7 @@
 -- A mask's runs written as numbers: entry after entry, lowest set bit first, chunk after chunk, and the end of a run that the last row is in.
 -- By what one store, one cleared bit and one chunk more do.
 -- Assumes nothing.
-use Prim.Native.Nat.{ℕ, zero, suc, ◌+◌, ◌-◌, ◌/◌, ◌^◌, ◌≤◌, ◌<◌}
+use Prim.Native.Nat.{ℕ, zero, suc, ◌+◌, ◌-◌, ◌/◌, ◌^◌, ◌≤◌, ◌<◌, min}
 use native.Mathlib.Nat.{zero-add, le_of_suc-le-suc}
 use mathlib.Core.Path.{◌≡◌, refl, sym, ap, ap₂, ◌∙◌, subst}
 use mathlib.Core.Bool.{Bool, false}
@@ -13,17 +13,20 @@ use lib.Bits.{bit_and}
 use lib.Count.{count_trailing_zeros}
 use Rattle.rows.specs.Rows.{count, splice}
 use Rattle.rows.specs.Word.{is_one, bits_of, word_of}
+use Rattle.rows.specs.Words.{fit, bits_of_all, view}
 use Rattle.rows.specs.Lists.{set_rows}
 use Rattle.rows.specs.Runs.{turns, runs_of}
 use Rattle.rows.specs.Edges.{edges, last_of}
+use Rattle.rows.specs.Asks.{InView}
 use Rattle.rows.proofs.SpliceLaws.{splice_nil, splice_length, splice_append}
+use Rattle.rows.proofs.WordsLaws.{view_length}
 use Rattle.rows.proofs.WordLaws.{digit_is_one, is_one_digit}
 use Rattle.rows.proofs.ListLaws.{rows_count}
 use Rattle.rows.proofs.ClearLaws.{rows_low}
 use Rattle.rows.proofs.PartLaws.{rows_append, rows_word}
 use Rattle.rows.proofs.ChunkLaws.{chunk_next}
 use Rattle.rows.proofs.TurnLaws.{turns_whole, edges_length}
-use Rattle.turns.proofs.TurnedLaws.{Counted, counted_none, carry_small, edges_here, counted_next, counted_all, end_length}
+use Rattle.turns.proofs.TurnedLaws.{Counted, counted_none, counted_as, carry_small, view_word, edges_here, counted_next, counted_few, counted_all, end_length}
 
 -- ---- the set bits of a word, lowest first
 
@@ -63,7 +66,7 @@ module _ (s : List Bool) (first : List ℕ) (row n k carry here found : ℕ) (ou
   found_count : count (bits_of 64 found) ≡ count piece
   found_count = sym (rows_count row (bits_of 64 found)) ∙ ap length found_rows ∙ rows_count row piece
 
-  pub next_counted : Counted s (row + n) (k + count (bits_of 64 found)) (here / 2 ^ (n - 1))
+  next_counted : Counted s (row + n) (k + count (bits_of 64 found)) (here / 2 ^ (n - 1))
   next_counted = counted_next s row n k carry here so.counted some room word (count (bits_of 64 found)) found_count
 
   pub next_rows : splice k out (set_rows row (bits_of 64 found)) ≡ splice 0 first (set_rows 0 (take (row + n) (edges false s)))
@@ -80,10 +83,41 @@ module _ (s : List Bool) (first : List ℕ) (row n k carry here found : ℕ) (ou
       ∙ rows_append 0 done piece
       ∙ ap (λ (i : ℕ). set_rows 0 done ++ set_rows i piece) (zero-add (length done) ∙ long)))
 
-  pub written_next : (k' : ℕ) (out' : List ℕ) → k' ≡ k + count (bits_of 64 found) → out' ≡ splice k out (set_rows row (bits_of 64 found))
+  written_next : (k' : ℕ) (out' : List ℕ) → k' ≡ k + count (bits_of 64 found) → out' ≡ splice k out (set_rows row (bits_of 64 found))
       → Written s first (row + n) k' (here / 2 ^ (n - 1)) out'
   written_next k' out' e o =
       record { counted = subst (λ (i : ℕ). Counted s (row + n) i (here / 2 ^ (n - 1))) (sym e) next_counted; rows = o ∙ next_rows }
+
+pub written_as : (s : List Bool) (first : List ℕ) (row k carry : ℕ) (out : List ℕ) → Written s first row k carry out
+    → (row' k' carry' : ℕ) (out' : List ℕ) → row' ≡ row → k' ≡ k → carry' ≡ carry → out' ≡ out → Written s first row' k' carry' out'
+written_as s first row k carry out so row' k' carry' out' r m l o = record {
+  counted = counted_as s row k carry so.counted row' k' carry' r m l;
+  rows = o ∙ so.rows ∙ ap (λ (i : ℕ). splice 0 first (set_rows 0 (take i (edges false s)))) (sym r);
+}
+
+-- a chunk read from lent words, and written
+module _ (start len row k carry n here found : ℕ) (ws first out : List ℕ) (in-view : InView start len ws)
+    (so : Written (view start len ws) first row k carry out) (before : row < len) (size : n ≡ min 64 (len - row))
+    (read : here ≡ word_of (fit n (drop (start + row) (bits_of_all 64 ws)))) (is : found ≡ word_of (edges (is_one carry) (bits_of n here))) where
+  abbrev s : List Bool
+  s = view start len ws
+
+  long : row + n ≤ length s
+  long = omega (arith, view_length start len ws in-view.2)
+
+  word : here ≡ word_of (take n (drop row s))
+  word = view_word start row n len here ws (omega arith) in-view.2 read
+
+  pub chunk_room : length (runs_of s) ≤ length first → k + count (bits_of 64 found) ≤ length out
+  chunk_room h =
+      let more = next_counted s first row n k carry here found out so (omega arith) (omega arith) long word is in
+      omega (arith, counted_few s _ _ _ more, written_kept s first row k carry out so)
+
+  pub written_chunk : (past k' carry' : ℕ) (out' : List ℕ) → past ≡ row + n → k' ≡ k + count (bits_of 64 found) → carry' ≡ here / 2 ^ (n - 1)
+      → out' ≡ splice k out (set_rows row (bits_of 64 found)) → Written s first past k' carry' out'
+  written_chunk past k' carry' out' p m l o =
+      written_as s first (row + n) k' (here / 2 ^ (n - 1)) out' (written_next s first row n k carry here found out so (omega arith) (omega arith) long word is k' out' m o)
+      past k' carry' out' p refl l refl
 
 -- ---- the end of a run that the last row is in
 

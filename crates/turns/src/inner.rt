@@ -27,14 +27,11 @@ pub fn count_turns(words: &[u64], start: u64, len: u64) -> u64
 {
     let mut sum: u64 = 0;
     let mut carry: u64 = 0;
-    let mut row: u64 = 0;
-    while row < len {
+    for row in (0..len).step_by(64) {
         let n = chunk_len(len, row);
         let here = chunk(words, start, row, n);
-        let found = u64::count_ones(edge_word(here, carry, n)) as u64;
-        sum += found;
+        sum += edge_word(here, carry, n).count_ones() as u64;
         carry = here >> (n - 1);
-        row += n;
     }
     sum + carry
 }
@@ -44,6 +41,7 @@ pub fn list_chunk(chunk: u64, base: u32, k: usize, out: &mut [u32]) -> usize
     requires { (base ≤ 1048576) × (k + count (bits_of 64 chunk) ≤ length out.old) }
     ensures { (result ≡ k + count (bits_of 64 chunk)) × (out.new ≡ splice k out.old (set_rows base (bits_of 64 chunk))) }
 {
+    // A turn clears the lowest set bit, and p is the entry that it writes: no range has the rows.
     let mut rest = chunk;
     let mut p = k;
     while rest != 0 {
@@ -72,14 +70,12 @@ pub fn write_turns(words: &[u64], start: u64, len: u64, out: &mut [u32])
 {
     let mut k: usize = 0;
     let mut carry: u64 = 0;
-    let mut row: u64 = 0;
-    while row < len {
+    for row in (0..len).step_by(64) {
         let n = chunk_len(len, row);
         let here = chunk(words, start, row, n);
         let found = edge_word(here, carry, n);
         k = list_chunk(found, row as u32, k, out);
         carry = here >> (n - 1);
-        row += n;
     }
     write_end(carry, len as u32, k, out);
 }
@@ -99,17 +95,14 @@ pub fn count_list_turns(rows: &[u32], len: u64) -> u64
     requires { (len ≤ 1048576) × Ascending 0 len rows.now }
     ensures { result ≡ length (runs_of (listed len rows.now)) }
 {
-    if rows.len() == 0 {
+    let [first, rest @ ..] = rows else {
         return 0;
-    }
-    let mut past = rows[0] + 1;
+    };
+    let mut past = *first + 1;
     let mut sum: u64 = 1;
-    let mut i: usize = 1;
-    while i < rows.len() {
-        let row = rows[i];
-        sum += gap(past, row);
-        past = row + 1;
-        i += 1;
+    for row in rest {
+        sum += gap(past, *row);
+        past = *row + 1;
     }
     sum + 1
 }
@@ -132,19 +125,15 @@ pub fn write_list_turns(rows: &[u32], len: u64, out: &mut [u32])
     requires { (len ≤ 1048576) × Ascending 0 len rows.now × (length (runs_of (listed len rows.now)) ≤ length out.old) }
     ensures { out.new ≡ splice 0 out.old (runs_of (listed len rows.now)) }
 {
-    if rows.len() == 0 {
+    let [first, rest @ ..] = rows else {
         return;
-    }
-    let first = rows[0];
-    out[0] = first;
-    let mut past = first + 1;
+    };
+    out[0] = *first;
+    let mut past = *first + 1;
     let mut k: usize = 1;
-    let mut i: usize = 1;
-    while i < rows.len() {
-        let row = rows[i];
-        k = write_gap(past, row, k, out);
-        past = row + 1;
-        i += 1;
+    for row in rest {
+        k = write_gap(past, *row, k, out);
+        past = *row + 1;
     }
     out[k] = past;
 }
@@ -175,24 +164,11 @@ fn sum_block(runs: &[u32]) -> u64
     let half = runs.len() / 2;
     let mut one: u64 = 0;
     let mut other: u64 = 0;
-    let mut i: usize = 0;
-    while i < half {
+    for i in (0..half).step_by(2) {
         one += packed(runs[i], runs[i + 1]);
         other += packed(runs[half + i], runs[half + i + 1]);
-        i += 2;
     }
     excess(one) + excess(other)
-}
-
-// Where the block ends that begins at number i: 8,192 numbers on, or where the numbers end.
-fn block_end(len: usize, i: usize) -> usize
-    requires { i ≤ len }
-    ensures { result ≡ min (i + 8192) len }
-{
-    if len - i < 8192 {
-        return len;
-    }
-    i + 8192
 }
 
 // How many rows runs of a mask have: block by block, as far as the runs go in pairs, and then the last.
@@ -200,18 +176,13 @@ pub fn sum_runs(runs: &[u32]) -> u64
     requires { Apart 0 1048576 runs.now }
     ensures { result ≡ run_lengths runs.now }
 {
-    let paired = runs.len() / 4 * 4;
+    let (blocks, last) = runs.split_at(runs.len() / 4 * 4);
     let mut sum: u64 = 0;
-    let mut i: usize = 0;
-    while i < paired {
-        let past = block_end(paired, i);
-        sum += sum_block(&runs[i..past]);
-        i = past;
+    for block in blocks.chunks(8192) {
+        sum += sum_block(block);
     }
-    if paired == runs.len() {
+    let [first, past] = last else {
         return sum;
-    }
-    let first = runs[paired];
-    let past = runs[paired + 1];
-    sum + (past - first) as u64
+    };
+    sum + (*past - *first) as u64
 }

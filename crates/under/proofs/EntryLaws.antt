@@ -1,7 +1,7 @@
 -- A rank list on self in runs: the ranks that one run takes, the rows that it has at them, and what a loop over the runs keeps. By the laws of the
 -- next run, and of select on the rows before it and on its own.
 -- Assumes nothing.
-use Prim.Native.Nat.{ℕ, zero, suc, ◌+◌, ◌-◌, ◌^◌, ◌≤◌, ◌<◌}
+use Prim.Native.Nat.{ℕ, zero, suc, ◌+◌, ◌-◌, ◌*◌, ◌/◌, ◌^◌, ◌≤◌, ◌<◌}
 use native.Mathlib.Nat.{le_of_suc-le-suc}
 use native.Mathlib.Numerals.{add-one}
 use native.Mathlib.Decide.{dec_lt}
@@ -21,7 +21,8 @@ use Rattle.rows.proofs.SelectLaws.{select_unset, select_set, select_in, select_s
 use Rattle.rows.proofs.ListLaws.{tab_length, listed_count}
 use Rattle.rows.proofs.MarkLaws.{marked_append, marked_length, ascending_below, below_at}
 use Rattle.rows.proofs.RunLaws.{run_rows, in_runs_lem, rows_sum, runs_count, runs_few}
-use Rattle.rows.proofs.RunTurnLaws.{NextRun, next_run, rows_next, rows_none}
+use Rattle.rows.proofs.RunTurnLaws.{rows_none}
+use Rattle.rows.proofs.PairLaws.{NextPair, rows_pair, pairs_passed}
 use Rattle.marks.proofs.DrivenLaws.{ascending_in, rows_at}
 use Rattle.under.specs.Taken.{Taken}
 
@@ -110,43 +111,36 @@ module _ (runs : List ℕ) (len : ℕ) where
   abbrev self : List Bool
   self = in_runs len runs
 
-  -- the runs from number i on are left, and so many ranks are passed
-  pub record Walk (i passed : ℕ) : Type 0 where
+  -- the runs from pair k on are left, and so many ranks are passed
+  pub record Walk (k passed : ℕ) : Type 0 where
     pub row : ℕ
     pub front : List Bool
-    pub parts : in_runs len runs ≡ front ++ run_rows row len (drop i runs)
+    pub parts : in_runs len runs ≡ front ++ run_rows row len (drop (k * 2) runs)
     pub long : length front ≡ row
     pub counted : count front ≡ passed
-    pub ahead : Apart row len (drop i runs)
+    pub ahead : Apart row len (drop (k * 2) runs)
 
   pub walk_none : Apart 0 len runs → Walk 0 0
   walk_none a = record { row = 0; front = []; parts = in_runs_lem len runs a; long = refl; counted = refl; ahead = a }
 
-  module _ (i passed : ℕ) (w : Walk i passed) where
+  module _ (k passed : ℕ) (w : Walk k passed) where
     abbrev rest : List Bool
-    rest = run_rows w.row len (drop i runs)
+    rest = run_rows w.row len (drop (k * 2) runs)
 
     counts : count self ≡ passed + count rest
     counts = ap count w.parts ∙ count_append w.front rest ∙ ap (λ (n : ℕ). n + count rest) w.counted
 
     -- a rank that self has and that is not passed is in a run that is left
-    pub walk_on : (rank : ℕ) → passed ≤ rank → rank < count (in_runs len runs) → i < length runs
-    walk_on rank l h = go (dec_lt i (length runs))
+    pub walk_on : (rank : ℕ) → passed ≤ rank → rank < count (in_runs len runs) → k < length runs / 2
+    walk_on rank l h = go (dec_lt k (length runs / 2))
       where
-        go : Dec (i < length runs) → i < length runs
+        go : Dec (k < length runs / 2) → k < length runs / 2
         go (yes p) = p
-        go (no p) = absurd (omega (arith, counts, ap count (rows_none w.row len i runs (omega arith)), rows_sum w.row len []))
+        go (no p) =
+            let end = pairs_passed w.row len k runs w.ahead (omega arith) in
+            absurd (omega (arith, counts, ap count (rows_none w.row len (k * 2) runs end), rows_sum w.row len []))
 
-    module _ (h : i < length runs) where
-      pub walk_next : NextRun w.row len i runs
-      walk_next = next_run w.row len i runs h w.ahead
-
-      abbrev first : ℕ
-      first = get_or runs i 0
-
-      abbrev past : ℕ
-      past = get_or runs (i + 1) 0
-
+    module _ (first past : ℕ) (r : NextPair w.row len k runs first past) where
       abbrev gap : ℕ
       gap = first - w.row
 
@@ -157,46 +151,44 @@ module _ (runs : List ℕ) (len : ℕ) where
       run = replicate gap false ++ replicate own true
 
       abbrev others : List Bool
-      others = run_rows past len (drop (i + 2) runs)
+      others = run_rows past len (drop ((k + 1) * 2) runs)
 
       split : rest ≡ run ++ others
-      split = rows_next w.row len i runs walk_next ∙ sym (append_assoc (replicate gap false) (replicate own true) others)
+      split = rows_pair w.row len k first past runs r ∙ sym (append_assoc (replicate gap false) (replicate own true) others)
 
       -- a rank that the run has
-      pub walk_row : (k : ℕ) → passed ≤ k → k < passed + (get_or runs (i + 1) 0 - get_or runs i 0) → select (in_runs len runs) k ≡ get_or runs i 0 + (k - passed)
-      walk_row k l u =
-          let here : k - count w.front ≡ k - passed = ap (λ (n : ℕ). k - n) w.counted in
-          let within : k - passed < count run = omega (arith, count_run gap own) in
-          let place : w.row + (gap + (k - passed)) ≡ first + (k - passed) = omega (arith, walk_next.from) in
-          ap (λ (s : List Bool). select s k) w.parts ∙ select_skip w.front rest k (omega (arith, w.counted))
-          ∙ ap₂ (λ (n : ℕ) (s : List Bool). n + select s (k - count w.front)) w.long split
+      pub walk_row : (j : ℕ) → passed ≤ j → j < passed + (past - first) → select (in_runs len runs) j ≡ first + (j - passed)
+      walk_row j l u =
+          let here : j - count w.front ≡ j - passed = ap (λ (n : ℕ). j - n) w.counted in
+          let within : j - passed < count run = omega (arith, count_run gap own) in
+          let place : w.row + (gap + (j - passed)) ≡ first + (j - passed) = omega (arith, r.from) in
+          ap (λ (s : List Bool). select s j) w.parts ∙ select_skip w.front rest j (omega (arith, w.counted))
+          ∙ ap₂ (λ (n : ℕ) (s : List Bool). n + select s (j - count w.front)) w.long split
           ∙ ap (λ (n : ℕ). w.row + select (run ++ others) n) here
-          ∙ ap (λ (n : ℕ). w.row + n) (select_in run others (k - passed) within ∙ select_run gap own (k - passed) (omega arith)) ∙ place
+          ∙ ap (λ (n : ℕ). w.row + n) (select_in run others (j - passed) within ∙ select_run gap own (j - passed) (omega arith)) ∙ place
 
       -- its ranks are no more than the rows
-      pub walk_few : passed + (get_or runs (i + 1) 0 - get_or runs i 0) ≤ len
+      pub walk_few : passed + (past - first) ≤ len
       walk_few =
           omega
           (arith, counts, ap count split, count_append run others, count_run gap own, count_le_length self, tab_length 0 len (λ j. held j runs))
 
-      pub walk_run : Walk (i + 2) (passed + (get_or runs (i + 1) 0 - get_or runs i 0))
-      walk_run =
-          let r = walk_next in
-          record {
-            row = past;
-            front = w.front ++ run;
-            parts = w.parts ∙ ap (λ (s : List Bool). w.front ++ s) split ∙ sym (append_assoc w.front run others);
-            long = length-append w.front run ∙ omega (arith, w.long, length_run gap own, r.from, r.some);
-            counted = count_append w.front run ∙ ap₂ (λ (x y : ℕ). x + y) w.counted (count_run gap own);
-            ahead = r.left;
-          }
+      pub walk_run : Walk (k + 1) (passed + (past - first))
+      walk_run = record {
+        row = past;
+        front = w.front ++ run;
+        parts = w.parts ∙ ap (λ (s : List Bool). w.front ++ s) split ∙ sym (append_assoc w.front run others);
+        long = length-append w.front run ∙ omega (arith, w.long, length_run gap own, r.from, r.some);
+        counted = count_append w.front run ∙ ap₂ (λ (x y : ℕ). x + y) w.counted (count_run gap own);
+        ahead = r.left;
+      }
 
 -- ---- a loop over the runs
 
 module _ (runs ranks : List ℕ) (len at : ℕ) where
   -- the ranks from number `next` on are left: with their rows marked too the words are `goal`
-  pub record Marking (i next passed : ℕ) (out goal : List ℕ) : Type 0 where
-    pub walk : Walk runs len i passed
+  pub record Marking (k next passed : ℕ) (out goal : List ℕ) : Type 0 where
+    pub walk : Walk runs len k passed
     pub within : next ≤ length ranks
     pub ahead : Ascending passed (2 ^ 32) (drop next ranks)
     pub marks : marked at (map (select (in_runs len runs)) (drop next ranks)) out ≡ goal
@@ -210,30 +202,29 @@ module _ (runs ranks : List ℕ) (len at : ℕ) where
     marks = refl;
   }
 
-  module _ (i next passed : ℕ) (out goal : List ℕ) (m : Marking i next passed out goal) where
+  module _ (k next passed : ℕ) (out goal : List ℕ) (m : Marking k next passed out goal) where
     -- a run is left where a rank is
-    pub marking_on : Apart 0 len runs → Ascending 0 (run_lengths runs) ranks → next < length ranks → i < length runs
+    pub marking_on : Apart 0 len runs → Ascending 0 (run_lengths runs) ranks → next < length ranks → k < length runs / 2
     marking_on a up h =
         let head = subst (Ascending passed (2 ^ 32)) (drop-cons ranks next 0 h) m.ahead in
         let few = below_at (run_lengths runs) ranks next (ascending_below 0 (run_lengths runs) ranks up) h in
-        walk_on runs len i passed m.walk (get_or ranks next 0) head.0 (omega (arith, few, runs_count len runs a))
+        walk_on runs len k passed m.walk (get_or ranks next 0) head.0 (omega (arith, few, runs_count len runs a))
 
-    pub marking_run : (h : i < length runs) (past : ℕ) (then : List ℕ)
-        → Taken ranks (λ k. get_or runs i 0 + (k - passed)) at next past (passed + (get_or runs (i + 1) 0 - get_or runs i 0))
-        (passed + (get_or runs (i + 1) 0 - get_or runs i 0)) out then
-        → Marking (i + 2) past (passed + (get_or runs (i + 1) 0 - get_or runs i 0)) then goal
-    marking_run h past then t =
-        let end : ℕ = passed + (get_or runs (i + 1) 0 - get_or runs i 0) in
-        let here : ℕ → ℕ = λ k. get_or runs i 0 + (k - passed) in
+    pub marking_run : (first past : ℕ) (r : NextPair m.walk.row len k runs first past) (after : ℕ) (then : List ℕ)
+        → Taken ranks (λ j. first + (j - passed)) at next after (passed + (past - first)) (passed + (past - first)) out then
+        → Marking (k + 1) after (passed + (past - first)) then goal
+    marking_run first past r after then t =
+        let end : ℕ = passed + (past - first) in
+        let here : ℕ → ℕ = λ j. first + (j - passed) in
         let row : ℕ → ℕ = select (in_runs len runs) in
-        let others = drop past ranks in
+        let others = drop after ranks in
         let same : map row t.taken ≡ map here t.taken =
-        same_rows row here passed end (2 ^ 32) t.taken others (walk_row runs len i passed m.walk h) t.below
+        same_rows row here passed end (2 ^ 32) t.taken others (walk_row runs len k passed m.walk first past r) t.below
         (subst (Ascending passed (2 ^ 32)) t.parts m.ahead) in
         let parts : map row (drop next ranks) ≡ map here t.taken ++ map row others =
         ap (map row) t.parts ∙ map-append row t.taken others ∙ ap (λ (l : List ℕ). l ++ map row others) same in
         record {
-          walk = walk_run runs len i passed m.walk h;
+          walk = walk_run runs len k passed m.walk first past r;
           within = t.within;
           ahead = t.ahead;
           marks =
@@ -244,6 +235,14 @@ module _ (runs ranks : List ℕ) (len at : ℕ) where
     pub marking_all : length ranks ≤ next → out ≡ goal
     marking_all h =
         sym (ap (λ (rs : List ℕ). marked at (map (select (in_runs len runs)) rs) out) (drop_of_length-le ranks {i = next} h)) ∙ m.marks
+
+    -- past the last run no rank is left
+    pub marking_end : Apart 0 len runs → Ascending 0 (run_lengths runs) ranks → length runs / 2 ≤ k → out ≡ goal
+    marking_end a up h = go (dec_lt next (length ranks))
+      where
+        go : Dec (next < length ranks) → out ≡ goal
+        go (yes l) = let on = marking_on a up l in absurd (omega arith)
+        go (no l) = marking_all (omega arith)
 
 -- the rows of a composition by listed ranks, and how many they are
 module _ (runs ranks : List ℕ) (len : ℕ) (apart : Apart 0 len runs) (up : Ascending 0 (run_lengths runs) ranks) where

@@ -41,25 +41,25 @@ module _ (ranks : List ℕ) (rank n at : ℕ) where
       }
 
   module _ (done next : ℕ) (out₀ out : List ℕ) (c : Copied done next out₀ out) where
-    -- m more, gathered as the word x; the list is then parted at `past`
-    pub copied_part : (m x past : ℕ) (then : List ℕ) → done + m ≤ n → Gathers (rank + done) m ranks x past
-        → then ≡ laid (at + done) (bits_of m x) out → Copied (done + m) past out₀ then
-    copied_part m x past then h g t =
+    -- m more, gathered as the word x, are laid at `place`; the list is then parted at `past`
+    pub copied_part : (m x past end place : ℕ) (then : List ℕ) → done + m ≡ end → end ≤ n → place ≡ at + done → Gathers (rank + done) m ranks x past
+        → then ≡ laid place (bits_of m x) out → Copied end past out₀ then
+    copied_part m x past end place then e h p g t =
         let part = bits (rank + done) m in
         let long : length part ≡ m = tab_length (rank + done) m (λ i. member i ranks) in
         let is : bits_of m x ≡ part = ap (bits_of m) g.is ∙ bits_of_word_of_at m part long in
-        let place : rank + done + m ≡ rank + (done + m) = omega arith in
-        let sum : n - done ≡ m + (n - (done + m)) = omega arith in
-        let split : rest done ≡ part ++ rest (done + m) =
-        ap (λ (k : ℕ). bits (rank + done) k) sum ∙ tab_add (rank + done) m (n - (done + m)) (λ i. member i ranks)
-        ∙ ap (λ (k : ℕ). part ++ bits k (n - (done + m))) place in
+        let behind : rank + done + m ≡ rank + end = omega arith in
+        let sum : n - done ≡ m + (n - end) = omega arith in
+        let split : rest done ≡ part ++ rest end =
+        ap (λ (k : ℕ). bits (rank + done) k) sum ∙ tab_add (rank + done) m (n - end) (λ i. member i ranks)
+        ∙ ap (λ (k : ℕ). part ++ bits k (n - end)) behind in
         record {
           within = h;
-          parted = subst (λ (k : ℕ). Parted k past ranks) place g.parted;
+          parted = subst (λ (k : ℕ). Parted k past ranks) behind g.parted;
           progress =
-              progress_part (bits rank n) part (rest (done + m)) at done (done + m) out₀ out then (ap (λ (k : ℕ). done + k) (sym long))
-              (t ∙ ap (λ (l : List Bool). laid (at + done) l out) is)
-              (progress_as (bits rank n) (rest done) (part ++ rest (done + m)) at done out₀ out split c.progress);
+              progress_part (bits rank n) part (rest end) at done end out₀ out then (sym e ∙ ap (λ (k : ℕ). done + k) (sym long))
+              (t ∙ ap₂ (λ (k : ℕ) (l : List Bool). laid k l out) p is)
+              (progress_as (bits rank n) (rest done) (part ++ rest end) at done out₀ out split c.progress);
         }
 
     pub copied_all : n ≤ done → Parted (rank + n) next ranks × (out ≡ laid at (tab rank n (λ i. member i ranks)) out₀)

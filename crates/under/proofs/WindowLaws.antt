@@ -131,7 +131,7 @@ module _ (ranks : List ℕ) (rank n row at : ℕ) where
   whole_count = rows_count row (window rank n ranks)
 
   module _ (i sum : ℕ) (out₀ out : List ℕ) (w : Windowing i sum out₀ out) where
-    pub windowing_next : i < length ranks → NextRun w.from 1048576 i ranks
+    windowing_next : i < length ranks → NextRun w.from 1048576 i ranks
     windowing_next h = next_run w.from 1048576 i ranks h w.ahead
 
     reached : Reached ranks i (rank + n)

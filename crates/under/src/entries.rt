@@ -24,17 +24,15 @@ fn mark_in_run(
     requires { (next ≤ length ranks.now) × Ascending passed.0 (2 ^ 32) (drop next ranks.now) × Room at (first.0 + (end.0 - passed.0)) out.old }
     ensures { Taken ranks.now (λ k. first.0 + (k - passed.0)) at next result end.0 end.0 out.old out.new }
 {
-    let mut i = next;
-    while i < ranks.len() {
+    for i in next..ranks.len() {
         let entry = ranks[i] as u64;
         if entry >= end.0 {
             return i;
         }
         let row = first.0 + (entry - passed.0);
         mark_row(out, at, Row(row));
-        i += 1;
     }
-    i
+    ranks.len()
 }
 
 // Self's rows at the listed ranks, marked, run by run: row 0 of self at bit at. While a rank is left, so is a run that has it.
@@ -45,13 +43,14 @@ pub fn mark_entries(runs: &[u32], ranks: &[u32], len: u64, at: u64, out: &mut [u
 {
     let mut passed: u64 = 0;
     let mut next: usize = 0;
-    let mut i: usize = 0;
-    while next < ranks.len() {
-        let first = runs[i] as u64;
-        let past = runs[i + 1] as u64;
+    for &[first, past] in runs.as_chunks::<2>().0 {
+        if next == ranks.len() {
+            return;
+        }
+        let first = first as u64;
+        let past = past as u64;
         let end = passed + (past - first);
         next = mark_in_run(ranks, next, Row(first), Rank(passed), Rank(end), at, out);
         passed = end;
-        i += 2;
     }
 }

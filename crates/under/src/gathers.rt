@@ -27,15 +27,13 @@ fn copy_entries(
         × (out.new ≡ laid (at + row.0) (tab rank.0 n (λ i. member i ranks.now)) out.old) }
 {
     let mut j = next;
-    let mut done: u64 = 0;
-    while done < n {
+    for done in (0..n).step_by(64) {
         let some = chunk_len(n, done);
         let place = rank.0 + done;
         let gathered = rank_bits_for_chunk(ranks, j, Rank(place), some);
         let here = row.0 + done;
         put_rows(out, at, Row(here), some, gathered.bits);
         j = gathered.next;
-        done += some;
     }
     j
 }
@@ -49,17 +47,15 @@ pub fn gather_under_runs(runs: &[u32], ranks: &[u32], len: u64, at: u64, out: &m
     let mut done: u64 = 0;
     let mut rank: u64 = 0;
     let mut next: usize = 0;
-    let mut i: usize = 0;
-    while i < runs.len() {
-        let first = runs[i] as u64;
-        let past = runs[i + 1] as u64;
+    for &[first, past] in runs.as_chunks::<2>().0 {
+        let first = first as u64;
+        let past = past as u64;
         let gap = first - done;
         let held = past - first;
         clear_rows(out, at, Row(done), gap);
         next = copy_entries(ranks, next, Rank(rank), held, at, Row(first), out);
         rank += held;
         done = past;
-        i += 2;
     }
     let left = len - done;
     clear_rows(out, at, Row(done), left);

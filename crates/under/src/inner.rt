@@ -31,10 +31,9 @@ pub fn lay_ranks_under_runs(
     let mut done: u64 = 0;
     let mut rank: u64 = 0;
     let mut sum: u64 = 0;
-    let mut i: usize = 0;
-    while i < runs.len() {
-        let first = runs[i] as u64;
-        let past = runs[i + 1] as u64;
+    for &[first, past] in runs.as_chunks::<2>().0 {
+        let first = first as u64;
+        let past = past as u64;
         let gap = first - done;
         let held = past - first;
         clear_rows(out, at, Row(done), gap);
@@ -42,7 +41,6 @@ pub fn lay_ranks_under_runs(
         sum += set;
         rank += held;
         done = past;
-        i += 2;
     }
     let left = len - done;
     clear_rows(out, at, Row(done), left);

@@ -12,13 +12,6 @@ use books::inner::into_window;
 use fills::inner::lay::set_run;
 use rows::{Rank, Row};
 
-// How far into the window of n ranks from a rank on another rank lies.
-fn ranks_into(from: Rank, n: u64, rank: Rank) -> u64
-    ensures { result ≡ into from.0 n rank.0 }
-{
-    into_window(from.0, n, rank.0)
-}
-
 // What a run of ranks has in the window, marked; the window's first rank is under a row. How many they are.
 fn mark_part(first: Rank, past: Rank, from: Rank, n: u64, at: u64, row: Row, out: &mut [u64]) -> u64
     requires { (first.0 ≤ past.0) × Room (at + row.0) n out.old }
@@ -26,8 +19,8 @@ fn mark_part(first: Rank, past: Rank, from: Rank, n: u64, at: u64, row: Row, out
         × (out.new ≡ marked at (set_rows (row.0 + into from.0 n first.0)
         (replicate (into from.0 n past.0 - into from.0 n first.0) true)) out.old) }
 {
-    let begin = ranks_into(from, n, first);
-    let end = ranks_into(from, n, past);
+    let begin = into_window(from.0, n, first.0);
+    let end = into_window(from.0, n, past.0);
     if begin == end {
         return 0;
     }
@@ -60,6 +53,7 @@ fn mark_window(
 {
     let end = from.0 + n;
     let mut set: u64 = 0;
+    // As a `for` over `(next..ranks.len()).step_by(2)` the composition of runs under runs took a tenth longer.
     let mut i = next;
     while i < ranks.len() {
         let first = ranks[i] as u64;
@@ -67,11 +61,11 @@ fn mark_window(
         let some = mark_part(Rank(first), Rank(past), from, n, at, row, out);
         set += some;
         if end <= past {
-            return Marked { next: i, set: set };
+            return Marked { next: i, set };
         }
         i += 2;
     }
-    Marked { next: i, set: set }
+    Marked { next: i, set }
 }
 
 // Self's rows whose ranks the rank mask has, marked: row 0 of self at bit at. How many they are.
@@ -84,16 +78,14 @@ pub fn mark_runs(runs: &[u32], ranks: &[u32], len: u64, at: u64, out: &mut [u64]
     let mut sum: u64 = 0;
     let mut rank: u64 = 0;
     let mut next: usize = 0;
-    let mut i: usize = 0;
-    while i < runs.len() {
-        let first = runs[i] as u64;
-        let past = runs[i + 1] as u64;
+    for &[first, past] in runs.as_chunks::<2>().0 {
+        let first = first as u64;
+        let past = past as u64;
         let held = past - first;
         let marked = mark_window(ranks, next, Rank(rank), held, at, Row(first), out);
         next = marked.next;
         sum += marked.set;
         rank += held;
-        i += 2;
     }
     sum
 }

@@ -28,7 +28,7 @@ pub fn past_hole(source: u64, holes: u64) -> Moved
     ensures { result ≡ record { source = past_hole 64 holes 0 source; holes = without_lowest 64 holes } }
 {
     let hole = lowest(holes);
-    let below = std::num::wrapping_sub_u64(hole, 1);
+    let below = hole.wrapping_sub(1);
     Moved {
         source: (source & below) | ((source << 1) & !below),
         holes: holes ^ hole,
@@ -60,7 +60,7 @@ pub fn close_hole(source: u64, holes: u64) -> Moved
     ensures { result ≡ record { source = closed 64 holes source; holes = without_lowest 64 holes / 2 } }
 {
     let hole = lowest(holes);
-    let below = std::num::wrapping_sub_u64(hole, 1);
+    let below = hole.wrapping_sub(1);
     Moved {
         source: (source & below) | ((source >> 1) & !below),
         holes: (holes ^ hole) >> 1,

@@ -10,9 +10,8 @@ use super::forms::{deposit_two_holes, deposit_two_lowest, extract_two_holes, ext
 use super::num::{any, if_odd, lowest};
 use network::inner::{counts_of_bytes, deposit_bytewise, extract_bytewise};
 use places::inner::place_in;
-use rows::inner::answers::deposit_answer;
-use rows::inner::verdicts::{no_refusal, refusal};
-use rows::{Deposited, Way};
+use rows::inner::verdicts::refusal;
+use rows::{Reason, Refusal, Way};
 
 // The network choice: closed forms for at most two set bits or two clear bits, the byte network otherwise.
 pub fn deposit_portable(source: u64, mask: u64, count: u32) -> u64
@@ -34,6 +33,7 @@ pub fn deposit_portable_loop(source: u64, mask: u64, count: u32) -> u64
     if count <= 2 {
         return deposit_two_lowest(source, mask);
     }
+    // A turn clears the mask's lowest set bit: no index is counted.
     let mut s = source;
     let mut m = mask;
     let mut result: u64 = 0;
@@ -46,17 +46,16 @@ pub fn deposit_portable_loop(source: u64, mask: u64, count: u32) -> u64
 }
 
 // Deposit by either way. The claimed count must be the mask's: refusal 4.
-pub fn deposit_by(way: Way, source: u64, mask: u64, claimed: u64) -> Deposited
+pub fn deposit_by(way: Way, source: u64, mask: u64, claimed: u64) -> Result<u64, Refusal>
     ensures { result ≡ deposited source mask claimed }
 {
     if claimed != u64::count_ones(mask) as u64 {
-        return deposit_answer(refusal(4, 0), 0);
+        return Err(refusal(Reason::CountDiffers));
     }
     let count = claimed as u32;
-    let none = no_refusal();
     match way {
-        Way::Network => deposit_answer(none, deposit_portable(source, mask, count)),
-        Way::Loop => deposit_answer(none, deposit_portable_loop(source, mask, count)),
+        Way::Network => Ok(deposit_portable(source, mask, count)),
+        Way::Loop => Ok(deposit_portable_loop(source, mask, count)),
     }
 }
 
@@ -72,7 +71,7 @@ pub fn extract_portable(source: u64, mask: u64, count: u32) -> u64
     }
 }
 
-// The loop form of extract, for a sparse self: bit by bit, until the mask has no bit left.
+// The loop form of extract, for a sparse self: bit by bit, the mask's lowest first.
 pub fn extract_portable_loop(source: u64, mask: u64, count: u32) -> u64
     requires { count ≡ count_ones mask }
     ensures { result ≡ pext 64 source mask }
@@ -81,11 +80,9 @@ pub fn extract_portable_loop(source: u64, mask: u64, count: u32) -> u64
         return extract_two_lowest(source, mask);
     }
     let mut m = mask;
-    let mut k: u32 = 0;
     let mut result: u64 = 0;
-    while m != 0 {
+    for k in 0..count {
         result |= any(source & lowest(m)) << k;
-        k += 1;
         m &= m - 1;
     }
     result
@@ -99,20 +96,15 @@ pub fn select_bit_position(word: u64, rank: u32) -> u32
     let mut left = rank;
     let mut rest = word;
     let mut counts = counts_of_bytes(word);
-    let mut bit_offset: u32 = 0;
-    let position = 'bytes: loop {
-        if bit_offset >= 64 {
-            break 'bytes 64;
-        }
+    for bit_offset in (0..64).step_by(8) {
         let count = (counts & 0xff) as u32;
         if left < count {
             let byte = (rest & 0xff) as u32;
-            break 'bytes bit_offset + place_in(byte, left);
+            return bit_offset + place_in(byte, left);
         }
         left -= count;
         rest >>= 8;
         counts >>= 8;
-        bit_offset += 8;
-    };
-    position
+    }
+    64
 }

@@ -21,13 +21,11 @@ fn lay_in_turn(runs: &[u32], len: u64, at: u64, out: &mut [u64])
     ensures { out.new ≡ laid at (in_runs len runs.now) out.old }
 {
     let mut done: u64 = 0;
-    let mut i: usize = 0;
-    while i < runs.len() {
+    for i in (0..runs.len()).step_by(2) {
         let first = runs[i] as u64;
         let past = runs[i + 1] as u64;
         lay_run(done, first, past, at, out);
         done = past;
-        i += 2;
     }
     clear(out, at + done, len - done);
 }
@@ -44,7 +42,7 @@ pub fn set_run(out: &mut [u64], at: u64, first: u64, past: u64)
         return;
     }
     if n <= 64 {
-        put(out, bit, n, 0xffff_ffff_ffff_ffffu64);
+        put(out, bit, n, u64::MAX);
         return;
     }
     fill(out, bit, n);
@@ -56,12 +54,10 @@ fn fill_runs(runs: &[u32], len: u64, at: u64, out: &mut [u64])
     ensures { out.new ≡ laid at (in_runs len runs.now) out.old }
 {
     clear(out, at, len);
-    let mut i: usize = 0;
-    while i < runs.len() {
+    for i in (0..runs.len()).step_by(2) {
         let first = runs[i] as u64;
         let past = runs[i + 1] as u64;
         set_run(out, at, first, past);
-        i += 2;
     }
 }
 

@@ -9,11 +9,9 @@ fn list_run(first: u64, past: u64, k: usize, out: &mut [u32]) -> usize
     requires { (first ≤ past) × (past ≤ 1048576) × (k + (past - first) ≤ length out.old) }
     ensures { (result ≡ k + (past - first)) × (out.new ≡ splice k out.old (set_rows first (replicate (past - first) true))) }
 {
-    let mut row = first;
     let mut next = k;
-    while row < past {
+    for row in first..past {
         out[next] = row as u32;
-        row += 1;
         next += 1;
     }
     next
@@ -25,11 +23,9 @@ pub fn list_runs(runs: &[u32], len: u64, out: &mut [u32])
     ensures { out.new ≡ splice 0 out.old (set_rows 0 (in_runs len runs.now)) }
 {
     let mut next: usize = 0;
-    let mut i: usize = 0;
-    while i < runs.len() {
+    for i in (0..runs.len()).step_by(2) {
         let first = runs[i] as u64;
         let past = runs[i + 1] as u64;
         next = list_run(first, past, next, out);
-        i += 2;
     }
 }

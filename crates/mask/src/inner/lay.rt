@@ -20,11 +20,9 @@ fn lay_chunks(form: Form, words: &[u64], at: u64, out: &mut [u64])
     ensures { out.new ≡ laid at (rows_of (lent form words.now [])) out.old }
 {
     let len = length_of(form);
-    let mut row: u64 = 0;
-    while row < len {
+    for row in (0..len).step_by(64) {
         let n = chunk_len(len, row);
         put(out, at + row, n, chunk_of(form, words, row, n));
-        row += n;
     }
 }
 
@@ -68,11 +66,8 @@ fn mark(rows: &[u32], len: u64, at: u64, out: &mut [u64])
     requires { Below len rows.now × Room at len out.old }
     ensures { out.new ≡ marked at rows.now out.old }
 {
-    let mut i: usize = 0;
-    while i < rows.len() {
-        let row = rows[i] as u64;
-        set_bit(out, at + row);
-        i += 1;
+    for row in rows {
+        set_bit(out, at + u64::from(*row));
     }
 }
 

@@ -1,13 +1,9 @@
-// An answer is made here, and nowhere else: of an accepted input, and of a refused one.
+// A summary is made here, and nowhere else: of an accepted input, and what is told of a refused one.
 ghost use Rattle.std.specs.Prelude.{◌≡◌, ◌≤◌};
-ghost use Rattle.rules.specs.Answer.{density_of, answer, accepted, refused};
+ghost use Rattle.rules.specs.Answer.{density_of, summary, accepted, summary_told};
 
 use rows::Refusal;
-use rows::inner::verdicts::no_refusal;
-use rules::{Answer, Summary};
-
-// The route that is told outside composition.
-pub const NO_ROUTE: u8 = 0;
+use rules::{Route, Summary};
 
 // The quotient of count and length: one division of two numbers that the format holds, and 0.0 at length 0.
 pub fn density(count: u64, length: u64) -> f64
@@ -20,28 +16,30 @@ pub fn density(count: u64, length: u64) -> f64
     (count as f64) / (length as f64)
 }
 
-fn answer(refusal: Refusal, count: u64, route: u8, density: f64) -> Answer
-    ensures { result ≡ answer refusal count route density }
+fn summary(count: u64, route: Option<Route>, density: f64) -> Summary
+    ensures { result ≡ summary count route density }
 {
-    let summary = Summary {
+    Summary {
         count,
         route,
         density,
-    };
-    Answer { refusal, summary }
+    }
 }
 
-// The answer to an accepted input: so many set rows among so many, by this route.
-pub fn accepted(count: u64, route: u8, length: u64) -> Answer
+// The summary of an accepted input: so many set rows among so many, by this route.
+pub fn accepted(count: u64, route: Option<Route>, length: u64) -> Summary
     requires { (count ≤ 1048576) × (length ≤ 1048576) }
     ensures { result ≡ accepted count route length }
 {
-    answer(no_refusal(), count, route, density(count, length))
+    summary(count, route, density(count, length))
 }
 
-// The answer to a refused one.
-pub fn refused(refusal: Refusal) -> Answer
-    ensures { result ≡ refused refusal }
+// What is told of an answer in numbers: of a refusal count 0, no route and density 0.0.
+pub fn summary_told(answer: Result<Summary, Refusal>) -> Summary
+    ensures { result ≡ summary_told answer }
 {
-    answer(refusal, 0, 0, 0.0)
+    match answer {
+        Ok(summary) => summary,
+        Err(_) => summary(0, None, 0.0),
+    }
 }

@@ -1,10 +1,8 @@
 // An operand's count: told once, by its checks, and handed on by value beside the form. Nothing counts or sums again.
 ghost use Rattle.std.specs.Prelude.{◌≡◌};
 ghost use Rattle.rules.specs.Operand.{empty_by, full_by};
-ghost use Rattle.operand.specs.Counts.{checked_by};
 
 use super::forms::length_of;
-use rows::Verdict;
 use rules::Form;
 
 // A form with its count.
@@ -12,28 +10,6 @@ use rules::Form;
 pub struct Counted {
     pub form: Form,
     pub count: u64,
-}
-
-// What the checks of an operand tell: their verdict and, where every need is met, its count.
-#[derive(Clone, Copy)]
-pub struct Checked {
-    pub verdict: Verdict,
-    pub count: u64,
-}
-
-pub fn tell(verdict: Verdict, count: u64) -> Checked
-    ensures { result ≡ checked_by verdict count }
-{
-    match verdict {
-        Verdict::Fine => Checked {
-            verdict: Verdict::Fine,
-            count,
-        },
-        Verdict::Refused(refusal) => Checked {
-            verdict: Verdict::Refused(refusal),
-            count: 0,
-        },
-    }
 }
 
 // Its count is 0.

@@ -9,15 +9,11 @@ pub fn length_of(form: Form) -> u64
     ensures { result ≡ length_of form }
 {
     match form {
-        Form::All { length } => length,
-        Form::None { length } => length,
-        Form::Words {
-            start: _,
-            length,
-            claimed: _,
-        } => length,
-        Form::List { length } => length,
-        Form::Runs { length } => length,
+        Form::All { length }
+        | Form::None { length }
+        | Form::Words { length, .. }
+        | Form::List { length }
+        | Form::Runs { length } => length,
     }
 }
 
@@ -26,15 +22,8 @@ pub fn start_of(form: Form) -> u64
     ensures { result ≡ start_of form }
 {
     match form {
-        Form::All { length: _ } => 0,
-        Form::None { length: _ } => 0,
-        Form::Words {
-            start,
-            length: _,
-            claimed: _,
-        } => start,
-        Form::List { length: _ } => 0,
-        Form::Runs { length: _ } => 0,
+        Form::Words { start, .. } => start,
+        _ => 0,
     }
 }
 
@@ -42,66 +31,26 @@ pub fn start_of(form: Form) -> u64
 pub fn counts_as_list(form: Form) -> bool
     ensures { result ≡ counts_as_list form }
 {
-    match form {
-        Form::All { length: _ } => false,
-        Form::None { length: _ } => false,
-        Form::Words {
-            start: _,
-            length: _,
-            claimed: _,
-        } => false,
-        Form::List { length: _ } => true,
-        Form::Runs { length: _ } => true,
-    }
+    matches!(form, Form::List { .. } | Form::Runs { .. })
 }
 
 // The numbers lent beside it are its set rows.
 pub fn has_row_numbers(form: Form) -> bool
     ensures { result ≡ has_row_numbers form }
 {
-    match form {
-        Form::All { length: _ } => false,
-        Form::None { length: _ } => false,
-        Form::Words {
-            start: _,
-            length: _,
-            claimed: _,
-        } => false,
-        Form::List { length: _ } => true,
-        Form::Runs { length: _ } => false,
-    }
+    matches!(form, Form::List { .. })
 }
 
 // They are its runs, in pairs.
 pub fn has_runs(form: Form) -> bool
     ensures { result ≡ has_runs form }
 {
-    match form {
-        Form::All { length: _ } => false,
-        Form::None { length: _ } => false,
-        Form::Words {
-            start: _,
-            length: _,
-            claimed: _,
-        } => false,
-        Form::List { length: _ } => false,
-        Form::Runs { length: _ } => true,
-    }
+    matches!(form, Form::Runs { .. })
 }
 
 // Its rows are bits of the words lent.
 pub fn has_words(form: Form) -> bool
     ensures { result ≡ has_words form }
 {
-    match form {
-        Form::All { length: _ } => false,
-        Form::None { length: _ } => false,
-        Form::Words {
-            start: _,
-            length: _,
-            claimed: _,
-        } => true,
-        Form::List { length: _ } => false,
-        Form::Runs { length: _ } => false,
-    }
+    matches!(form, Form::Words { .. })
 }

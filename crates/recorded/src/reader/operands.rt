@@ -1,35 +1,52 @@
 // An operand, told as its form, its words and its list.
-ghost use Rattle.std.specs.Prelude.{◌≡◌, ◌≤◌, length, take};
-
-use super::forms::read_form;
-use super::{Cursor, if_held};
+use super::slices::fill;
+use super::{Malformed, Reader};
 use rules::Form;
 
-// The form, and how many words and how many entries of a list were laid into the lent slices.
-#[derive(Drop)]
-pub struct Operand {
+// How many words of an operand there is room for.
+pub const WORDS: usize = 16386;
+
+// How many entries of a list there is room for.
+pub const ENTRIES: usize = 4100;
+
+// How many words of an output there is room for.
+pub const OUTPUT: usize = 16388;
+
+// A form, and the words and the list that are lent beside it.
+#[derive(Clone, Copy)]
+pub struct Operand<'a> {
     pub form: Form,
-    pub size: usize,
-    pub entries: usize,
-    pub next: Cursor,
+    pub words: &'a [u64],
+    pub rows: &'a [u32],
 }
 
-// The list is read before the words, while `words` is free to take its elements: it starts where the words end, and words that are
-// compared with none are read to their end.
-pub fn read_operand(text: &[u8], cursor: Cursor, words: &mut [u64], rows: &mut [u32]) -> Operand
-    ensures size_in_bounds { (result.size ≤ length words.new) × (result.size ≡ length (take result.size words.new)) }
-    ensures entries_in_bounds { (result.entries ≤ length rows.new) × (result.entries ≡ length (take result.entries rows.new)) }
-{
-    let told = read_form(text, cursor);
-    let form = told.form;
-    let past = super::words::compare(text, told.next, &words[..0]);
-    let listed = super::lists::fill(text, past.next, words, rows);
-    let lent = super::words::fill(text, told.next, words);
-    let next = if_held(listed.next, lent.next.fine);
-    Operand {
-        form,
-        size: lent.length,
-        entries: listed.length,
-        next,
+// A form is told as its kind, length, start and claimed count. The kinds are all, none, words, list and runs, from 0 on.
+fn read_form(reader: &mut Reader<'_>) -> Result<Form, Malformed> {
+    let kind = reader.number()?;
+    let length = reader.number()?;
+    let start = reader.number()?;
+    let claimed = reader.number()?;
+    match kind {
+        0 => Ok(Form::All { length }),
+        1 => Ok(Form::None { length }),
+        2 => Ok(Form::Words {
+            start,
+            length,
+            claimed,
+        }),
+        3 => Ok(Form::List { length }),
+        4 => Ok(Form::Runs { length }),
+        _ => Err(Malformed),
     }
+}
+
+pub fn read_operand<'a>(
+    reader: &mut Reader<'_>,
+    words: &'a mut [u64],
+    rows: &'a mut [u32],
+) -> Result<Operand<'a>, Malformed> {
+    let form = read_form(reader)?;
+    let words = fill(reader, words)?;
+    let rows = fill(reader, rows)?;
+    Ok(Operand { form, words, rows })
 }

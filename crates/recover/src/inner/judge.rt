@@ -1,21 +1,20 @@
-// The checks of a recovery, part by part as its table has them; the first part that refuses is the verdict. The operands' counts are told beside it,
-// and with 17 the first row outside self.
+// The checks of a recovery, part by part as its table has them: the first part that refuses ends them. What they tell is the operands' counts.
 ghost use Rattle.std.specs.Prelude.{◌≡◌};
+ghost use Rattle.rows.specs.Table.{first};
 ghost use Rattle.rules.specs.Operand.{lent, length_of, Accepted};
-ghost use Rattle.recover.specs.Judged.{matched_of, found_of, judged_of};
+ghost use Rattle.recover.specs.Judged.{last_checks, matched_of, judged_of};
 
 use lent::inner::words_for;
 use operand::inner::checks::check;
 use operand::inner::forms::length_of;
 use outside::inner::first_outside;
-use rows::inner::verdicts::{equal, has_room, refuse, then};
-use rows::{Row, Verdict};
+use rows::inner::verdicts::{equal, has_room, refusal};
+use rows::{Reason, Refusal, Which};
 use rules::Form;
 
-// What the checks of two masks of rows tell: the verdict and, where an operand's own needs are met, how many rows self has set, and how many are kept.
+// How many rows self has set, and how many are kept.
 #[derive(Clone, Copy)]
 pub struct Matched {
-    pub verdict: Verdict,
     pub set: u64,
     pub kept: u64,
 }
@@ -28,27 +27,13 @@ pub fn judge_masks(
     k: Form,
     kwords: &[u64],
     krows: &[u32],
-) -> Matched
+) -> Result<Matched, Refusal>
     ensures { result ≡ matched_of (lent s swords.now srows.now) (lent k kwords.now krows.now) }
 {
-    let one = check(1, s, swords, srows);
-    let two = check(2, k, kwords, krows);
-    let earlier = one.verdict;
-    let later = two.verdict;
-    let lengths = equal(length_of(k), length_of(s));
-    let verdict = then(then(earlier, later), lengths);
-    Matched {
-        verdict,
-        set: one.count,
-        kept: two.count,
-    }
-}
-
-// A verdict, and the row that is told beside it.
-#[derive(Clone, Copy)]
-pub struct Found {
-    pub verdict: Verdict,
-    pub outside: Row,
+    let set = check(Which::First, s, swords, srows)?;
+    let kept = check(Which::Second, k, kwords, krows)?;
+    equal(length_of(k), length_of(s))?;
+    Ok(Matched { set, kept })
 }
 
 // 17 where a row of the second mask lies outside self, with the first such row; and 8 where the output has no room for so many bits.
@@ -61,30 +46,15 @@ pub fn judge_inside(
     krows: &[u32],
     bits: u64,
     room: u64,
-) -> Found
+) -> Result<(), Refusal>
     requires { Accepted (lent s swords.now srows.now) × Accepted (lent k kwords.now krows.now) × (length_of k ≡ length_of s) }
-    ensures { result ≡ found_of (lent s swords.now srows.now) (lent k kwords.now krows.now) bits room }
+    ensures { result ≡ first (last_checks (lent s swords.now srows.now) (lent k kwords.now krows.now) bits room) }
 {
     let row = first_outside(s, swords, srows, k, kwords, krows);
     if row.0 != length_of(s) {
-        return Found {
-            verdict: refuse(17, 0),
-            outside: row,
-        };
+        return Err(refusal(Reason::RowOutside(row)));
     }
-    Found {
-        verdict: has_room(words_for(bits), room),
-        outside: Row(0),
-    }
-}
-
-// What the checks of a recovery tell.
-#[derive(Clone, Copy)]
-pub struct Judged {
-    pub verdict: Verdict,
-    pub outside: Row,
-    pub set: u64,
-    pub kept: u64,
+    has_room(words_for(bits), room)
 }
 
 // The operands' checks with 7, and then 17 and 8.
@@ -96,30 +66,10 @@ pub fn judge(
     kwords: &[u64],
     krows: &[u32],
     room: u64,
-) -> Judged
+) -> Result<Matched, Refusal>
     ensures { result ≡ judged_of (lent s swords.now srows.now) (lent k kwords.now krows.now) room }
 {
-    let matched = judge_masks(s, swords, srows, k, kwords, krows);
-    let set = matched.set;
-    let kept = matched.kept;
-    let verdict = matched.verdict;
-    match verdict {
-        Verdict::Refused(refusal) => Judged {
-            verdict: Verdict::Refused(refusal),
-            outside: Row(0),
-            set,
-            kept,
-        },
-        Verdict::Fine => {
-            let found = judge_inside(s, swords, srows, k, kwords, krows, set, room);
-            let inside = found.verdict;
-            let outside = found.outside;
-            Judged {
-                verdict: inside,
-                outside,
-                set,
-                kept,
-            }
-        }
-    }
+    let matched = judge_masks(s, swords, srows, k, kwords, krows)?;
+    judge_inside(s, swords, srows, k, kwords, krows, matched.set, room)?;
+    Ok(matched)
 }

@@ -5,8 +5,8 @@ use mathlib.Core.List.{[]}
 use native.Mathlib.Omega.{arith}
 use lib.ListN.{length}
 use Rattle.rows.specs.Rows.{splice}
-use Rattle.rules.specs.declared.Answer.{Answer}
-use Rattle.rules.specs.Answer.{refused}
+use Rattle.rules.specs.Answer.{Answer}
+use Rattle.std.specs.Prelude.{Err}
 use Rattle.lines.specs.declared.Written.{Written}
 use Rattle.lines.specs.Text.{text_of, with_text}
 use Rattle.lines.proofs.ToldLaws.{no_room, room}
@@ -18,7 +18,7 @@ returns-then-out-len c =
     let t = c.tell-told in
     let len : t.result.len ≡ length (text_of a.input.now) = ap (λ (w : Written). w.len) t.ensures.0 in
     let n = no_room a.input.now a.out.now (omega (arith, len, c.if-out-len.true)) in
-    (ap (λ (x : Answer). with_text x []) (c.refused.ensures ∙ ap refused c.refusal.ensures) ∙ sym n.0, sym n.1)
+    (ap (λ (x : Answer). with_text x []) (ap Err c.refusal.ensures) ∙ sym n.0, sym n.1)
 
 pub returns : goal.returns
 returns c =

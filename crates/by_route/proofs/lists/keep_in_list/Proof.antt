@@ -11,6 +11,7 @@ use Rattle.rows.specs.Lists.{listed}
 use Rattle.rows.specs.Runs.{in_runs, run_lengths, Apart}
 use Rattle.rows.specs.Laid.{laid}
 use Rattle.rules.specs.Operand.{Operand, lent, length_of}
+use Rattle.marks.specs.declared.inner.Numbers.{Numbers}
 use Rattle.marks.specs.Entries.{entries}
 use Rattle.by_route.proofs.EntriesLaws.{AsRuns, AsEntries, as_runs, as_entries}
 use Rattle.by_route.proofs.lists.keep_in_list.Statement.{statement}
@@ -33,7 +34,7 @@ in_runs_lem c = c.before.before
 abbrev runs-laid : tie.After-slice_known-then-has_long_runs-1 → tie.After-lay_runs_in_runs
 runs-laid c = c.before.before
 
-abbrev in-entries : tie.After-lay_entries_by_runs → tie.After-has_runs
+abbrev in-entries : tie.After-lay_entries_by_runs → tie.After-numbers
 in-entries c = c.before.before
 
 abbrev entries-laid : tie.After-slice_known-2-1 → tie.After-lay_entries_by_runs
@@ -57,18 +58,18 @@ module _ (c : tie.Then-has_long_runs) where
       let s = start runs_of in
       as_runs (self runs_of) s.args.count s.requires.0 (sym c.before.has_long_runs.ensures ∙ c.if-has_long_runs.true)
 
-module _ (c : tie.After-has_runs) where
+module _ (c : tie.After-numbers) where
   abbrev entries-of : tie.After-length_of-len
   entries-of = asked c.before.before
 
-  abbrev single : Bool
-  single = c.has_runs.result
+  abbrev numbers : Numbers
+  numbers = c.numbers.result
 
-  found : AsEntries (self entries-of) single
+  found : AsEntries (self entries-of) numbers
   found =
       let s = start entries-of in
       let l = c.before in
-      subst (λ (b : Bool). AsEntries (self entries-of) b) (sym c.has_runs.ensures)
+      subst (λ (n : Numbers). AsEntries (self entries-of) n) (sym c.numbers.ensures)
       (as_entries (self entries-of) s.args.count s.requires.0 s.requires.1 s.requires.2 (sym l.before.has_long_runs.ensures ∙ l.if-has_long_runs.false))
 
 -- ---- the answers
@@ -79,8 +80,8 @@ length-of-requires c κs = search rules
 has-long-runs-requires : tie.Need-has_long_runs-requires
 has-long-runs-requires c κs = search rules
 
-has-runs-requires : tie.Need-has_runs-requires
-has-runs-requires c κs = search rules
+numbers-requires : tie.Need-numbers-requires
+numbers-requires c κs = search rules
 
 same_length : tie.Need-shape_of-out-then-has_long_runs
 same_length c = search rules
@@ -126,7 +127,7 @@ returns-2 c =
     let e = in-entries l in
     let q = entries-of e in
     let a = (start q).args in
-    let es = entries (single e) a.srows.now in
+    let es = entries (numbers e) a.srows.now in
     let rs = a.rruns.now in
     l.lay_entries_by_runs.ensures.1
     ∙ ap (λ (n : ℕ). laid a.at (compose (listed n es) (in_runs (length es) rs)) a.out.now) (long q)
@@ -141,7 +142,7 @@ keep_in_list_spec =
     lay-runs-in-runs-requires
     same_length
     returns
-    has-runs-requires
+    numbers-requires
     lay-entries-by-runs-requires
     same-length-2
     returns-2)

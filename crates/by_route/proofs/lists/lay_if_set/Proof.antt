@@ -14,6 +14,7 @@ use Rattle.rows.specs.Runs.{in_runs}
 use Rattle.rows.specs.Laid.{laid}
 use Rattle.rules.specs.Operand.{Operand, lent, length_of}
 use Rattle.rules.proofs.OperandLaws.{accepted_few}
+use Rattle.marks.specs.declared.inner.Numbers.{Numbers}
 use Rattle.marks.specs.Entries.{entries}
 use Rattle.by_route.proofs.EntriesLaws.{AsRuns, AsEntries, as_runs, as_entries}
 use Rattle.by_route.proofs.lists.lay_if_set.Statement.{statement}
@@ -36,7 +37,7 @@ in_runs_lem c = c.before.before
 abbrev runs-laid : tie.After-slice_known-then-has_long_runs-1 → tie.After-lay_ranks_under_runs
 runs-laid c = c.before.before
 
-abbrev in-entries : tie.After-lay_entry_if_set → tie.After-has_runs
+abbrev in-entries : tie.After-lay_entry_if_set → tie.After-numbers
 in-entries c = c.before.before
 
 abbrev entries-laid : tie.After-slice_known-2-1 → tie.After-lay_entry_if_set
@@ -60,18 +61,18 @@ module _ (c : tie.Then-has_long_runs) where
       let s = start runs_of in
       as_runs (self runs_of) s.args.count s.requires.0 (sym c.before.has_long_runs.ensures ∙ c.if-has_long_runs.true)
 
-module _ (c : tie.After-has_runs) where
+module _ (c : tie.After-numbers) where
   abbrev entries-of : tie.After-length_of-len
   entries-of = asked c.before.before
 
-  abbrev single : Bool
-  single = c.has_runs.result
+  abbrev numbers : Numbers
+  numbers = c.numbers.result
 
-  found : AsEntries (self entries-of) single
+  found : AsEntries (self entries-of) numbers
   found =
       let s = start entries-of in
       let l = c.before in
-      subst (λ (b : Bool). AsEntries (self entries-of) b) (sym c.has_runs.ensures)
+      subst (λ (n : Numbers). AsEntries (self entries-of) n) (sym c.numbers.ensures)
       (as_entries (self entries-of) s.args.count s.requires.0 s.requires.1 s.requires.2 (sym l.before.has_long_runs.ensures ∙ l.if-has_long_runs.false))
 
 -- ---- the answers
@@ -82,8 +83,8 @@ length-of-requires c κs = search rules
 has-long-runs-requires : tie.Need-has_long_runs-requires
 has-long-runs-requires c κs = search rules
 
-has-runs-requires : tie.Need-has_runs-requires
-has-runs-requires c κs = search rules
+numbers-requires : tie.Need-numbers-requires
+numbers-requires c κs = search rules
 
 same_length : tie.Need-shape_of-out-then-has_long_runs
 same_length c = search rules
@@ -130,7 +131,7 @@ returns-2 c =
     let a = (start q).args in
     let bits = drop a.from (bits_of_all 64 a.rwords.now) in
     l.lay_entry_if_set.ensures
-    ∙ ap (λ (n : ℕ). laid a.at (compose (listed n (entries (single e) a.srows.now)) bits) a.out.now) (long q)
+    ∙ ap (λ (n : ℕ). laid a.at (compose (listed n (entries (numbers e) a.srows.now)) bits) a.out.now) (long q)
     ∙ ap (λ (z : List Bool). laid a.at (compose z bits) a.out.now) (found e).rows
 
 pub lay_if_set_spec : {M : Type 1} → statement M
@@ -142,7 +143,7 @@ lay_if_set_spec =
     lay-ranks-under-runs-requires
     same_length
     returns
-    has-runs-requires
+    numbers-requires
     lay-entry-if-set-requires
     same-length-2
     returns-2)

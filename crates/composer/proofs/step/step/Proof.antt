@@ -4,12 +4,12 @@ use Prim.Native.Nat.{◌+◌}
 use mathlib.Core.Path.{◌≡◌, sym, ap, ◌∙◌}
 use native.Mathlib.Omega.{arith}
 use lib.ListN.{length}
-use Rattle.rows.specs.declared.Verdict.TheVariants.{Fine}
+use Rattle.std.specs.Prelude.{Ok}
 use Rattle.rows.specs.Rows.{count}
 use Rattle.rules.specs.declared.Factors.{Factors}
 use Rattle.rules.specs.declared.State.{State}
 use Rattle.rules.specs.Operand.{lent, rows_of}
-use Rattle.rules.specs.Answer.{answered}
+use Rattle.rules.specs.Answer.{summed}
 use Rattle.rules.specs.Compose.{routed}
 use Rattle.rules.specs.Stream.{Pair, pair_of, kept, state_of, moved}
 use Rattle.rules.proofs.StreamLaws.{Accepts, moved_within, self_length, self_count, kept_count}
@@ -29,10 +29,10 @@ start c = entry c.before.before.before
 abbrev measured : tie.After-document_factors-factors → tie.After-length_of
 measured c = c.before.before
 
-abbrev chosen : tie.After-lay_composition-answer → tie.After-document_factors-factors
+abbrev chosen : tie.After-lay_composition-summary → tie.After-document_factors-factors
 chosen c = c.before.before
 
-abbrev laid_there : tie.After-slice_known-2-1 → tie.After-lay_composition-answer
+abbrev laid_there : tie.After-slice_known-2-1 → tie.After-lay_composition-summary
 laid_there c = c.before.before
 
 -- ---- the pieces that are fed, and what acceptance gives
@@ -83,7 +83,7 @@ moved-requires c κs =
 document-factors-requires : tie.Need-document_factors-factors-requires
 document-factors-requires c κs = search rules
 
-lay-composition-requires : tie.Need-lay_composition-answer-requires
+lay-composition-requires : tie.Need-lay_composition-summary-requires
 lay-composition-requires c κs =
     let b = s (measured c.before) in
     let t = takes b in
@@ -97,9 +97,8 @@ returns c =
     let l = laid_there c in
     let f = chosen l in
     let p = pair (s (measured f)) in
-    let answer = l.lay_composition-answer.ensures.0
-    ∙ ap (λ (x : Factors). answered Fine (kept p) (routed x p.self p.rank)) f.document_factors-factors.ensures in
-    ((λ i. record { answer = answer i; state = moved_to f.before i }), l.lay_composition-answer.ensures.1)
+    let summary = l.lay_composition-summary.ensures.0 ∙ ap (λ (x : Factors). summed (kept p) (routed x p.self p.rank)) f.document_factors-factors.ensures in
+    ((λ i. record { answer = Ok (summary i); state = moved_to f.before i }), l.lay_composition-summary.ensures.1)
 
 pub step_spec : {M : Type 1} → statement M
 step_spec =

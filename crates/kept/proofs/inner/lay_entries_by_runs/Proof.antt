@@ -43,7 +43,7 @@ returns c =
     let m = marks c in
     let z = cleared m.before in
     let a = (start z).args in
-    let rows = entries a.single a.rows.now in
+    let rows = entries a.numbers a.rows.now in
     let self = listed a.len rows in
     let r = in_runs (length rows) a.ranks.now in (
       m.mark_spans.ensures.0,

@@ -49,7 +49,7 @@ returns c =
     let k = cleared e.before in
     let s = entry k.before in
     let a = s.args in
-    let rows = entries a.single a.rows.now in
+    let rows = entries a.numbers a.rows.now in
     let self = listed a.len rows in
     let rank = listed (length rows) a.ranks.now in
     e.intersect_by_rank_indices.ensures ∙ ap (marked a.at (set_rows 0 (compose self rank))) k.clear.ensures

@@ -50,7 +50,7 @@ returns c =
     let k = cleared e.before in
     let s = entry k.before in
     let a = s.args in
-    let rows = entries a.single a.rows.now in
+    let rows = entries a.numbers a.rows.now in
     let self = listed a.len rows in
     let rank = drop a.from (bits_of_all 64 a.ranks.now) in
     e.intersect_indices_by_rank_bits.ensures ∙ ap (marked a.at (set_rows 0 (compose self rank))) k.clear.ensures

@@ -24,13 +24,13 @@ use Rattle.marks.proofs.lists.mark_entries.Statement.{statement}
 use Rattle.marks.proofs.lists.mark_entries.Tie as tie
 
 abbrev invariant-loop : tie.invariant-loop-rest
-invariant-loop numbers single len chunk base at out₀ rest₀ out rest =
-    (rest < 2 ^ 64) × (length out ≡ length out₀) × Below (length (entries single numbers)) (set_rows base.0 (bits_of 64 rest))
-    × (marked at (map (λ k. get_or (entries single numbers) k 0) (set_rows base.0 (bits_of 64 rest))) out
-    ≡ marked at (map (λ k. get_or (entries single numbers) k 0) (set_rows base.0 (bits_of 64 chunk))) out₀)
+invariant-loop rows numbers len chunk base at out₀ rest₀ out rest =
+    (rest < 2 ^ 64) × (length out ≡ length out₀) × Below (length (entries numbers rows)) (set_rows base.0 (bits_of 64 rest))
+    × (marked at (map (λ k. get_or (entries numbers rows) k 0) (set_rows base.0 (bits_of 64 rest))) out
+    ≡ marked at (map (λ k. get_or (entries numbers rows) k 0) (set_rows base.0 (bits_of 64 chunk))) out₀)
 
 abbrev decreases-loop : tie.decreases-loop-rest
-decreases-loop numbers single len chunk base at out₀ rest₀ out rest = count (bits_of 64 rest)
+decreases-loop rows numbers len chunk base at out₀ rest₀ out rest = count (bits_of 64 rest)
 
 -- ---- the places, each from the one after it
 
@@ -62,7 +62,7 @@ last c = c.before
 
 module _ (c : tie.In-loop-rest invariant-loop decreases-loop) where
   abbrev rows : List ℕ
-  rows = entries (start c).args.single (start c).args.rows.now
+  rows = entries (start c).args.numbers (start c).args.rows.now
 
   abbrev base : ℕ
   base = (start c).args.base.0
@@ -96,7 +96,7 @@ cast-bit c = omega (arith, trailing_le 64 (rest c))
 add-rest : tie.Need-overflow_add-rank invariant-loop decreases-loop
 add-rest c =
     let t = turn c in
-    let few = entries_few (start t).args.single (start t).args.rows.now in
+    let few = entries_few (start t).args.numbers (start t).args.rows.now in
     omega (arith, (below t).0, few, (lent (head t).before).shared_slice_known-1.given 0)
 
 entry-at-requires : tie.Need-entry_at-row-requires invariant-loop decreases-loop
@@ -140,7 +140,7 @@ returns c =
     let l = (last c).loop-rest in
     let a = (entry (last c).before).args in
     let b = a.base.0 in
-    let f : ℕ → ℕ = λ k. get_or (entries a.single a.rows.now) k 0 in
+    let f : ℕ → ℕ = λ k. get_or (entries a.numbers a.rows.now) k 0 in
     let none : set_rows b (bits_of 64 l.rest) ≡ [] = ap (λ (x : ℕ). set_rows b (bits_of 64 x)) c.loop-rest-test.false ∙ rows_zero b 64 in
     sym (ap (λ (rs : List ℕ). marked a.at (map f rs) l.out) none) ∙ l.invariant.3
 

@@ -12,8 +12,10 @@ use Rattle.rules.specs.Answer.{accepted}
 use Rattle.rules.specs.RecoverStream.{Masks, masks_of, ranks, state_of, moved}
 use Rattle.rules.proofs.OperandLaws.{accepted_few}
 use Rattle.rules.proofs.RecoverFeeds.{Accepts, moved_bounded, self_length, self_count, ranks_length, ranks_count, feed_fine}
+use Rattle.std.specs.Prelude.{Ok}
 use Rattle.recoverer.proofs.step.step.Statement.{statement}
 use Rattle.recoverer.proofs.step.step.Tie as tie
+use Rattle.rules.specs.Answer.{no_route}
 
 -- ---- the places, each from the one after it
 
@@ -84,7 +86,7 @@ lay-recovery-requires c κs =
     let few = accepted_few (masks b).self t.within.self in
     (t.within, b.requires.1, (omega (arith, t.space), omega (arith, few, t.bounded)))
 
-accepted-requires : tie.Need-accepted-answer-requires
+accepted-requires : tie.Need-accepted-requires
 accepted-requires c κs =
     let b = s (measured (laid_there c).before) in
     let w = (takes b).within in
@@ -98,8 +100,8 @@ returns c =
     let l = laid_there c.before in
     let k = l.before.before in
     let n = k.before in
-    let answer = c.accepted-answer.ensures ∙ ap₂ (λ (x y : ℕ). accepted x 0 y) (kept_counted n) (ranks_long n) in
-    ((λ i. record { answer = answer i; outside = record { 0 = 0 }; state = moved_to k i }), l.lay_recovery.ensures)
+    let summary = c.accepted.ensures ∙ ap₂ (λ (x y : ℕ). accepted x no_route y) (kept_counted n) (ranks_long n) in
+    ((λ i. record { answer = Ok (summary i); state = moved_to k i }), l.lay_recovery.ensures)
 
 pub step_spec : {M : Type 1} → statement M
 step_spec =

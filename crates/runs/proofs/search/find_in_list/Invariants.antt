@@ -1,6 +1,6 @@
 -- `runs::search::find_in_list` meets its contract.
 -- The invariant: what follows from entry i on follows from the first on. Assumes nothing.
-use Rattle.std.proofs.Common.{ℕ, List, length, drop, get_or, suc, ◌-◌, ◌≡◌, ◌+◌, ◌≤◌}
+use Rattle.std.proofs.Common.{ℕ, List, length, drop, get_or, suc, ◌≡◌, ◌+◌, ◌≤◌}
 use Rattle.runs.specs.Searched.{run_on}
 use Rattle.runs.proofs.search.find_in_list.Given as goal
 
@@ -16,6 +16,3 @@ pub record Following (es : List ℕ) (at past i : ℕ) : Type 0 where
 
 abbrev pub invariant-loop-i : goal.invariant-loop-i
 invariant-loop-i l = Following l.rows l.at l.past l.i
-
-abbrev pub decreases-loop-i : goal.decreases-loop-i
-decreases-loop-i l = length l.rows - l.i

@@ -1,31 +1,22 @@
 -- `runs::search::find_in_words` meets its contract: the next set row, and from there the next that is not.
--- By what `seek` finds, which is within the rows. Assumes nothing.
-use Rattle.std.proofs.Common.{ℕ, ◌≡◌, ◌≤◌, Bool, true, false, List, arith}
+-- By what `seek` finds, the first row sought. Assumes nothing.
+use Rattle.std.proofs.Common.{ℕ, ◌≡◌, subst, sym, ap, ap₂, ◌∙◌}
 use Rattle.rows.specs.Words.{view}
-use Rattle.rows.specs.Asks.{InView}
 use Rattle.rows.proofs.WordsLaws.{view_length}
-use Rattle.runs.specs.Searched.{seek_row}
-use Rattle.runs.proofs.SearchLaws.{seek_most}
+use Rattle.outside.specs.declared.words.Sought.TheVariants.{Set, Unset}
+use Rattle.outside.specs.First.{has, sought, First}
+use Rattle.runs.specs.Searched.{seek_row, found}
+use Rattle.runs.proofs.SearchLaws.{seek_first}
 use Rattle.runs.proofs.search.find_in_words.Goals as goal
 
--- what `seek` finds is within the rows
-most : (set : Bool) (start len from : ℕ) (ws : List ℕ) (x : ℕ) → InView start len ws → from ≤ len → x ≡ seek_row set from (view start len ws) → x ≤ len
-most set start len from ws x h l e =
-    let long = view_length start len ws h.2 in
-    omega (arith, e, seek_most set from (view start len ws) (omega (arith, l, long)), long)
-
-pub seek-past-requires : goal.seek-past-requires
-seek-past-requires c =
+pub returns : goal.returns
+returns c =
     let a = c.args in
-    (c.requires.0, most true a.start a.len a.at a.words.now c.seek-first.result c.requires.0 c.requires.1 c.seek-first.ensures)
-
-pub overflow_cast-result : goal.overflow_cast-result
-overflow_cast-result c =
-    let a = c.args in
-    record { fits = omega (arith, most true a.start a.len a.at a.words.now c.seek-first.result c.requires.0 c.requires.1 c.seek-first.ensures) }
-
-pub overflow_cast-result-2 : goal.overflow_cast-result-2
-overflow_cast-result-2 c =
-    let a = c.args in
-    let first = most true a.start a.len a.at a.words.now c.seek-first.result c.requires.0 c.requires.1 c.seek-first.ensures in
-    record { fits = omega (arith, most false a.start a.len c.seek-first.result a.words.now c.seek-past.result c.requires.0 first c.seek-past.ensures) }
+    let s = view a.start a.len a.words.now in
+    let long = sym (view_length a.start a.len a.words.now c.requires.0.2) in
+    let first : c.seek-first.result ≡ seek_row Set a.at s =
+    seek_first Set a.at s _ (subst (λ (e : ℕ). First (λ i. sought Set (has s i)) a.at e c.seek-first.result) long c.seek-first.ensures) in
+    let past : c.seek-past.result ≡ seek_row Unset c.seek-first.result s =
+    seek_first Unset c.seek-first.result s _
+    (subst (λ (e : ℕ). First (λ i. sought Unset (has s i)) c.seek-first.result e c.seek-past.result) long c.seek-past.ensures) in
+    ap₂ (λ (f p : ℕ). found f p p) first (past ∙ ap (λ (f : ℕ). seek_row Unset f s) first)

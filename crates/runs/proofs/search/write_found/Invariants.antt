@@ -1,15 +1,8 @@
 -- `runs::search::write_found` meets its contract.
--- The invariant: the runs that are left to find, stored from record i on, give what all of them give. Assumes nothing.
-use Rattle.std.proofs.Common.{◌-◌, ◌≡◌, ◌≤◌}
-use Rattle.runs.specs.Searched.{SearchReady, stored_from}
+-- The invariant: the runs that are left to find, stored from the next record on, make all runs' records. Assumes nothing.
+use Rattle.std.proofs.Common.{length}
+use Rattle.runs.proofs.FoundLaws.{Finding}
 use Rattle.runs.proofs.search.write_found.Given as goal
 
-abbrev pub invariant-loop-i : goal.invariant-loop-i
-invariant-loop-i l = record {
-  within : l.i ≤ l.n;
-  ready : SearchReady l.words l.rows l.c (l.n - l.i);
-  left : stored_from l.words l.rows l.i l.c (l.n - l.i) l.out ≡ stored_from l.words l.rows 0 l.fn.cursor l.n l.fn.out;
-}
-
-abbrev pub decreases-loop-i : goal.decreases-loop-i
-decreases-loop-i l = l.n - l.i
+abbrev pub invariant-loop-record : goal.invariant-loop-record
+invariant-loop-record l = Finding l.form l.words l.rows (length l.fn.out) l.record-index l.at l.out

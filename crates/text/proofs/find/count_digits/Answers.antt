@@ -1,32 +1,30 @@
--- `text::find::count_digits` meets its contract.
--- By the invariant: the digits from the start on are those passed and those from here on. Assumes nothing.
-use Prim.Native.Nat.{◌+◌}
-use native.Mathlib.Nat.{add-zero, add_assoc}
-use native.Mathlib.Numerals.{add-one}
-use mathlib.Core.Path.{sym, ap, ◌∙◌}
-use mathlib.Core.Bool.{Bool}
-use mathlib.Core.List.{List}
-use native.Mathlib.Omega.{arith}
-use lib.ListN.{length, drop, length-drop}
-use Rattle.lines.proofs.FindLaws.{rows_within, rows_next, rows_end}
+-- `text::find::count_digits` meets its contract: the bytes that are taken while they are digits are as many as the rows that they say.
+-- By what the chain gives, and by recursion over the text. Assumes nothing.
+use Rattle.std.proofs.Common.{◌≡◌, refl, ◌∙◌, ℕ, ◌-◌, Bool, true, false, List, [], ◌∷◌, length, take, drop, rules, tests, arith, take_all, length-drop}
+use Rattle.std.specs.List.{prefix_len}
+use Rattle.std.proofs.lemmas.List.Folds.{length-prefix_len}
+use Rattle.std.proofs.lemmas.Iterator.{YieldsList-from_slice}
+use Rattle.std.proofs.lemmas.Iterator.Consumers.{YieldsList-at, count_from_yields_List}
+use Rattle.std.proofs.lemmas.Iterator.Search.{YieldsList-from_take_while}
+use Rattle.lines.specs.Text.{is_digit, rows_in}
 use Rattle.text.proofs.find.count_digits.Goals as goal
 
-pub returns-then-not-is_digit : goal.returns-then-not-is_digit
-returns-then-not-is_digit c =
-    let l = c.loop-n in
-    sym (l.invariant.1 ∙ ap (λ (rows : List Bool). l.n + length rows) (rows_end c.args.input.now (c.args.at + l.n) (omega (arith, l.invariant.0, c.loop-n-test.true)) (sym c.is_digit.ensures ∙ c.if-not-is_digit.true)) ∙ add-zero l.n)
-
-pub loop-n-preserved : goal.loop-n-preserved
-loop-n-preserved c =
-    let a = c.args in
-    let l = c.loop-n in (
-      omega (arith, l.invariant.0, c.loop-n-test.true),
-      rw (← add_assoc a.at l.n 1, add-one (a.at + l.n))
-          (l.invariant.1 ∙ ap (λ (rows : List Bool). l.n + length rows) (rows_next a.input.now (a.at + l.n) (omega (arith, l.invariant.0, c.loop-n-test.true)) (sym c.is_digit.ensures ∙ c.if-not-is_digit.false)) ∙ omega arith),
-    )
+digits_counted : (text : List ℕ) → prefix_len is_digit text ≡ length (rows_in text)
+unfolding rows_in
+digits_counted [] = refl
+digits_counted (byte ∷ text) = go (digits_counted text) (is_digit byte) refl
+  where
+    go : prefix_len is_digit text ≡ length (rows_in text) → (b : Bool) → is_digit byte ≡ b → prefix_len is_digit (byte ∷ text) ≡ length (rows_in (byte ∷ text))
+    go ih true e = rw e (omega (arith, ih))
+    go ih false e = rw e refl
 
 pub returns : goal.returns
 returns c =
-    let a = c.args in
-    let l = c.loop-n in
-    omega (arith, l.invariant.0, l.invariant.1, c.loop-n-test.false, rows_within (drop (a.at + l.n) a.input.now), length-drop (a.at + l.n) a.input.now)
+    let input = c.args.input.now in
+    let rest = drop c.args.at input in
+    let whole : take (length input - c.args.at) rest ≡ rest = take_all _ _ (omega (arith, length-drop c.args.at input)) in
+    count_from_yields_List c.take_while.result _ c.count.ensures.ran
+    (YieldsList-from_take_while _ is_digit (YieldsList-at c.take_while.ensures.source (YieldsList-from_slice rest (c.iter.ensures.rest ∙ whole)))
+    c.take_while.ensures.closure c.take_while.ensures.done (λ x b q k. search (rules, tests)))
+    ∙ length-prefix_len is_digit rest
+    ∙ digits_counted rest

@@ -5,23 +5,23 @@ use mathlib.Core.List.{[]}
 use native.Mathlib.Omega.{arith}
 use lib.ListN.{length, take}
 use Rattle.rows.specs.Rows.{splice}
-use Rattle.rules.specs.declared.Answer.{Answer}
-use Rattle.rules.specs.Answer.{refused}
+use Rattle.rules.specs.Answer.{Answer}
+use Rattle.std.specs.Prelude.{Err}
 use Rattle.lines.specs.declared.Written.{Written}
 use Rattle.lines.specs.Text.{lines_of, answer_for, text_of, with_text}
 use Rattle.lines.proofs.ToldLaws.{answer_ill, text_ill, found_ill, text_front}
 use Rattle.text.proofs.tell.tell.Goals as goal
 
 pub tell_masks-requires : goal.tell_masks-requires
-tell_masks-requires c = (sym c.find.ensures ∙ c.in-Masks.is, omega (arith, c.requires))
+tell_masks-requires c = (sym c.find.ensures ∙ c.in-Some.is, omega (arith, c.requires))
 
-pub returns-in-Malformed : goal.returns-in-Malformed
-returns-in-Malformed c =
+pub returns-in-None : goal.returns-in-None
+returns-in-None c =
     let input = c.args.input.now in
     let out = c.args.out.now in
     let p = c.put_answer in
-    let ill = found_ill input (sym c.find.ensures ∙ c.in-Malformed.is) in
-    let thirteen = c.refused.ensures ∙ ap refused c.refusal.ensures in
+    let ill = found_ill input (sym c.find.ensures ∙ c.in-None.is) in
+    let thirteen = ap Err c.refusal.ensures in
     let text = ap (λ (a : Answer). lines_of a []) thirteen ∙ sym (text_ill input ill) in
     let whole : p.result ≡ with_text (answer_for input) (text_of input) = p.ensures.0 ∙ ap₂ with_text (thirteen ∙ sym (answer_ill input ill)) text in
     let n : p.result.len ≡ length (text_of input) = ap (λ (w : Written). w.len) whole in (
@@ -30,8 +30,8 @@ returns-in-Malformed c =
       omega (arith, p.ensures.2),
     )
 
-pub returns-in-Masks : goal.returns-in-Masks
-returns-in-Masks c =
+pub returns-in-Some : goal.returns-in-Some
+returns-in-Some c =
     let input = c.args.input.now in
     let out = c.args.out.now in
     let t = c.tell_masks in

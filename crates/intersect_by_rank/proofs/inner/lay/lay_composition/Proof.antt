@@ -8,7 +8,7 @@ use Rattle.rules.specs.declared.Route.{Route}
 use Rattle.rules.specs.Operand.{Operand, lent, count_of}
 use Rattle.rules.specs.Answer.{accepted}
 use Rattle.rules.specs.Compose.{Paired, result, routed}
-use Rattle.rules.specs.Route.{route_by, route_of, number_of}
+use Rattle.rules.specs.Route.{route_by, route_of}
 use Rattle.rules.proofs.OperandLaws.{accepted_limit, accepted_few}
 use Rattle.rules.proofs.ComposeLaws.{result_length, result_count}
 use Rattle.by_route.specs.Fits.{Fits}
@@ -16,6 +16,7 @@ use Rattle.by_route.proofs.FitsLaws.{route_fits}
 use Rattle.intersect_by_rank.proofs.inner.lay.lay_composition.Statement.{statement}
 use Rattle.intersect_by_rank.proofs.inner.lay.lay_composition.Tie as tie
 use borrow.Author.Rules.{rules}
+use Rattle.std.specs.Prelude.{Some}
 
 -- ---- the places, each from the one after it
 
@@ -31,11 +32,8 @@ start c = entry c.before
 abbrev route : tie.After-lay_by_route → tie.After-choose_route-route
 route c = c.before.before
 
-abbrev laid : tie.After-number → tie.After-lay_by_route
+abbrev laid : tie.After-length_of → tie.After-lay_by_route
 laid c = c.before.before.before
-
-abbrev numbered : tie.After-length_of → tie.After-number
-numbered c = c.before
 
 -- ---- the operands, the route that was chosen, and what is told of the composition
 
@@ -70,13 +68,13 @@ module _ (c : tie.After-choose_route-route) where
 
 module _ (c : tie.After-length_of) where
   abbrev here : tie.After-choose_route-route
-  here = route (laid (numbered c))
+  here = route (laid c)
 
   count_told : (start here).args.r.count ≡ count (result (s here) (r here))
   count_told = ranked here ∙ sym (result_count (s here) (r here) (both here))
 
-  route_told : (numbered c).number.result ≡ routed (start here).args.factors (s here) (r here)
-  route_told = (numbered c).number.ensures ∙ ap number_of (chosen here)
+  route_told : Some here.choose_route-route.result ≡ routed (start here).args.factors (s here) (r here)
+  route_told = ap Some (chosen here)
 
   length_told : c.length_of.result ≡ length (result (s here) (r here))
   length_told = c.length_of.ensures ∙ sym (result_length (s here) (r here) (both here))
@@ -92,9 +90,6 @@ lay-by-route-requires : tie.Need-lay_by_route-requires
 lay-by-route-requires c κs =
     let q = c.before in
     (both q, fits q, (start q).requires.3)
-
-number-requires : tie.Need-number-requires
-number-requires c κs = search rules
 
 length-of-requires : tie.Need-length_of-requires
 length-of-requires c κs = search rules
@@ -115,7 +110,7 @@ returns : tie.Need-returns
 returns c =
     let n = c.before in (
       c.accepted.ensures ∙ (λ i. accepted (count_told n i) (route_told n i) (length_told n i)),
-      (laid (numbered n)).lay_by_route.ensures,
+      (laid n).lay_by_route.ensures,
     )
 
 pub lay_composition_spec : {M : Type 1} → statement M
@@ -124,7 +119,6 @@ lay_composition_spec =
     (tie.spec
     choose-route-requires
     lay-by-route-requires
-    number-requires
     length-of-requires
     accepted-requires
     same_length

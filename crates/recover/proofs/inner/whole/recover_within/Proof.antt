@@ -11,8 +11,6 @@ use Rattle.rows.specs.Rows.{count}
 use Rattle.rows.specs.Laid.{laid, last_cleared, written}
 use Rattle.rows.proofs.LaidLaws.{below_all}
 use Rattle.rows.proofs.WrittenLaws.{laid_written}
-use Rattle.rules.specs.declared.Answer.{Answer}
-use Rattle.rules.specs.declared.Recovered.{Recovered}
 use Rattle.rules.specs.Operand.{Operand, lent, count_of}
 use Rattle.rules.specs.Answer.{accepted}
 use Rattle.rules.specs.Recover.{recovery}
@@ -20,6 +18,7 @@ use Rattle.rules.proofs.OperandLaws.{accepted_few}
 use Rattle.rules.proofs.Recoveries.{recovery_length, recovery_count}
 use Rattle.recover.proofs.inner.whole.recover_within.Statement.{statement}
 use Rattle.recover.proofs.inner.whole.recover_within.Tie as tie
+use Rattle.rules.specs.Answer.{no_route}
 
 -- ---- the places, each from the one after it
 
@@ -68,9 +67,9 @@ module _ (c : tie.After-slice_known-1) where
       ∙ laid_written (count_of self) rows out (below_all (2 ^ 64) out (λ i. (c.slice_known-1.given i).fits)) (recovery_length self other s.requires.0) s.requires.3
 
   -- the second mask's count and self's are the result's count and length
-  answer_is : accepted s.args.k.count 0 s.args.s.count ≡ accepted (count rows) 0 (length rows)
+  answer_is : accepted s.args.k.count no_route s.args.s.count ≡ accepted (count rows) no_route (length rows)
   answer_is =
-      ap₂ (λ (n len : ℕ). accepted n 0 len) (s.requires.2 ∙ sym (recovery_count self other s.requires.0)) (s.requires.1 ∙ sym (recovery_length self other s.requires.0))
+      ap₂ (λ (n len : ℕ). accepted n no_route len) (s.requires.2 ∙ sym (recovery_count self other s.requires.0)) (s.requires.1 ∙ sym (recovery_length self other s.requires.0))
 
 -- ---- the answers
 
@@ -90,23 +89,15 @@ accepted-requires c κs =
     let g = given (cleared (laid_out c)) in
     (kept_few g, few g)
 
-tell-requires : tie.Need-tell-requires
-tell-requires c κs = search rules
-
 same_length : tie.Need-shape_of-out
 same_length c = search rules
 
 returns : tie.Need-returns
 returns c =
-    let l = laid_out c.before.before in
+    let l = laid_out c.before in
     let k = cleared l in
-    let g = given k in (
-      c.tell.ensures ∙ ap told (c.before.accepted.ensures ∙ answer_is g),
-      l.lay_recovery.ensures ∙ ap (laid 0 (rows g)) k.clear_last.ensures ∙ whole g,
-    )
-  where
-    told : Answer → Recovered
-    told a = record { answer = a; outside = record { 0 = 0 } }
+    let g = given k in
+    (c.accepted.ensures ∙ answer_is g, l.lay_recovery.ensures ∙ ap (laid 0 (rows g)) k.clear_last.ensures ∙ whole g)
 
 pub recover_within_spec : {M : Type 1} → statement M
 recover_within_spec =
@@ -115,6 +106,5 @@ recover_within_spec =
     clear-last-requires
     lay-recovery-requires
     accepted-requires
-    tell-requires
     same_length
     returns)
