@@ -1,7 +1,7 @@
 -- Demand 1, and what is written, for the conversions, of whatever the contracts of `to_words`, `to_list` and `to_runs` allow: x is an
 -- answer that the contract allows and `after` what then stands in the output. By the theorems about their definitions.
 -- Assumes nothing.
-use Prim.Native.Nat.{ℕ, zero, ◌*◌, ◌≤◌, ◌<◌}
+use Prim.Native.Nat.{ℕ, ◌*◌, ◌≤◌, ◌<◌}
 use mathlib.Core.Path.{◌≡◌, refl, ap}
 use mathlib.Core.Logic.{◌↔◌, ◌≢◌}
 use mathlib.Core.List.{List, []}

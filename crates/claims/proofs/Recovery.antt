@@ -3,9 +3,8 @@
 -- Assumes nothing.
 use mathlib.Core.Path.{◌≡◌}
 use mathlib.Core.Logic.{◌↔◌, ◌≢◌}
-use mathlib.Core.Bool.{true}
 use mathlib.Core.List.{List}
-use Prim.Native.Nat.{ℕ, zero, ◌≤◌, ◌<◌}
+use Prim.Native.Nat.{ℕ, ◌≤◌, ◌<◌}
 use lib.ListN.{length}
 use contract.Lifetimes.{Lfts}
 use borrow.Fn.Kinds.{Dens, res_t, ended_of}
@@ -20,7 +19,7 @@ use Rattle.rules.specs.Answer.{Answer}
 use Rattle.rules.specs.Operand.{Operand, lent, rows_of, length_of, count_of}
 use Rattle.rules.specs.Route.{published}
 use Rattle.rules.proofs.AnswerLaws.{Bare}
-use Rattle.rules.proofs.Writes.{bit_at, row, Writes}
+use Rattle.rules.proofs.Writes.{row, Writes}
 use Rattle.rules.proofs.Densities.{Nearest}
 use Rattle.rules.proofs.Compositions.{Accepts as Composes}
 use Rattle.rules.proofs.Recoveries.{Refuses, Accepts, recovered_refuses, recovered_accepts, recovered_refused, recovered_writes, recovered_count, outside_else, outside_first}

@@ -1,7 +1,7 @@
 -- Deposit, select and rank read, of whatever their contracts allow: x is an answer that the contract allows. Each refusal exactly when,
 -- and what is answered otherwise. By the theorems about their definitions.
 -- Assumes nothing.
-use Prim.Native.Nat.{ℕ, zero, ◌+◌, ◌≤◌, ◌<◌}
+use Prim.Native.Nat.{ℕ, ◌+◌, ◌≤◌, ◌<◌}
 use mathlib.Core.Path.{◌≡◌, ap, ◌∙◌}
 use mathlib.Core.Logic.{◌↔◌, ◌≢◌}
 use mathlib.Core.Bool.{false}

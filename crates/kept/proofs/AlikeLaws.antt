@@ -131,26 +131,20 @@ part_alike t runs rank most total v alike few room =
     ∙ compose_cut (count t) t (drop rank (in_runs total runs)) (omega arith)
 
 -- a word of a stretch more, stored as it is or as 0
-pub stored_alike : (start first i to : ℕ) (ws out₀ out : List ℕ) (most had word put : ℕ) (v : Bool) → first ≤ i → start + i * 64 + 64 ≤ length ws * 64
-    → Stored (start + first * 64) (to + first) ws out₀ (replicate most v) (i - first) had out
-    → word ≡ word_of (fit 64 (drop (start + i * 64) (bits_of_all 64 ws))) → had + ones word ≤ most → put ≡ all_or_none v word
-    → Stored (start + first * 64) (to + first) ws out₀ (replicate most v) (i + 1 - first) (had + ones word) (set out (to + i) put)
-stored_alike start first i to ws out₀ out most had word put v low reach s is few e =
-    let k = i - first in
+pub stored_alike : (start first k to : ℕ) (ws out₀ out : List ℕ) (most had word put : ℕ) (v : Bool) → start + (first + k) * 64 + 64 ≤ length ws * 64
+    → Stored (start + first * 64) (to + first) ws out₀ (replicate most v) k had out
+    → word ≡ word_of (fit 64 (drop (start + (first + k) * 64) (bits_of_all 64 ws))) → had + ones word ≤ most → put ≡ all_or_none v word
+    → Stored (start + first * 64) (to + first) ws out₀ (replicate most v) (k + 1) (had + ones word) (set out (to + first + k) put)
+stored_alike start first k to ws out₀ out most had word put v reach s is few e =
     let from = start + first * 64 in
     let r = replicate most v in
     let rows = drop (from + k * 64) (bits_of_all 64 ws) in
     let t = fit 64 rows in
-    let place : start + i * 64 ≡ from + k * 64 = omega arith in
+    let place : start + (first + k) * 64 ≡ from + k * 64 = omega arith in
     let own : word ≡ word_of t = is ∙ ap (λ (x : ℕ). word_of (fit 64 (drop x (bits_of_all 64 ws)))) place in
     let small : word < 2 ^ 64 =
     subst (λ (x : ℕ). x < 2 ^ 64) (sym own) (subst (λ (n : ℕ). word_of t < 2 ^ n) (fit_length 64 rows) (word_of_lt t)) in
     let room : count (view from (k * 64) ws) + count t ≤ most = omega (arith, ap ones own, ones_word t, s.counted) in
     let short : length t ≤ 64 = omega (arith, fit_length 64 rows) in
-    let one =
     stored_word from k (to + first) ws out₀ r (omega arith) had word (word_of (replicate 64 v)) put out s own
-    (alike_same t v (count (view from (k * 64) ws)) most short room) (e ∙ alike_word word v small) in
-    let next : k + 1 ≡ i + 1 - first = omega arith in
-    let there : to + first + k ≡ to + i = omega arith in
-    subst (λ (j : ℕ). Stored from (to + first) ws out₀ r j (had + ones word) (set out (to + i) put)) next
-    (subst (λ (j : ℕ). Stored from (to + first) ws out₀ r (k + 1) (had + ones word) (set out j put)) there one)
+    (alike_same t v (count (view from (k * 64) ws)) most short room) (e ∙ alike_word word v small)

@@ -35,17 +35,17 @@ fn store_alike(
         × (out.new ≡ laid ((to + first) * 64) (compose (view (start + first * 64) (result.words * 64) words.now)
         (replicate alike.most alike.set)) out.old) }
 {
+    let most = alike.most;
+    let at = to + first;
     let mut set: u64 = 0;
-    for i in first..n {
-        let word = whole_word(words, start, i);
+    // Over the words' numbers themselves (`first..n`) it took a twentieth longer.
+    for k in 0..n - first {
+        let word = whole_word(words, start, first + k);
         let past = set + u64::count_ones(word) as u64;
-        if past > alike.most {
-            return Passed {
-                words: i - first,
-                set,
-            };
+        if past > most {
+            return Passed { words: k, set };
         }
-        out[to + i] = all_or_none(word, alike.set);
+        out[at + k] = all_or_none(word, alike.set);
         set = past;
     }
     Passed {

@@ -12,7 +12,7 @@ use Rattle.rows.specs.declared.Row.{Row}
 use Rattle.rows.specs.declared.Reason.TheVariants.{RowOutside}
 use Rattle.rows.specs.Rows.{count}
 use Rattle.rows.specs.Lists.{select}
-use Rattle.rows.specs.Table.{Verdict, Named, no_operand, refusal, first, if_fine}
+use Rattle.rows.specs.Table.{Verdict, no_operand, refusal, first, if_fine}
 use Rattle.rows.proofs.TableLaws.{fine_exactly, parts_first, parts_ok, parts_err, parts_last, then_then, then_fine, alone_refused, alone_fine}
 use Rattle.rows.proofs.SelectLaws.{selects, select_none}
 use Rattle.rows.proofs.RecoverLaws.{outside_length}

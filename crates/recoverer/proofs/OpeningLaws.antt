@@ -1,15 +1,13 @@
 -- A feed's table part by part, as the code finds it: what the state says, then what the masks say, and else 11, 17 and 8. By the law of parts in order.
 -- Assumes nothing.
 use Prim.Native.Nat.{ℕ, ◌+◌, ◌≤◌}
-use native.Mathlib.Decide.{dec_le}
 use native.Mathlib.Omega.{arith}
 use mathlib.Core.Path.{◌≡◌, sym, ap, ◌∙◌}
 use mathlib.Core.List.{[], ◌∷◌}
 use Rattle.std.specs.Prelude.{Ok, Err}
 use Rattle.rows.specs.declared.Refusal.{Refusal}
-use Rattle.rows.specs.declared.Reason.TheVariants.{StreamOverLimit}
-use Rattle.rows.specs.Table.{Verdict, no_operand, first, if_fine}
-use Rattle.rows.proofs.TableLaws.{fine_exactly, parts_first, parts_ok, parts_err, then_then, alone_fine}
+use Rattle.rows.specs.Table.{Verdict, first, if_fine}
+use Rattle.rows.proofs.TableLaws.{fine_exactly, parts_first, parts_ok, parts_err, then_then}
 use Rattle.rules.specs.declared.RecoveryState.{RecoveryState}
 use Rattle.rules.specs.Operand.{limit}
 use Rattle.rules.specs.Compose.{both_checks}

@@ -1,7 +1,7 @@
 -- Deposit, select and rank read, as document 01 says them: each refusal exactly when, and what is answered otherwise.
 -- By the tables of checks that the contracts cite, and by the bits of words.
 -- Assumes nothing.
-use Prim.Native.Nat.{ℕ, zero, ◌<◌, ◌+◌, ◌≤◌}
+use Prim.Native.Nat.{ℕ, ◌<◌, ◌+◌, ◌≤◌}
 use mathlib.Core.Path.{◌≡◌, refl, sym, ap, ◌∙◌}
 use mathlib.Core.Logic.{◌↔◌, ◌≢◌}
 use mathlib.Core.Bool.{true, Bool, false}

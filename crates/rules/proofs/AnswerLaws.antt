@@ -1,19 +1,16 @@
 -- What an answer tells, by its verdict: of a refusal nothing but that; and what the functions are held to, which answer an accepted input and a
 -- refused one apart. By the cases of a verdict.
 -- Assumes nothing.
-use Prim.Native.Nat.{ℕ, zero, ◌<◌}
-use mathlib.Core.Path.{◌≡◌, refl, sym, ap, ap₂, ◌∙◌}
-use mathlib.Core.Logic.{◌↔◌, ◌≢◌}
-use mathlib.Core.Bool.{Bool}
-use mathlib.Core.List.{List}
-use native.Mathlib.Omega.{arith}
+use Prim.Native.Nat.{ℕ}
+use mathlib.Core.Path.{◌≡◌, refl, sym, ap₂}
+use mathlib.Core.Logic.{◌≢◌}
 use Rattle.rows.specs.declared.Refusal.{Refusal}
 use Rattle.std.specs.Prelude.{Ok, Err}
 use Rattle.rows.specs.Table.{Verdict, if_fine}
 use Rattle.rules.specs.declared.Summary.{Summary}
 use Rattle.rules.specs.Answer.{Answer}
 use Rattle.rules.specs.Operand.{Operand, rows_of, length_of, count_of, Accepted}
-use Rattle.rules.specs.Answer.{no_density, accepted, summed, answered}
+use Rattle.rules.specs.Answer.{no_density, accepted, summed}
 use Rattle.rules.proofs.OperandLaws.{accepted_length, accepted_count}
 use Rattle.rows.specs.Table.{number_told, granted}
 use Rattle.rules.specs.Answer.{summary_told}

@@ -1,7 +1,7 @@
 -- Demands 1 and 2 for composition, as statements that can be held against document 01: which refusal exactly when, that a refusal
 -- changes nothing, and what an accepted composition writes, row by row, counts and tells. By the laws of tables and of `compose`.
 -- Assumes nothing.
-use Prim.Native.Nat.{ℕ, zero, ◌≤◌, ◌<◌}
+use Prim.Native.Nat.{ℕ, ◌≤◌, ◌<◌}
 use mathlib.Core.Path.{◌≡◌, refl}
 use mathlib.Core.Logic.{◌↔◌, ◌≢◌, ◌⊎◌, inl, inr}
 use mathlib.Core.Bool.{Bool, true, ◌&&◌}

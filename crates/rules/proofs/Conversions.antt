@@ -1,10 +1,9 @@
 -- Demand 1 for the conversions, as statements that can be held against document 01: which refusal is told exactly when, and that a
 -- refusal changes nothing. By the law of tables.
 -- Assumes nothing.
-use Prim.Native.Nat.{ℕ, zero, ◌*◌, ◌≤◌, ◌<◌}
+use Prim.Native.Nat.{ℕ, ◌*◌, ◌≤◌, ◌<◌}
 use mathlib.Core.Path.{◌≡◌, refl}
 use mathlib.Core.Logic.{◌↔◌, ◌≢◌, ◌⊎◌, inl, inr}
-use mathlib.Core.Bool.{Bool}
 use mathlib.Core.List.{List, ◌++◌}
 use native.Mathlib.Decide.{dec_le}
 use native.Mathlib.Omega.{arith}
@@ -16,7 +15,6 @@ use Rattle.rows.specs.Laid.{words_for}
 use Rattle.rows.specs.Table.{Verdict, First, Met, first, refusal, granted, if_fine}
 use Rattle.rows.proofs.TableLaws.{fine_exactly, parts_met, none_met, then_refuses, granted_refuses, granted_number}
 use Rattle.rules.specs.Operand.{Operand, rows_of, length_of, count_of, operand_checks, Accepted}
-use Rattle.rules.specs.Answer.{answered}
 use Rattle.rules.specs.Convert.{convert_checks, to_words_verdict, to_words, to_words_out, to_list_verdict, to_list, to_list_out, to_runs_verdict, written_of, to_runs, to_runs_out, answer_of, runs_told}
 use Rattle.rules.proofs.OperandLaws.{accepted_as}
 use Rattle.rules.proofs.AnswerLaws.{Bare, nothing_done}

@@ -1,6 +1,6 @@
 -- Demand 3: feeds run from the fresh state are one composition, forward and back. By recursion over the feeds: a piece more is laid
 -- where the ones before end, and `compose` of joined pieces is the pieces' composed, joined. Assumes nothing.
-use Prim.Native.Nat.{ℕ, zero, suc, ◌+◌, ◌*◌, ◌≤◌}
+use Prim.Native.Nat.{ℕ, ◌+◌, ◌*◌, ◌≤◌}
 use native.Mathlib.Nat.{zero-add, add-zero, add_assoc}
 use native.Mathlib.Omega.{arith}
 use mathlib.Core.Path.{◌≡◌, refl, sym, ap, subst, ◌∙◌}

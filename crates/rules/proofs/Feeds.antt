@@ -1,7 +1,7 @@
 -- Demand 1 for a feed, as statements that can be held against document 01: which refusal exactly when, that a refusal hands the state
 -- back and changes nothing, and what an accepted feed writes, counts, tells and adds. By the laws of tables and of `compose`.
 -- Assumes nothing.
-use Prim.Native.Nat.{ℕ, zero, suc, ◌+◌, ◌≤◌, ◌<◌}
+use Prim.Native.Nat.{ℕ, suc, ◌+◌, ◌≤◌, ◌<◌}
 use native.Mathlib.Nat.{add-zero}
 use native.Mathlib.Decide.{dec_le}
 use native.Mathlib.Omega.{arith}

@@ -1,7 +1,7 @@
 -- Runs as records: numbers and records are each other's; which refusal is told exactly when, and that a refusal changes nothing. By recursion
 -- over the pairs, and by the law of tables.
 -- Assumes nothing.
-use Prim.Native.Nat.{ℕ, zero, ◌*◌, ◌/◌, ◌%◌, ◌≤◌, ◌<◌}
+use Prim.Native.Nat.{ℕ, ◌*◌, ◌/◌, ◌%◌, ◌≤◌, ◌<◌}
 use native.Mathlib.Decide.{dec_le}
 use native.Mathlib.Omega.{arith}
 use mathlib.Core.Path.{◌≡◌, refl, ap}

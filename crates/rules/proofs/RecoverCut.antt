@@ -1,6 +1,6 @@
 -- The cut rule of recovery: feeds run from the fresh state are one recovery, forward and back. By recursion over the feeds: a piece's ranks more are
 -- laid where those before end, and `recover` of joined pieces is the pieces' recovered, joined. Assumes nothing.
-use Prim.Native.Nat.{ℕ, zero, suc, ◌+◌, ◌*◌, ◌≤◌}
+use Prim.Native.Nat.{ℕ, ◌+◌, ◌*◌, ◌≤◌}
 use native.Mathlib.Nat.{zero-add, add-zero, add_assoc}
 use native.Mathlib.Omega.{arith}
 use mathlib.Core.Path.{◌≡◌, refl, sym, ap, ◌∙◌}

@@ -1,7 +1,7 @@
 -- Demand 1 for a feed of recovery, as statements that can be held against document 02, P6: which refusal exactly when, that a refusal hands the
 -- state back and changes nothing, which row 17 tells, and what an accepted feed writes, counts and adds. By the laws of tables and of `recover`.
 -- Assumes nothing.
-use Prim.Native.Nat.{ℕ, zero, suc, ◌+◌, ◌≤◌, ◌<◌}
+use Prim.Native.Nat.{ℕ, suc, ◌+◌, ◌≤◌, ◌<◌}
 use native.Mathlib.Nat.{add-zero}
 use native.Mathlib.Decide.{dec_le}
 use native.Mathlib.Omega.{arith}

@@ -4,7 +4,6 @@
 use Prim.Native.Nat.{ℕ, zero, suc, ◌≤◌, ◌<◌}
 use mathlib.Core.Path.{◌≡◌, refl, sym, ap, subst, ◌∙◌}
 use mathlib.Core.Logic.{◌↔◌, ◌≢◌, ◌⊎◌, inl, inr}
-use mathlib.Core.Bool.{Bool}
 use mathlib.Core.List.{List, [], ◌∷◌}
 use native.Mathlib.Decide.{ℕ_discrete, dec_le}
 use native.Mathlib.Omega.{arith}
@@ -14,15 +13,13 @@ use Rattle.rows.specs.declared.Reason.{Reason}
 use Rattle.rows.specs.declared.Reason.TheVariants.{LengthOverLimit, StartOver63, TooFewWords, CountDiffers, NotAscending, EntryPastLength, NoSuchRank, StateOutOfBound, StreamOverLimit, ListGiven, Malformed, RunsUnfit}
 use Rattle.rows.specs.declared.Refusal.{Refusal}
 use Rattle.std.specs.Prelude.{Result}
-use Rattle.rows.specs.Table.{Verdict}
 use Rattle.std.specs.Prelude.{None, Ok, Err}
 use Rattle.rows.specs.Rows.{count}
 use Rattle.rows.specs.Lists.{select}
 use Rattle.rows.specs.Laid.{words_for}
-use Rattle.rows.specs.Table.{Named, number_of, row_of, row_told, Line, First, Met, first, in_order, refusal, granted}
+use Rattle.rows.specs.Table.{Named, number_of, row_of, row_told, Line, First, Met, first, in_order, refusal}
 use Rattle.rows.proofs.TableLaws.{fine_exactly, parts_met, none_met, parts_refuses, then_refuses, line_refuses, granted_refuses, granted_number}
 use Rattle.rows.proofs.RecoverLaws.{recover_length, recover_rank, recover_count, FirstOutside, first_outside}
-use Rattle.rules.specs.Answer.{answered}
 use Rattle.rules.specs.Operand.{Operand, rows_of, length_of, count_of, Accepted}
 use Rattle.rules.specs.Compose.{both_checks}
 use Rattle.rules.specs.Recover.{strays, first_stray, Within, lengths_checks, inside_checks, room_checks, recover_checks, recovery, recovered, recovered_out}

@@ -23,7 +23,7 @@ use Rattle.rows.proofs.RunLaws.{runs_apart, runs_back, runs_even, rows_back}
 use Rattle.rules.specs.Answer.{Answer}
 use Rattle.rules.specs.declared.Form.TheVariants.{Words, List as Listed, Runs}
 use Rattle.rules.specs.Operand.{Operand, lent, climbs, last_below, runs_fit, rows_of, length_of, count_of, Accepted}
-use Rattle.rules.specs.Answer.{density_of, accepted, answered}
+use Rattle.rules.specs.Answer.{density_of}
 use Rattle.rules.specs.Convert.{convert_checks, to_words_verdict, to_words, to_words_out, to_list, to_list_out, to_runs, to_runs_out}
 use Rattle.rules.proofs.OperandLaws.{apart, accepted_length, accepted_count, accepted_limit}
 use Rattle.rules.proofs.Writes.{row, Writes, writes, written_back, Lists, WritesRuns}

@@ -6,7 +6,7 @@ use native.Mathlib.Nat.{zero-add}
 use native.Mathlib.Decide.{dec_le}
 use native.Mathlib.Omega.{arith}
 use mathlib.Core.Path.{◌≡◌, refl, sym, ap, ap₂, ◌∙◌}
-use mathlib.Core.Logic.{◌↔◌, ◌≢◌, inl, inr}
+use mathlib.Core.Logic.{◌↔◌, inl, inr}
 use mathlib.Core.Bool.{Bool}
 use mathlib.Core.List.{List, [], ◌∷◌, ◌++◌}
 use lib.ListN.{length, take, drop}
@@ -26,7 +26,7 @@ use Rattle.rows.proofs.WrittenLaws.{written_rows}
 use Rattle.rules.specs.declared.State.{State}
 use Rattle.rules.specs.Operand.{limit, rows_of, count_of}
 use Rattle.rules.specs.Compose.{Paired}
-use Rattle.rules.specs.Stream.{Pair, long, kept, feed_checks, moved, judged}
+use Rattle.rules.specs.Stream.{Pair, long, kept, moved}
 use Rattle.rules.proofs.OperandLaws.{accepted_length, accepted_count, accepted_limit}
 use Rattle.rules.proofs.ComposeLaws.{ranks_length, result_length, result_count}
 use Rattle.rows.specs.declared.Reason.TheVariants.{StateOutOfBound}

@@ -27,7 +27,6 @@ use Rattle.rules.proofs.ComposeLaws.{ranks_length, result_length}
 use Rattle.rules.proofs.Compositions.{compose_fine, Accepts as Composes}
 use Rattle.rules.proofs.Recoveries.{lengths_same, recovery_length, recover_fine, Accepts as Recovers}
 use Rattle.rules.specs.Answer.{summary_told}
-use Rattle.std.specs.Prelude.{Err}
 use Rattle.rules.specs.Answer.{no_route}
 use Rattle.std.specs.Prelude.{Option}
 use Rattle.rules.specs.declared.Route.{Route}

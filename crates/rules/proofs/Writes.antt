@@ -29,7 +29,7 @@ use Rattle.rules.specs.Operand.{Operand, lent, rows_of, limit, Accepted}
 use Rattle.rules.specs.declared.Route.{Route}
 use Rattle.rules.specs.Answer.{answered, density_of}
 use Rattle.rules.specs.Answer.{summary_told}
-use Rattle.std.specs.Prelude.{None, Err}
+use Rattle.std.specs.Prelude.{None}
 
 abbrev pub bit_at : List ℕ → ℕ → Bool
 bit_at ws i = get_or (bits_of_all 64 ws) i false

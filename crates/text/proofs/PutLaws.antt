@@ -17,7 +17,6 @@ use Rattle.io.specs.Digits as ioText
 use Rattle.rows.specs.Rows.{splice}
 use Rattle.rows.specs.Word.{word_of}
 use Rattle.rows.specs.Words.{fit, bits_of_all, view}
-use Rattle.rows.specs.Table.{choose}
 use Rattle.rows.proofs.SpliceLaws.{splice_one, splice_append, splice_eq}
 use Rattle.rows.proofs.WordLaws.{word_of_lt}
 use Rattle.rows.proofs.WordsLaws.{fit_length}

@@ -1,9 +1,9 @@
 -- `composer::judge::judge` meets its contract: the state's refusal, then the operands', then what the lengths say, and else both counts.
 -- By the law of parts in order. Assumes nothing.
-use Rattle.std.proofs.Common.{◌≡◌, ◌≤◌, ◌+◌, refl, sym, ap, ◌∙◌, rules, arith, Ok, Err}
+use Rattle.std.proofs.Common.{◌≡◌, ◌+◌, refl, sym, ap, ◌∙◌, rules, arith, Ok, Err}
 use Rattle.rows.specs.Table.{first}
 use Rattle.rows.proofs.TableLaws.{granted_ok, granted_err, passes_ok, passes_err, fine_exactly}
-use Rattle.rules.specs.Operand.{lent, limit, length_of, count_of}
+use Rattle.rules.specs.Operand.{lent, length_of, count_of}
 use Rattle.rules.specs.Compose.{both_checks}
 use Rattle.rules.specs.Stream.{pair_of, long, state_checks, piece_checks, judged}
 use Rattle.rules.proofs.OperandLaws.{accepted_limit}

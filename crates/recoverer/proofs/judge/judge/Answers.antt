@@ -1,10 +1,10 @@
 -- `recoverer::judge::judge` meets its contract: the state's refusal, then the masks', then the piece's, and else the counts.
 -- By the law of parts in order. Assumes nothing.
-use Rattle.std.proofs.Common.{◌≡◌, refl, sym, ap, ◌∙◌, rules, Ok, Err}
+use Rattle.std.proofs.Common.{◌≡◌, sym, ap, ◌∙◌, rules, Ok, Err}
 use Rattle.rows.specs.Table.{first}
 use Rattle.rows.proofs.TableLaws.{granted_ok, granted_err, passes_ok, passes_err}
 use Rattle.rules.specs.Operand.{lent}
-use Rattle.rules.specs.RecoverStream.{masks_of, state_checks, judged}
+use Rattle.rules.specs.RecoverStream.{masks_of, judged}
 use Rattle.recover.specs.declared.inner.judge.Matched.{Matched}
 use Rattle.recover.specs.Judged.{match_checks, counts_of}
 use Rattle.recover.proofs.JudgeLaws.{match_fine}

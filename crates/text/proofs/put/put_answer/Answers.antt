@@ -1,6 +1,6 @@
 -- `text::put::put_answer` meets its contract: the four lines, and no rows with a refusal.
 -- By the laws of an answer's lines. Assumes nothing.
-use Rattle.std.proofs.Common.{◌≡◌, ℕ, refl, sym, ap, ap₂, ◌∙◌, arith, length, List, [], Ok, Err}
+use Rattle.std.proofs.Common.{◌≡◌, ℕ, sym, ap, ◌∙◌, arith, length, List, []}
 use Rattle.rows.specs.Rows.{splice}
 use Rattle.rows.specs.Words.{view}
 use Rattle.rules.specs.Answer.{Answer}

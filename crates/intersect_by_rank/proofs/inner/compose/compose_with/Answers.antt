@@ -1,6 +1,6 @@
 -- `intersect_by_rank::inner::compose::compose_with` meets its contract: a refusal is answered and nothing written; else the work is done.
 -- By the verdict of its table. Assumes nothing.
-use Rattle.std.proofs.Common.{◌≡◌, refl, sym, ap, ◌∙◌, rules, Ok, Err, length}
+use Rattle.std.proofs.Common.{◌≡◌, sym, ap, ◌∙◌, rules, Ok, Err, length}
 use Rattle.rows.specs.Table.{first}
 use Rattle.rows.specs.Laid.{written}
 use Rattle.rows.proofs.TableLaws.{granted_ok, granted_err}

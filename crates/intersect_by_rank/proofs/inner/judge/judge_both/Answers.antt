@@ -1,6 +1,6 @@
 -- `intersect_by_rank::inner::judge::judge_both` meets its contract: self's refusal, then the rank mask's, and else both counts.
 -- By the law of parts in order. Assumes nothing.
-use Rattle.std.proofs.Common.{◌≡◌, refl, sym, ap, ap₂, ◌∙◌, rules, Ok, Err}
+use Rattle.std.proofs.Common.{◌≡◌, sym, ap₂, ◌∙◌, rules, Ok, Err}
 use Rattle.rows.specs.Table.{first}
 use Rattle.rows.proofs.TableLaws.{passes_ok, passes_err}
 use Rattle.rules.specs.Operand.{lent}

@@ -1,6 +1,6 @@
 -- `operand::inner::states::judge_state` meets its contract: the three bounds, in order.
 -- By the law of tables one after the other. Assumes nothing.
-use Rattle.std.proofs.Common.{ℕ, ◌≡◌, refl, sym, ap, ◌∙◌, rules, Ok, Err, List, [], ◌∷◌}
+use Rattle.std.proofs.Common.{ℕ, ◌≡◌, sym, ap, ◌∙◌, rules, Ok, Err, List, [], ◌∷◌}
 use Rattle.std.proofs.Math.Decide.{dec_le}
 use Rattle.rows.specs.declared.Reason.TheVariants.{StateOutOfBound}
 use Rattle.rows.specs.Table.{Verdict, Line, no_operand, first, need, if_fine}

@@ -1,6 +1,6 @@
 -- `recover::inner::judge::judge` meets its contract: the operands' refusal, or else what is told of the rows outside and of the room.
 -- By the law of parts in order. Assumes nothing.
-use Rattle.std.proofs.Common.{◌≡◌, refl, sym, ap, ◌∙◌, rules, Ok, Err}
+use Rattle.std.proofs.Common.{◌≡◌, sym, ap, ◌∙◌, rules, Ok, Err}
 use Rattle.rows.specs.Table.{first}
 use Rattle.rows.proofs.TableLaws.{granted_ok, granted_err, passes_ok, passes_err}
 use Rattle.rules.specs.Operand.{lent, count_of}

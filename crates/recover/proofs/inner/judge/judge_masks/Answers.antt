@@ -1,10 +1,9 @@
 -- `recover::inner::judge::judge_masks` meets its contract: each refusal is its part's where the parts before it are met.
 -- By the law of parts in order. Assumes nothing.
-use Rattle.std.proofs.Common.{◌≡◌, refl, sym, ap, ap₂, ◌∙◌, rules, Ok, Err}
+use Rattle.std.proofs.Common.{◌≡◌, refl, sym, ap₂, ◌∙◌, rules, Ok, Err}
 use Rattle.rows.specs.Table.{first}
 use Rattle.rows.proofs.TableLaws.{passes_ok, passes_err}
-use Rattle.rules.specs.Operand.{lent, length_of, Operand}
-use Rattle.rules.specs.Compose.{both_checks}
+use Rattle.rules.specs.Operand.{lent}
 use Rattle.rules.specs.Recover.{lengths_checks}
 use Rattle.operand.proofs.PairLaws.{both_err_own, both_err_other, both_ok}
 use Rattle.recover.specs.Judged.{match_checks, counts_of}

@@ -1,6 +1,6 @@
 -- `rows::inner::verdicts::at_most` meets its contract: each return is one line of the table.
 -- By the table's law. Assumes nothing.
-use Rattle.std.proofs.Common.{◌<◌, arith, sym, ap, ◌∙◌, Err}
+use Rattle.std.proofs.Common.{arith, sym, ap, ◌∙◌, Err}
 use Rattle.std.proofs.Math.Decide.{dec_le}
 use Rattle.rows.specs.Table.{no_operand}
 use Rattle.rows.proofs.TableLaws.{alone_fine, alone_refused}
