@@ -2,14 +2,14 @@
 -- that the contract of the function allows on the example's input is the example's. By the same list, of the definitions.
 -- Assumes nothing.
 use Prim.Native.Nat.{ℕ, ◌+◌, ◌-◌, ◌^◌, ◌<◌}
-use mathlib.Core.Path.{◌≡◌, ◌∙◌}
+use mathlib.Core.Path.{◌≡◌, ◌∙◌, refl}
 use mathlib.Core.List.{List, [], ◌∷◌}
 use contract.Lifetimes.{Lfts}
 use borrow.Fn.Kinds.{Dens, ended_of}
 use denote.Triple.Clauses.{Lasts, at_exit}
 use Rattle.rows.specs.Rows.{count}
 use Rattle.rows.specs.Word.{bits_of}
-use Rattle.rows.specs.Table.{refusal}
+use Rattle.rows.specs.Table.{refusal, numbered}
 use Rattle.rows.specs.WordAnswer.{deposited, selected, rank_read}
 use Rattle.rules.specs.Answer.{Answer}
 use Rattle.rules.specs.Answer.{summary}
@@ -82,11 +82,11 @@ abbrev pub WordHolds : word-examples.Case → Type 1
 WordHolds (word-examples.deposits s m w) = (x : Result ℕ Refusal) → Deposits s m x → x ≡ Ok w
 WordHolds (word-examples.takes m w) = (s : ℕ) → s < 2 ^ 64 → (x : Result ℕ Refusal) → Deposits s m x → x ≡ Ok (w s)
 WordHolds (word-examples.selects n r p) = (x : Result ℕ Refusal) → Selects n r x → x ≡ Ok p
-WordHolds (word-examples.refuses n r) = (x : Result ℕ Refusal) → Selects n r x → x ≡ Err (refusal NoSuchRank no_operand)
+WordHolds (word-examples.refuses n r) = (x : Result ℕ Refusal) → Selects n r x → x ≡ Err (refusal (numbered 9 NoSuchRank refl) no_operand)
 
 abbrev pub ReadHolds : read-examples.Case → Type 1
 ReadHolds (read-examples.reads ws s o w) = (x : Result ℕ Refusal) → Reads ws s o x → x ≡ Ok w
-ReadHolds (read-examples.refuses ws s o) = (x : Result ℕ Refusal) → Reads ws s o x → x ≡ Err (refusal StartOver63 no_operand)
+ReadHolds (read-examples.refuses ws s o) = (x : Result ℕ Refusal) → Reads ws s o x → x ≡ Err (refusal (numbered 2 StartOver63 refl) no_operand)
 
 abbrev pub CompositionHolds : Case → Type 1
 CompositionHolds (gives s r n) = (x : Answer) (after : List ℕ) → Composes s r before x after → (x ≡ Ok (summary 2 (Some n) quarter)) × (after ≡ 66 ∷ 7 ∷ [])

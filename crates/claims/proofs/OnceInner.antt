@@ -204,6 +204,11 @@ use Rattle.rows.proofs.inner.numbers.numbers.Kinds as rows-numbers-kinds
 use Rattle.rows.proofs.inner.numbers.numbers.Reads as rows-numbers
 use Rattle.operand.proofs.inner.answers.summary_told.Kinds as operand-summary-told-kinds
 use Rattle.operand.proofs.inner.answers.summary_told.Reads as operand-summary-told
+use Rattle.routes.proofs.inner.route_number.Kinds as routes-route-number-kinds
+use Rattle.routes.proofs.inner.route_number.Reads as routes-route-number
+use Rattle.outside.proofs.FirstLaws.{first_same}
+use Rattle.outside.proofs.inner.seek.Kinds as outside-seek-kinds
+use Rattle.outside.proofs.inner.seek.Reads as outside-seek
 
 pub books_self_chunk_one : OneAnswer 1 books-self-chunk-kinds.ps books-self-chunk-kinds.r books-self-chunk.Pre books-self-chunk.Post
 books_self_chunk_one κs a p x y v w hv hw = (hv ∙ sym hw, refl)
@@ -510,3 +515,10 @@ rows_numbers_one κs a p x y v w hv hw = ((λ i. record { 0 = (hv.0 ∙ sym hw.0
 
 pub operand_summary_told_one : OneAnswer 0 operand-summary-told-kinds.ps operand-summary-told-kinds.r operand-summary-told.Pre operand-summary-told.Post
 operand_summary_told_one κs a p x y v w hv hw = (hv ∙ sym hw, refl)
+
+pub routes_route_number_one : OneAnswer 0 routes-route-number-kinds.ps routes-route-number-kinds.r routes-route-number.Pre routes-route-number.Post
+routes_route_number_one κs a p x y v w hv hw = (hv ∙ sym hw, refl)
+
+-- the first row sought is one row alone
+pub outside_seek_one : OneAnswer 1 outside-seek-kinds.ps outside-seek-kinds.r outside-seek.Pre outside-seek.Post
+outside_seek_one κs a p x y v w hv hw = (first_same _ _ _ x y hv hw, refl)

@@ -15,7 +15,7 @@ use denote.Triple.Clauses.{Lasts, at_exit}
 use native.Mathlib.Omega.{arith}
 use Rattle.std.specs.Prelude.{Ok, Err}
 use Rattle.rows.specs.Rows.{count, compose}
-use Rattle.rows.specs.Table.{refusal}
+use Rattle.rows.specs.Table.{refusal, numbered}
 use Rattle.rows.proofs.TableLaws.{chosen}
 use Rattle.rules.specs.Answer.{Answer}
 use Rattle.rules.specs.Answer.{answered}
@@ -78,11 +78,11 @@ module _ (κs : Lfts 2) (a : Dens κs kinds.ps) (x : (res_t kinds.r κs).Denot) 
 
     -- two masks that do not: 7
     pub other_pair_is_7 : (self rank : List Bool) → WellFormed input self rank → length rank ≢ count self
-        → (written.answer ≡ Err (refusal LengthsDiffer no_operand)) × (take written.len after ≡ lines 7 0 0 [])
+        → (written.answer ≡ Err (refusal (numbered 7 LengthsDiffer refl) no_operand)) × (take written.len after ≡ lines 7 0 0 [])
     other_pair_is_7 self rank w h = (gives_answer ∙ unpaired_answered input self rank w h, writes_text ∙ unpaired_told input self rank w h)
 
     -- anything else: 13
-    pub anything_else_is_13 : ((self rank : List Bool) → ¬ WellFormed input self rank) → (written.answer ≡ Err (refusal Malformed no_operand)) × (take written.len after ≡ lines 13 0 0 [])
+    pub anything_else_is_13 : ((self rank : List Bool) → ¬ WellFormed input self rank) → (written.answer ≡ Err (refusal (numbered 13 Malformed refl) no_operand)) × (take written.len after ≡ lines 13 0 0 [])
     anything_else_is_13 h = (gives_answer ∙ ill_formed_answered input h, writes_text ∙ ill_formed_told input h)
 
     -- the program takes exactly the well formed inputs: 13 where there are no such masks, and there alone

@@ -1,7 +1,7 @@
 -- Recovery, of whatever the contract of `recover` allows: x is what it gives and `after` what then stands in the output; and there and back, of
 -- whatever its contract and that of `intersect_by_rank` allow, through the words that the first call left. By the theorems about the definitions.
 -- Assumes nothing.
-use mathlib.Core.Path.{◌≡◌}
+use mathlib.Core.Path.{◌≡◌, refl}
 use mathlib.Core.Logic.{◌↔◌, ◌≢◌}
 use mathlib.Core.List.{List}
 use Prim.Native.Nat.{ℕ, ◌≤◌, ◌<◌}
@@ -13,7 +13,7 @@ use Rattle.rows.specs.declared.Row.{Row}
 use Rattle.rows.specs.declared.Refusal.{Refusal}
 use Rattle.rows.specs.Lists.{select}
 use Rattle.rows.specs.Laid.{words_for}
-use Rattle.rows.specs.Table.{refusal}
+use Rattle.rows.specs.Table.{refusal, numbered}
 use Rattle.rows.proofs.RecoverLaws.{FirstOutside}
 use Rattle.rules.specs.Answer.{Answer}
 use Rattle.rules.specs.Operand.{Operand, lent, rows_of, length_of, count_of}
@@ -66,7 +66,7 @@ module _ (κs : Lfts 5) (a : Dens κs kinds.ps) where
     refused_recovery_changes_nothing = rw (allowed.0, allowed.1) (recovered_refused self other out)
 
     -- the row told with 17 is in the second mask and not in self, and no earlier row is; in every other answer it is 0
-    pub outside_row_first : (row : Row) (who : Named) → gave ≡ Err (refusal (RowOutside row) who) → FirstOutside (rows_of self) (rows_of other) row.0
+    pub outside_row_first : (row : Row) (who : Named) → gave ≡ Err (refusal (numbered 17 (RowOutside row) refl) who) → FirstOutside (rows_of self) (rows_of other) row.0
     outside_row_first = rw allowed.0 (outside_first self other out)
 
     pub outside_row_else : number_told gave ≢ 17 → row_told gave ≡ 0

@@ -24,7 +24,7 @@ use Rattle.rules.proofs.RecoverFeeds.{Bounded, Accepts, Refuses, Feeds, fed_refu
 use Rattle.rules.proofs.RecoverCut.{forward, converse, converse_in_words}
 use Rattle.recoverer.proofs.feed.Kinds as kinds
 use Rattle.recoverer.proofs.feed.Reads as reads
-use Rattle.rows.specs.Table.{Named, refusal, number_told, row_told}
+use Rattle.rows.specs.Table.{Named, refusal, number_told, row_told, numbered}
 use Rattle.std.specs.Prelude.{Err}
 
 -- ---- one call
@@ -59,7 +59,7 @@ module _ (κs : Lfts 5) (a : Dens κs kinds.ps) where
     refused_recovery_feed_changes_nothing = rw (allowed.0, allowed.1) (fed_refused state masks out)
 
     -- the row told with 17 is the first of the piece outside self's; in every other answer it is 0
-    pub feed_outside_first : (row : Row) (who : Named) → gave.answer ≡ Err (refusal (RowOutside row) who) → FirstOutside (rows_of masks.self) (rows_of masks.kept) row.0
+    pub feed_outside_first : (row : Row) (who : Named) → gave.answer ≡ Err (refusal (numbered 17 (RowOutside row) refl) who) → FirstOutside (rows_of masks.self) (rows_of masks.kept) row.0
     feed_outside_first = rw allowed.0 (fed_outside_first state masks out)
 
     pub feed_outside_else : number_told gave.answer ≢ 17 → row_told gave.answer ≡ 0

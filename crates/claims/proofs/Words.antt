@@ -2,7 +2,7 @@
 -- and what is answered otherwise. By the theorems about their definitions.
 -- Assumes nothing.
 use Prim.Native.Nat.{ℕ, ◌+◌, ◌≤◌, ◌<◌}
-use mathlib.Core.Path.{◌≡◌, ap, ◌∙◌}
+use mathlib.Core.Path.{◌≡◌, ap, ◌∙◌, refl}
 use mathlib.Core.Logic.{◌↔◌, ◌≢◌}
 use mathlib.Core.Bool.{false}
 use mathlib.Core.List.{List}
@@ -15,7 +15,7 @@ use Rattle.rows.specs.Rows.{count, compose}
 use Rattle.rows.specs.Word.{test_bit, bits_of, word_of}
 use Rattle.rows.specs.Words.{bits_of_all}
 use Rattle.rows.specs.Pdep.{pdep}
-use Rattle.rows.specs.Table.{refusal}
+use Rattle.rows.specs.Table.{refusal, numbered}
 use Rattle.rows.specs.WordAnswer.{value_told}
 use Rattle.rows.proofs.PdepLaws.{pdep_is}
 use Rattle.rows.proofs.Theorems.{deposit_refuses, deposit_refused, deposit_answers, Position, select_refuses, select_refused, select_answers, read_refuses, read_refused, read_answers, read_bit}
@@ -46,10 +46,10 @@ module _ (κs : Lfts 0) (a : Dens κs deposit-kinds.ps) (x : (res_t deposit-kind
   answer = x
 
   -- 4, and no other, exactly where the claimed count differs from the set bits in the mask word; then the whole answer is 4 and word 0
-  pub deposit_refuses_exactly : (y : Refusal) → (answer ≡ Err y) ↔ ((y ≡ refusal CountDiffers no_operand) × (claimed ≢ count (bits_of 64 mask)))
+  pub deposit_refuses_exactly : (y : Refusal) → (answer ≡ Err y) ↔ ((y ≡ refusal (numbered 4 CountDiffers refl) no_operand) × (claimed ≢ count (bits_of 64 mask)))
   deposit_refuses_exactly = rw allowed (deposit_refuses source mask claimed)
 
-  pub refused_deposit : claimed ≢ count (bits_of 64 mask) → (answer ≡ Err (refusal CountDiffers no_operand)) × (number_told answer ≡ 4) × (value_told answer ≡ 0)
+  pub refused_deposit : claimed ≢ count (bits_of 64 mask) → (answer ≡ Err (refusal (numbered 4 CountDiffers refl) no_operand)) × (number_told answer ≡ 4) × (value_told answer ≡ 0)
   refused_deposit h =
       let e = allowed ∙ deposit_refused source mask claimed h in
       (e, ap (λ (r : Result ℕ Refusal). number_told r) e, ap value_told e)
@@ -75,10 +75,10 @@ module _ (κs : Lfts 0) (a : Dens κs select-kinds.ps) (x : (res_t select-kinds.
   selected = x
 
   -- 9, and no other, exactly where the rank is not below the word's set bits; then the whole answer is 9 and position 0
-  pub select_refuses_exactly : (y : Refusal) → (selected ≡ Err y) ↔ ((y ≡ refusal NoSuchRank no_operand) × (¬ (rank < count (bits_of 64 word))))
+  pub select_refuses_exactly : (y : Refusal) → (selected ≡ Err y) ↔ ((y ≡ refusal (numbered 9 NoSuchRank refl) no_operand) × (¬ (rank < count (bits_of 64 word))))
   select_refuses_exactly = rw allowed (select_refuses word rank)
 
-  pub refused_select : ¬ (rank < count (bits_of 64 word)) → (selected ≡ Err (refusal NoSuchRank no_operand)) × (number_told selected ≡ 9) × (value_told selected ≡ 0)
+  pub refused_select : ¬ (rank < count (bits_of 64 word)) → (selected ≡ Err (refusal (numbered 9 NoSuchRank refl) no_operand)) × (number_told selected ≡ 9) × (value_told selected ≡ 0)
   refused_select h =
       let e = allowed ∙ select_refused word rank h in
       (e, ap (λ (r : Result ℕ Refusal). number_told r) e, ap value_told e)
@@ -104,10 +104,10 @@ module _ (κs : Lfts 1) (a : Dens κs read-kinds.ps) (x : (res_t read-kinds.r κ
   read_word = x
 
   -- 2, and no other, exactly where start is over 63; then the whole answer is 2 and word 0
-  pub read_refuses_exactly : (y : Refusal) → (read_word ≡ Err y) ↔ ((y ≡ refusal StartOver63 no_operand) × (¬ (start ≤ 63)))
+  pub read_refuses_exactly : (y : Refusal) → (read_word ≡ Err y) ↔ ((y ≡ refusal (numbered 2 StartOver63 refl) no_operand) × (¬ (start ≤ 63)))
   read_refuses_exactly = rw allowed (read_refuses words start offset)
 
-  pub refused_read : ¬ (start ≤ 63) → (read_word ≡ Err (refusal StartOver63 no_operand)) × (number_told read_word ≡ 2) × (value_told read_word ≡ 0)
+  pub refused_read : ¬ (start ≤ 63) → (read_word ≡ Err (refusal (numbered 2 StartOver63 refl) no_operand)) × (number_told read_word ≡ 2) × (value_told read_word ≡ 0)
   refused_read h =
       let e = allowed ∙ read_refused words start offset h in
       (e, ap (λ (r : Result ℕ Refusal). number_told r) e, ap value_told e)

@@ -79,8 +79,9 @@ fn compare_lengths(factor: u32, bound: f64) -> Tally
 }
 
 fn main(rt: HostRuntime) -> io::Result<()> {
-    let sixteenths = compare_lengths(16, 1.0 / 16.0);
-    println!(rt; "sixteenths: {sixteenths}")?;
-    let thirty_seconds = compare_lengths(32, 1.0 / 32.0);
-    println!(rt; "thirty-seconds: {thirty_seconds}")
+    // each label is written before the work that it names
+    print!(rt; "sixteenths: ")?;
+    println!(rt; "{}", compare_lengths(16, 1.0 / 16.0))?;
+    print!(rt; "thirty-seconds: ")?;
+    println!(rt; "{}", compare_lengths(32, 1.0 / 32.0))
 }

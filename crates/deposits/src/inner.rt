@@ -44,6 +44,8 @@ fn deposit_rows<R: Ranks>(
 }
 
 // Routes 7 and 8: rank bits gathered from a list.
+// Apart from what calls it (`inline(never)`), so that its loops have the registers to themselves.
+#[inline(never)]
 pub fn intersect_bit_buffer_by_rank_indices(
     way: Way,
     words: &[u64],
@@ -64,6 +66,8 @@ pub fn intersect_bit_buffer_by_rank_indices(
 }
 
 // Routes 9 and 10: rank bits read from words.
+// Apart from what calls it (`inline(never)`), so that its loops have the registers to themselves.
+#[inline(never)]
 pub fn intersect_bit_buffers(
     way: Way,
     words: &[u64],

@@ -1,9 +1,11 @@
 // Document 01's program: the text of all of standard input, to standard output.
 #![tactic(auto)]
 
-use reads::read_all;
+use input::read_all;
 use std::io;
 use std::io::Write;
+
+mod input;
 
 fn main(rt: HostRuntime) -> io::Result<()> {
     // one byte more than the longest well formed input has: what is cut off changes nothing (`text_cut`)

@@ -16,6 +16,8 @@ use marks::inner::Numbers;
 use rows::Rank;
 
 // Self in words, the rank mask in runs: whole words first where the output begins on one.
+// Apart from what calls it (`inline(never)`), so that its loops have the registers to themselves.
+#[inline(never)]
 pub fn keep_words(
     words: &[u64],
     start: u64,
@@ -53,6 +55,8 @@ pub fn keep_words(
 
 // Self a list, or runs of one row each, the rank mask in runs: that part of the output is cleared, and the entries from each run's first rank to its
 // last are marked in it.
+// Apart from what calls it (`inline(never)`), so that its loops have the registers to themselves.
+#[inline(never)]
 pub fn lay_entries_by_runs(
     rows: &[u32],
     numbers: Numbers,

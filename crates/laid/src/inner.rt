@@ -135,12 +135,15 @@ pub fn clear_last(out: &mut [u64], bits: u64)
     out[last] = 0;
 }
 
-// The first n words over out from word first on.
+// The first n words over out from word first on: a loop of one read and one store, which is made of vectors. `copy_from_slice` would have the C
+// archives ask for memmove.
 pub fn copy_words(words: &[u64], first: usize, n: usize, out: &mut [u64])
     requires { (n ≤ length words.now) × (first + n ≤ length out.old) }
     ensures { out.new ≡ splice first out.old (take n words.now) }
 {
-    out[first..first + n].copy_from_slice(&words[..n]);
+    for i in 0..n {
+        out[first + i] = words[i];
+    }
 }
 
 // The n bits of words from bit from on, over out from bit at on; and how many of them are set. The place is one sum, so that the read has nothing

@@ -17,7 +17,7 @@ use Rattle.rows.specs.Rows.{count, compose}
 use Rattle.rows.specs.Laid.{words_for}
 use Rattle.rows.specs.declared.Reason.{Reason}
 use Rattle.rows.specs.declared.Reason.TheVariants.{LengthsDiffer}
-use Rattle.rows.specs.Table.{Named, Verdict, no_operand, number_of, refusal, first}
+use Rattle.rows.specs.Table.{Named, Verdict, no_operand, number_of, refusal, first, numbered}
 use Rattle.rows.proofs.RowLaws.{compose_count}
 use Rattle.rows.proofs.TableLaws.{chosen, passed_over, number_some}
 use Rattle.rules.specs.Operand.{in_words, Accepted}
@@ -61,7 +61,7 @@ module _ (self rank : List Bool) (self_short : length self ≤ 8192) (rank_short
       sym (by_fine verdict (summed (result (in_words self) (in_words rank)) (route_taken self rank)) out out fine).0
       ∙ ap₂ (λ (s r : List Bool). answered (Ok tt) (compose s r) (route_taken self rank)) (in_words_rows self) (in_words_rows rank)
 
-  pub answer_unpaired : length rank ≢ count self → answer_to self rank ≡ Err (refusal LengthsDiffer no_operand)
+  pub answer_unpaired : length rank ≢ count self → answer_to self rank ≡ Err (refusal (numbered 7 LengthsDiffer refl) no_operand)
   answer_unpaired h = (composed_refuses (in_words self) (in_words rank) published out (refusal LengthsDiffer no_operand)).1 (inr (inl (refl, self_accepted, rank_accepted, h)))
 
 -- ---- its lines

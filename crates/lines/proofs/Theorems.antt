@@ -14,7 +14,7 @@ use lib.Seq.{take_all}
 use Rattle.std.specs.Prelude.{Ok, Err}
 use Rattle.rows.specs.Rows.{count, compose}
 use Rattle.rows.specs.declared.Reason.TheVariants.{LengthsDiffer, Malformed}
-use Rattle.rows.specs.Table.{choose, refusal, no_operand, number_told}
+use Rattle.rows.specs.Table.{choose, refusal, no_operand, number_told, numbered}
 use Rattle.rows.proofs.RowLaws.{compose_length, count_le_length}
 use Rattle.rows.proofs.TableLaws.{chosen, passed_over}
 use Rattle.rules.specs.Answer.{Answer, answered}
@@ -76,7 +76,7 @@ module _ (input : List ℕ) (self rank : List Bool) (w : WellFormed input self r
   paired_told e = well_formed_told ∙ ap (λ (a : Answer). lines_of a (compose self rank)) (answer_paired self rank w.self_short w.rank_short e) ∙ lines_paired self rank (route_taken self rank) e
 
   -- and else 7
-  pub unpaired_answered : length rank ≢ count self → answer_for input ≡ Err (refusal LengthsDiffer no_operand)
+  pub unpaired_answered : length rank ≢ count self → answer_for input ≡ Err (refusal (numbered 7 LengthsDiffer refl) no_operand)
   unpaired_answered h = well_formed_answered ∙ answer_unpaired self rank w.self_short w.rank_short h
 
   pub unpaired_told : length rank ≢ count self → text_of input ≡ lines 7 0 0 []
@@ -84,7 +84,7 @@ module _ (input : List ℕ) (self rank : List Bool) (w : WellFormed input self r
 
 -- anything else: 13
 module _ (input : List ℕ) (h : (self rank : List Bool) → ¬ WellFormed input self rank) where
-  pub ill_formed_answered : answer_for input ≡ Err (refusal Malformed no_operand)
+  pub ill_formed_answered : answer_for input ≡ Err (refusal (numbered 13 Malformed refl) no_operand)
   ill_formed_answered = answer_ill input (h (self_in input) (rank_in input))
 
   pub ill_formed_told : text_of input ≡ lines 13 0 0 []

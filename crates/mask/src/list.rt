@@ -6,30 +6,38 @@ ghost use Rattle.rules.specs.Operand.{lent, rows_of, count_of, Accepted};
 ghost use Rattle.operand.specs.Flat.{Flat, has_runs};
 
 use fills::inner::list::list_runs;
-use lent::inner::chunk_len;
 use operand::inner::chunks::chunk_of;
 use operand::inner::forms::{has_row_numbers, has_runs, length_of};
 use rules::Form;
 use turns::inner::list_chunk;
 
+// A loop, as `laid`'s copy of words is.
 pub fn copy_list(rows: &[u32], out: &mut [u32])
     requires { length rows.now ≤ length out.old }
     ensures { out.new ≡ splice 0 out.old rows.now }
 {
-    out[..rows.len()].copy_from_slice(rows);
+    for i in 0..rows.len() {
+        out[i] = rows[i];
+    }
 }
 
-// All, none or words: chunk by chunk.
+// All, none or words: whole chunks, and then what is left.
 fn list_flat(form: Form, words: &[u64], out: &mut [u32])
     requires { Flat (lent form words.now []) × (count (rows_of (lent form words.now [])) ≤ length out.old) }
     ensures { out.new ≡ splice 0 out.old (set_rows 0 (rows_of (lent form words.now []))) }
 {
     let len = length_of(form);
     let mut k: usize = 0;
-    for row in (0..len).step_by(64) {
-        let n = chunk_len(len, row);
-        k = list_chunk(chunk_of(form, words, row, n), row as u32, k, out);
+    for i in 0..len / 64 {
+        let row = i * 64;
+        k = list_chunk(chunk_of(form, words, row, 64), row as u32, k, out);
     }
+    let rest = len % 64;
+    if rest == 0 {
+        return;
+    }
+    let row = len - rest;
+    list_chunk(chunk_of(form, words, row, rest), row as u32, k, out);
 }
 
 // An operand that is no runs.

@@ -42,6 +42,15 @@ first_none f b e h c = record { on = h; within = omega arith; clear = c; here = 
 pub first_wider : (f : ℕ → Bool) (b m e r : ℕ) → r < m → m ≤ e → First f b m r → First f b e r
 first_wider f b m e r h k q = record { on = q.on; within = omega arith; clear = q.clear; here = λ l. q.here h }
 
+-- the first of the rows is one row alone
+pub first_same : (f : ℕ → Bool) (b e p q : ℕ) → First f b e p → First f b e q → p ≡ q
+first_same f b e p q h k = by (dec_lt p q) (dec_lt q p)
+  where
+    by : Dec (p < q) → Dec (q < p) → p ≡ q
+    by (yes l) _ = absurd (false≢true (sym (k.clear p h.on l) ∙ h.here (omega (arith, k.within))))
+    by (no n) (yes l) = absurd (false≢true (sym (h.clear q k.on l) ∙ k.here (omega (arith, h.within))))
+    by (no n) (no m) = omega arith
+
 -- ---- a test that says the same of the rows before e
 
 pub first_as : (f g : ℕ → Bool) (b e r : ℕ) → ((i : ℕ) → i < e → g i ≡ f i) → First f b e r → First g b e r

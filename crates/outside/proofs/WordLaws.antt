@@ -26,8 +26,8 @@ use Rattle.rows.proofs.TurnLaws.{xor_bits}
 use Rattle.rows.proofs.ClearLaws.{rows_low, count_low}
 use Rattle.rows.proofs.SelectLaws.{selects}
 use Rattle.rows.proofs.RecoverLaws.{outside_row}
-use Rattle.outside.specs.declared.words.Sought.{Sought}
-use Rattle.outside.specs.declared.words.Sought.TheVariants.{Set, Unset}
+use Rattle.outside.specs.declared.inner.Sought.{Sought}
+use Rattle.outside.specs.declared.inner.Sought.TheVariants.{Set, Unset}
 use Rattle.outside.specs.First.{has, sought, flipped, Clear, First}
 use Rattle.outside.proofs.FirstLaws.{clear_join, first_behind, first_wider}
 

@@ -1,8 +1,8 @@
 -- The first row that a test takes, and how far it takes all. No promise to a user rests on it.
 -- Assumes nothing.
 use Rattle.std.specs.Prelude.{ℕ, ◌-◌, ◌^◌, ◌≤◌, ◌<◌, ◌≡◌, Bool, true, false, not, List, get_or}
-use Rattle.outside.specs.declared.words.Sought.{Sought}
-use Rattle.outside.specs.declared.words.Sought.TheVariants.{Set, Unset}
+use Rattle.outside.specs.declared.inner.Sought.{Sought}
+use Rattle.outside.specs.declared.inner.Sought.TheVariants.{Set, Unset}
 
 -- s has row i
 abbrev pub has : List Bool → ℕ → Bool

@@ -1,12 +1,15 @@
 // What our own crates call: the first row outside self, and the next row in words that is set, or is unset.
-ghost use Rattle.std.specs.Prelude.{◌≡◌};
+ghost use Rattle.std.specs.Prelude.{◌≡◌, ◌≤◌};
 ghost use Rattle.rows.specs.Rows.{outside};
 ghost use Rattle.rows.specs.Lists.{select};
+ghost use Rattle.rows.specs.Words.{view};
+ghost use Rattle.rows.specs.Asks.{InView};
 ghost use Rattle.rules.specs.Operand.{lent, rows_of, length_of, Accepted};
+ghost use Rattle.outside.specs.First.{has, sought, flipped, First};
 
 use super::walks::leap;
 use super::words::first_in_words;
-pub use super::words::{Sought, seek};
+use lent::inner::{chunk_len, ones, read};
 use rows::Row;
 use rules::Form;
 
@@ -41,4 +44,37 @@ pub fn first_outside(
         return Row(leap(s, swords, srows, k, kwords, krows));
     };
     Row(first_in_words(swords, sstart, kwords, kstart, length))
+}
+
+// Which rows are sought: those that are set, or those that are not.
+#[derive(Clone, Copy)]
+pub enum Sought {
+    Set,
+    Unset,
+}
+
+// A word of one bit: what turns the rows sought to 1.
+fn flip(which: Sought) -> u64
+    ensures { result ≡ flipped which }
+{
+    match which {
+        Sought::Set => 0,
+        Sought::Unset => u64::MAX,
+    }
+}
+
+// The next row from row on that is as sought.
+pub fn seek(words: &[u64], start: u64, len: u64, row: u64, which: Sought) -> u64
+    requires { InView start len words.now × (row ≤ len) }
+    ensures { First (λ i. sought which (has (view start len words.now) i)) row len result }
+{
+    let turned = flip(which);
+    for at in (row..len).step_by(64) {
+        let n = chunk_len(len, at);
+        let bits = (read(words, start, at) ^ turned) & ones(n);
+        if bits != 0 {
+            return at + u64::trailing_zeros(bits) as u64;
+        }
+    }
+    len
 }

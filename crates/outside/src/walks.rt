@@ -5,8 +5,8 @@ ghost use Rattle.rules.specs.Operand.{lent, rows_of, length_of};
 ghost use Rattle.outside.specs.First.{has, First, Reach};
 ghost use Rattle.outside.specs.Walks.{Walks};
 
+use super::inner::{Sought, seek};
 use super::spans::{Numbers, Walk};
-use super::words::{Sought, seek};
 use operand::inner::forms::length_of;
 use rules::Form;
 

@@ -1,11 +1,11 @@
-// Rows in words: the first of a second mask that self has not, and the next row that is set, or is not.
-ghost use Rattle.std.specs.Prelude.{◌≡◌, ◌*◌, ◌≤◌};
+// Rows in words: the first of a second mask that self has not.
+ghost use Rattle.std.specs.Prelude.{◌*◌, ◌≤◌};
 ghost use Rattle.rows.specs.Rows.{outside};
 ghost use Rattle.rows.specs.Words.{view};
 ghost use Rattle.rows.specs.Asks.{InView};
-ghost use Rattle.outside.specs.First.{has, sought, flipped, First};
+ghost use Rattle.outside.specs.First.{has, First};
 
-use lent::inner::{chunk, chunk_len, ones, read, whole_word};
+use lent::inner::{chunk, whole_word};
 
 // The first row of n whole words that self has not, and the row after them.
 fn first_in_whole(
@@ -48,37 +48,4 @@ pub fn first_in_words(swords: &[u64], sstart: u64, kwords: &[u64], kstart: u64, 
         return len;
     }
     row + u64::trailing_zeros(bits) as u64
-}
-
-// Which rows are sought: those that are set, or those that are not.
-#[derive(Clone, Copy)]
-pub enum Sought {
-    Set,
-    Unset,
-}
-
-// A word of one bit: what turns the rows sought to 1.
-fn flip(which: Sought) -> u64
-    ensures { result ≡ flipped which }
-{
-    match which {
-        Sought::Set => 0,
-        Sought::Unset => u64::MAX,
-    }
-}
-
-// The next row from row on that is as sought.
-pub fn seek(words: &[u64], start: u64, len: u64, row: u64, which: Sought) -> u64
-    requires { InView start len words.now × (row ≤ len) }
-    ensures { First (λ i. sought which (has (view start len words.now) i)) row len result }
-{
-    let turned = flip(which);
-    for at in (row..len).step_by(64) {
-        let n = chunk_len(len, at);
-        let bits = (read(words, start, at) ^ turned) & ones(n);
-        if bits != 0 {
-            return at + u64::trailing_zeros(bits) as u64;
-        }
-    }
-    len
 }

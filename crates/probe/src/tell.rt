@@ -4,6 +4,7 @@ ghost use Rattle.cells.specs.Probe.{answer_cells, enough, over, word_told, bad_t
 
 use cells::Told;
 use lines::Written;
+use operand::inner::answers::summary_told;
 use routes::inner::route_number;
 use rows::Refusal;
 use rows::inner::numbers::{numbers, row_of};
@@ -24,19 +25,6 @@ const NOTHING: Told = Told {
     density: 0.0,
 };
 
-// With the row outside self that 17 has.
-fn of_refusal(refusal: Refusal) -> Told
-    ensures { result ≡ answer_told (Err refusal) }
-{
-    let (number, operand) = numbers(refusal);
-    Told {
-        refusal: u64::from(number),
-        operand: u64::from(operand),
-        outside: row_of(refusal.reason),
-        ..NOTHING
-    }
-}
-
 fn of_summary(summary: Summary) -> Told
     ensures { result ≡ answer_told (Ok summary) }
 {
@@ -45,6 +33,19 @@ fn of_summary(summary: Summary) -> Told
         route: u64::from(route_number(summary.route)),
         density: summary.density,
         ..NOTHING
+    }
+}
+
+// With the row outside self that 17 has, and what is told of a refusal in place of a summary.
+fn of_refusal(refusal: Refusal) -> Told
+    ensures { result ≡ answer_told (Err refusal) }
+{
+    let (number, operand) = numbers(refusal);
+    Told {
+        refusal: u64::from(number),
+        operand: u64::from(operand),
+        outside: row_of(refusal.reason),
+        ..of_summary(summary_told(Err(refusal)))
     }
 }
 

@@ -52,15 +52,22 @@ fn hold_runs(reader: &mut Reader<'_>, given: Operand<'_>) -> Result<(), Finding>
     hold(same, Finding::OutputDiffers)
 }
 
+// Room for words is cleared for the cases alone that need it: so in a function of its own, which stays apart.
+#[inline(never)]
+fn hold_words(reader: &mut Reader<'_>, given: Operand<'_>) -> Result<(), Finding> {
+    let mut room = [0u64; OUTPUT];
+    hold_conversion(reader, &mut room, |out| {
+        mask::to_words(given.form, given.words, given.rows, out)
+    })
+}
+
 pub fn run_case(reader: &mut Reader<'_>) -> Result<(), Finding> {
     let mut words = [0u64; WORDS];
     let mut rows = [0u32; ENTRIES];
     let conversion = read_conversion(reader)?;
     let given = read_operand(reader, &mut words, &mut rows)?;
     match conversion {
-        Conversion::ToWords => hold_conversion(reader, &mut [0u64; OUTPUT], |out| {
-            mask::to_words(given.form, given.words, given.rows, out)
-        }),
+        Conversion::ToWords => hold_words(reader, given),
         Conversion::ToList => hold_conversion(reader, &mut [0u32; ENTRIES], |out| {
             mask::to_list(given.form, given.words, given.rows, out)
         }),

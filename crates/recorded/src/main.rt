@@ -4,14 +4,15 @@
 
 use answer::Finding;
 use feeds::Stream;
+use input::read_full;
 use reader::Reader;
-use reads::read_full;
 use std::rt::Files;
 use std::{fmt, fs, io};
 
 mod answer;
 mod conversions;
 mod feeds;
+mod input;
 mod pairs;
 mod reader;
 mod words;
@@ -51,24 +52,26 @@ fn run_case(subject: Subject, reader: &mut Reader<'_>) -> Result<(), Finding> {
     }
 }
 
-// Every case in turn, up to the first that differs: how many agreed. The text starts with their number, and nothing may stand after
+// Every case in turn, up to the first that differs: how many agreed, counted as they are gone through. The text starts with their number, and nothing may stand after
 // the last of them.
 fn run_all(subject: Subject, text: &[u8]) -> Result<u64, Failure> {
     let mut reader = Reader::new(text);
     let total = reader.digits();
-    for agreed in 0..total {
+    let mut agreed: u64 = 0;
+    for _ in 0..total {
         run_case(subject, &mut reader).map_err(|finding| Failure {
             case: agreed.wrapping_add(1),
             finding,
         })?;
+        agreed = agreed.wrapping_add(1);
     }
     if !reader.at_end() {
         return Err(Failure {
-            case: total.wrapping_add(1),
+            case: agreed.wrapping_add(1),
             finding: Finding::Malformed,
         });
     }
-    Ok(total)
+    Ok(agreed)
 }
 
 // A file that cannot be opened is told on standard error, and the others are run all the same.

@@ -19,7 +19,7 @@ mod step;
 pub struct Recoverer;
 
 impl Recoverer {
-    pub const ROW_LIMIT: u64 = 1_048_576;
+    pub const ROW_LIMIT: u64 = operand::inner::states::ROW_LIMIT;
 
     pub fn fresh() -> RecoveryState
         ensures { result ≡ fresh }

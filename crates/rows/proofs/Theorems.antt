@@ -14,7 +14,7 @@ use Rattle.rows.specs.Lists.{select}
 use Rattle.rows.specs.Pdep.{pdep}
 use Rattle.std.specs.Prelude.{Ok, Err}
 use Rattle.rows.specs.declared.Reason.TheVariants.{StartOver63, CountDiffers, NoSuchRank}
-use Rattle.rows.specs.Table.{refusal, no_operand, granted}
+use Rattle.rows.specs.Table.{refusal, no_operand, granted, numbered}
 use Rattle.rows.specs.WordAnswer.{value_told, deposited, selected, word_from, rank_read}
 use Rattle.rows.specs.Words.{fit, bits_of_all}
 use Rattle.rows.proofs.WordLaws.{bits_of_length, bits_of_at, bits_of_word_of_at}
@@ -33,12 +33,12 @@ refused_value r = refl
 -- ---- deposit
 
 -- 4, and no other, exactly where the claimed count differs from the set bits in the mask word
-pub deposit_refuses : (source mask claimed : ℕ) (x : Refusal) → (deposited source mask claimed ≡ Err x) ↔ ((x ≡ refusal CountDiffers no_operand) × (claimed ≢ count (bits_of 64 mask)))
+pub deposit_refuses : (source mask claimed : ℕ) (x : Refusal) → (deposited source mask claimed ≡ Err x) ↔ ((x ≡ refusal (numbered 4 CountDiffers refl) no_operand) × (claimed ≢ count (bits_of 64 mask)))
 unfolding deposited
 deposit_refuses source mask claimed = alone_exactly (ℕ_discrete claimed (count (bits_of 64 mask))) CountDiffers no_operand (pdep 64 source mask)
 
 -- then the whole answer is this
-pub deposit_refused : (source mask claimed : ℕ) → claimed ≢ count (bits_of 64 mask) → deposited source mask claimed ≡ Err (refusal CountDiffers no_operand)
+pub deposit_refused : (source mask claimed : ℕ) → claimed ≢ count (bits_of 64 mask) → deposited source mask claimed ≡ Err (refusal (numbered 4 CountDiffers refl) no_operand)
 unfolding deposited
 deposit_refused source mask claimed h = ap (λ v. granted v (pdep 64 source mask)) (alone_refused (ℕ_discrete claimed (count (bits_of 64 mask))) CountDiffers no_operand h)
 
@@ -50,11 +50,11 @@ deposit_answers source mask claimed h = ap (λ v. granted v (pdep 64 source mask
 -- ---- select
 
 -- 9, and no other, exactly where the rank is not below the word's set bits
-pub select_refuses : (word rank : ℕ) (x : Refusal) → (selected word rank ≡ Err x) ↔ ((x ≡ refusal NoSuchRank no_operand) × (¬ (rank < count (bits_of 64 word))))
+pub select_refuses : (word rank : ℕ) (x : Refusal) → (selected word rank ≡ Err x) ↔ ((x ≡ refusal (numbered 9 NoSuchRank refl) no_operand) × (¬ (rank < count (bits_of 64 word))))
 unfolding selected
 select_refuses word rank = alone_exactly (dec_lt rank (count (bits_of 64 word))) NoSuchRank no_operand (select (bits_of 64 word) rank)
 
-pub select_refused : (word rank : ℕ) → ¬ (rank < count (bits_of 64 word)) → selected word rank ≡ Err (refusal NoSuchRank no_operand)
+pub select_refused : (word rank : ℕ) → ¬ (rank < count (bits_of 64 word)) → selected word rank ≡ Err (refusal (numbered 9 NoSuchRank refl) no_operand)
 unfolding selected
 select_refused word rank h = ap (λ v. granted v (select (bits_of 64 word) rank)) (alone_refused (dec_lt rank (count (bits_of 64 word))) NoSuchRank no_operand h)
 
@@ -86,12 +86,12 @@ select_answers word rank h =
 
 module _ (words : List ℕ) (start offset : ℕ) where
   -- 2, and no other, exactly where start is over 63
-  pub read_refuses : (x : Refusal) → (rank_read words start offset ≡ Err x) ↔ ((x ≡ refusal StartOver63 no_operand) × (¬ (start ≤ 63)))
+  pub read_refuses : (x : Refusal) → (rank_read words start offset ≡ Err x) ↔ ((x ≡ refusal (numbered 2 StartOver63 refl) no_operand) × (¬ (start ≤ 63)))
   unfolding rank_read
   read_refuses = alone_exactly (dec_le start 63) StartOver63 no_operand (word_from (start + offset) words)
 
   -- then the whole answer is this
-  pub read_refused : ¬ (start ≤ 63) → rank_read words start offset ≡ Err (refusal StartOver63 no_operand)
+  pub read_refused : ¬ (start ≤ 63) → rank_read words start offset ≡ Err (refusal (numbered 2 StartOver63 refl) no_operand)
   unfolding rank_read
   read_refused h = ap (λ v. granted v (word_from (start + offset) words)) (alone_refused (dec_le start 63) StartOver63 no_operand h)
 

@@ -10,7 +10,7 @@ use native.Mathlib.Decide.{ℕ_discrete, dec_le}
 use native.Mathlib.Omega.{arith}
 use lib.ListN.{length}
 use Rattle.rows.specs.declared.Refusal.{Refusal}
-use Rattle.rows.specs.Table.{Verdict}
+use Rattle.rows.specs.Table.{Verdict, numbered}
 use Rattle.std.specs.Prelude.{Ok, Err}
 use Rattle.rows.specs.Rows.{rank_at}
 use Rattle.rows.specs.Laid.{words_for}
@@ -44,8 +44,8 @@ module _ (s r : Operand) where
   abbrev pub Refuses : ℕ → Refusal → Type 0
   Refuses room x =
       OperandRefuses x
-      ⊎ ((x ≡ refusal LengthsDiffer no_operand) × Accepted s × Accepted r × (length_of r.form ≢ count_of s))
-      ⊎ ((x ≡ refusal NoRoom no_operand) × Paired s r × (room < words_for (length_of s.form)))
+      ⊎ ((x ≡ refusal (numbered 7 LengthsDiffer refl) no_operand) × Accepted s × Accepted r × (length_of r.form ≢ count_of s))
+      ⊎ ((x ≡ refusal (numbered 8 NoRoom refl) no_operand) × Paired s r × (room < words_for (length_of s.form)))
 
   abbrev pub Accepts : ℕ → Type 0
   Accepts room = Paired s r × (words_for (length_of s.form) ≤ room)

@@ -12,7 +12,7 @@ use Rattle.rows.specs.declared.Refusal.{Refusal}
 use Rattle.std.specs.Prelude.{Ok, Err}
 use Rattle.rows.specs.Runs.{runs_of, runs_in}
 use Rattle.rows.specs.Laid.{words_for}
-use Rattle.rows.specs.Table.{Verdict, First, Met, first, refusal, granted, if_fine}
+use Rattle.rows.specs.Table.{Verdict, First, Met, first, refusal, granted, if_fine, numbered}
 use Rattle.rows.proofs.TableLaws.{fine_exactly, parts_met, none_met, then_refuses, granted_refuses, granted_number}
 use Rattle.rules.specs.Operand.{Operand, rows_of, length_of, count_of, operand_checks, Accepted}
 use Rattle.rules.specs.Convert.{convert_checks, to_words_verdict, to_words, to_words_out, to_list_verdict, to_list, to_list_out, to_runs_verdict, written_of, to_runs, to_runs_out, answer_of, runs_told}
@@ -27,7 +27,7 @@ use Rattle.rows.specs.Table.{operand_1, no_operand, number_told}
 abbrev pub Refuses : Operand → ℕ → ℕ → Refusal → Type 0
 Refuses o needed room x =
     Wrong operand_1 o x
-    ⊎ ((x ≡ refusal NoRoom no_operand) × Accepted o × (room < needed))
+    ⊎ ((x ≡ refusal (numbered 8 NoRoom refl) no_operand) × Accepted o × (room < needed))
 
 module _ (o : Operand) (needed room : ℕ) where
   table_refuses : (x : Refusal) → First (convert_checks o needed room) (Err x) ↔ Refuses o needed room x

@@ -11,7 +11,7 @@ use mathlib.Core.Bool.{Bool, false, ◌&&◌}
 use mathlib.Core.List.{List, [], ◌∷◌}
 use lib.ListN.{length, get_or}
 use Rattle.rows.specs.declared.Refusal.{Refusal}
-use Rattle.rows.specs.Table.{Verdict}
+use Rattle.rows.specs.Table.{Verdict, numbered}
 use Rattle.std.specs.Prelude.{Ok, Err}
 use Rattle.rows.specs.Rows.{count, rank_at, splice}
 use Rattle.rows.specs.Words.{bits_of_all}
@@ -52,13 +52,13 @@ module _ (st : State) (p : Pair) where
 
   abbrev pub LengthRefuses : ℕ → Refusal → Type 0
   LengthRefuses room x =
-      ((x ≡ refusal LengthsDiffer no_operand) × (length_of p.rank.form ≢ count_of p.self))
-      ⊎ ((x ≡ refusal StreamOverLimit no_operand) × (length_of p.rank.form ≡ count_of p.self) × (limit < st.done.0 + long p))
-      ⊎ ((x ≡ refusal NoRoom no_operand) × (length_of p.rank.form ≡ count_of p.self) × (st.done.0 + long p ≤ limit) × (room < words_for (st.done.0 + long p)))
+      ((x ≡ refusal (numbered 7 LengthsDiffer refl) no_operand) × (length_of p.rank.form ≢ count_of p.self))
+      ⊎ ((x ≡ refusal (numbered 11 StreamOverLimit refl) no_operand) × (length_of p.rank.form ≡ count_of p.self) × (limit < st.done.0 + long p))
+      ⊎ ((x ≡ refusal (numbered 8 NoRoom refl) no_operand) × (length_of p.rank.form ≡ count_of p.self) × (st.done.0 + long p ≤ limit) × (room < words_for (st.done.0 + long p)))
 
   abbrev pub Refuses : ℕ → Refusal → Type 0
   Refuses room x =
-      ((x ≡ refusal StateOutOfBound no_operand) × (¬ Within st))
+      ((x ≡ refusal (numbered 10 StateOutOfBound refl) no_operand) × (¬ Within st))
       ⊎ (Within st × OperandRefuses p.self p.rank x)
       ⊎ (Within st × Accepted p.self × Accepted p.rank × LengthRefuses room x)
 

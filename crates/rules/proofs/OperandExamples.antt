@@ -8,10 +8,11 @@ use native.Mathlib.Decide.{ℕ_discrete, dec_le}
 use mathlib.Core.Bool.{Bool, true, false}
 use lib.IntN.{ℤ, pos, negsuc}
 use lib.Ieee.{fin, round}
+use Rattle.rows.specs.declared.Reason.{Reason}
 use Rattle.rows.specs.declared.Refusal.{Refusal}
 use Rattle.rows.specs.Word.{bits_of}
 use Rattle.rows.specs.Runs.{runs_of}
-use Rattle.rows.specs.Table.{first, refusal}
+use Rattle.rows.specs.Table.{first, refusal, number_of, numbered}
 use Rattle.rules.specs.declared.Form.TheVariants.{All, None, Words, List as Listed, Runs}
 use Rattle.rules.specs.Operand.{Operand, lent, operand_checks}
 use Rattle.rules.specs.Answer.{density_of}
@@ -22,6 +23,10 @@ use Rattle.std.specs.Prelude.{Ok, Err}
 -- what is told of it as operand 1
 abbrev pub verdict_of : Operand → Verdict
 verdict_of o = first (operand_checks operand_1 o)
+
+-- the refusal of operand 1 that has this number
+abbrev pub of_1 : (n : ℕ) (why : Reason) → number_of why ≡ n → Refusal
+of_1 n why fits = refusal (numbered n why fits) operand_1
 
 -- an operand that is accepted, or one with its refusal; or rows and their runs; or a count, a length, and the density m * 2 ^ e
 pub data Case : Type 0 where
@@ -42,31 +47,31 @@ Every (c ∷ cs) = Holds c × Every cs
 
 abbrev pub cases : List Case
 cases =
-    refuses (lent (Listed 10) [] (3 ∷ 9 ∷ 9 ∷ [])) (refusal NotAscending operand_1)
-    ∷ refuses (lent (Listed 10) [] (3 ∷ 10 ∷ [])) (refusal EntryPastLength operand_1)
+    refuses (lent (Listed 10) [] (3 ∷ 9 ∷ 9 ∷ [])) (of_1 5 NotAscending refl)
+    ∷ refuses (lent (Listed 10) [] (3 ∷ 10 ∷ [])) (of_1 6 EntryPastLength refl)
     ∷ accepts (lent (Listed 10) [] [])
-    ∷ refuses (lent (Listed 10) [] (11 ∷ 3 ∷ [])) (refusal NotAscending operand_1)
-    ∷ refuses (lent (Listed 0) [] (0 ∷ [])) (refusal EntryPastLength operand_1)
+    ∷ refuses (lent (Listed 10) [] (11 ∷ 3 ∷ [])) (of_1 5 NotAscending refl)
+    ∷ refuses (lent (Listed 0) [] (0 ∷ [])) (of_1 6 EntryPastLength refl)
     ∷ accepts (lent (All 1048576) [] [])
-    ∷ refuses (lent (All 1048577) [] []) (refusal LengthOverLimit operand_1)
-    ∷ refuses (lent (None (2 ^ 64 - 1)) [] []) (refusal LengthOverLimit operand_1)
+    ∷ refuses (lent (All 1048577) [] []) (of_1 1 LengthOverLimit refl)
+    ∷ refuses (lent (None (2 ^ 64 - 1)) [] []) (of_1 1 LengthOverLimit refl)
     ∷ accepts (lent (Words 0 0 0) [] [])
-    ∷ refuses (lent (Words 1 0 0) [] []) (refusal TooFewWords operand_1)
+    ∷ refuses (lent (Words 1 0 0) [] []) (of_1 3 TooFewWords refl)
     ∷ accepts (lent (Words 1 0 0) (7 ∷ []) [])
-    ∷ refuses (lent (Words 64 1048577 9) [] []) (refusal LengthOverLimit operand_1)
-    ∷ refuses (lent (Words 64 1 9) [] []) (refusal StartOver63 operand_1)
+    ∷ refuses (lent (Words 64 1048577 9) [] []) (of_1 1 LengthOverLimit refl)
+    ∷ refuses (lent (Words 64 1 9) [] []) (of_1 2 StartOver63 refl)
     ∷ accepts (lent (Words 60 6 2) ((2 ^ 63) ∷ 1 ∷ []) [])
-    ∷ refuses (lent (Words 60 6 3) ((2 ^ 63) ∷ 1 ∷ []) []) (refusal CountDiffers operand_1)
+    ∷ refuses (lent (Words 60 6 3) ((2 ^ 63) ∷ 1 ∷ []) []) (of_1 4 CountDiffers refl)
     ∷ accepts (lent (Runs 10) [] [])
     ∷ accepts (lent (Runs 10) [] (0 ∷ 3 ∷ 4 ∷ 10 ∷ []))
-    ∷ refuses (lent (Runs 10) [] (0 ∷ 3 ∷ 3 ∷ 5 ∷ [])) (refusal RunsUnfit operand_1)
-    ∷ refuses (lent (Runs 10) [] (4 ∷ 4 ∷ [])) (refusal RunsUnfit operand_1)
-    ∷ refuses (lent (Runs 10) [] (4 ∷ 11 ∷ [])) (refusal RunsUnfit operand_1)
-    ∷ refuses (lent (Runs 10) [] (4 ∷ 6 ∷ 8 ∷ [])) (refusal RunsUnfit operand_1)
-    ∷ refuses (lent (Runs 0) [] (0 ∷ 0 ∷ [])) (refusal RunsUnfit operand_1)
-    ∷ refuses (lent (Runs 10) [] (6 ∷ 8 ∷ 2 ∷ 4 ∷ [])) (refusal RunsUnfit operand_1)
-    ∷ refuses (lent (Runs 10) [] (4294967295 ∷ 0 ∷ [])) (refusal RunsUnfit operand_1)
-    ∷ refuses (lent (Runs 1048577) [] (4 ∷ 4 ∷ [])) (refusal LengthOverLimit operand_1)
+    ∷ refuses (lent (Runs 10) [] (0 ∷ 3 ∷ 3 ∷ 5 ∷ [])) (of_1 14 RunsUnfit refl)
+    ∷ refuses (lent (Runs 10) [] (4 ∷ 4 ∷ [])) (of_1 14 RunsUnfit refl)
+    ∷ refuses (lent (Runs 10) [] (4 ∷ 11 ∷ [])) (of_1 14 RunsUnfit refl)
+    ∷ refuses (lent (Runs 10) [] (4 ∷ 6 ∷ 8 ∷ [])) (of_1 14 RunsUnfit refl)
+    ∷ refuses (lent (Runs 0) [] (0 ∷ 0 ∷ [])) (of_1 14 RunsUnfit refl)
+    ∷ refuses (lent (Runs 10) [] (6 ∷ 8 ∷ 2 ∷ 4 ∷ [])) (of_1 14 RunsUnfit refl)
+    ∷ refuses (lent (Runs 10) [] (4294967295 ∷ 0 ∷ [])) (of_1 14 RunsUnfit refl)
+    ∷ refuses (lent (Runs 1048577) [] (4 ∷ 4 ∷ [])) (of_1 1 LengthOverLimit refl)
     ∷ runs [] []
     ∷ runs (false ∷ false ∷ false ∷ []) []
     ∷ runs (true ∷ true ∷ true ∷ []) (0 ∷ 3 ∷ [])

@@ -1,7 +1,7 @@
 -- Which refusal an operand's checks tell, form by form and in document 01's order: a statement that can be held against its table line by
 -- line. By the law of tables. Assumes nothing.
 use Prim.Native.Nat.{ℕ, ◌+◌, ◌≤◌, ◌<◌}
-use mathlib.Core.Path.{◌≡◌, ap}
+use mathlib.Core.Path.{◌≡◌, ap, refl}
 use mathlib.Core.Logic.{◌↔◌, ◌≢◌, ◌⊎◌, inl, inr}
 use native.Mathlib.Decide.{dec_le}
 use native.Mathlib.Omega.{arith}
@@ -13,7 +13,7 @@ use Rattle.rows.specs.Rows.{count}
 use Rattle.rows.specs.Words.{view}
 use Rattle.rows.specs.Laid.{words_for}
 use Rattle.rows.specs.declared.Reason.{Reason}
-use Rattle.rows.specs.Table.{Named, number_of, First, refusal}
+use Rattle.rows.specs.Table.{Named, number_of, First, refusal, numbered}
 use Rattle.rows.proofs.TableLaws.{never, same_refusal, line_refuses}
 use Rattle.rules.specs.declared.Form.{Form}
 use Rattle.rules.specs.declared.Form.TheVariants.{All, None, Words, List as Listed, Runs}
@@ -22,20 +22,20 @@ use Rattle.rows.specs.declared.Reason.TheVariants.{LengthOverLimit, StartOver63,
 
 -- what is wrong with operand k where x is told of it
 abbrev pub WrongBy : Form → Named → Operand → Refusal → Type 0
-WrongBy (All len) k o x = (x ≡ refusal LengthOverLimit k) × (limit < len)
-WrongBy (None len) k o x = (x ≡ refusal LengthOverLimit k) × (limit < len)
+WrongBy (All len) k o x = (x ≡ refusal (numbered 1 LengthOverLimit refl) k) × (limit < len)
+WrongBy (None len) k o x = (x ≡ refusal (numbered 1 LengthOverLimit refl) k) × (limit < len)
 WrongBy (Words start len claimed) k o x =
-    ((x ≡ refusal LengthOverLimit k) × (limit < len))
-    ⊎ ((x ≡ refusal StartOver63 k) × (len ≤ limit) × (63 < start))
-    ⊎ ((x ≡ refusal TooFewWords k) × (len ≤ limit) × (start ≤ 63) × (length o.words < words_for (start + len)))
-    ⊎ ((x ≡ refusal CountDiffers k) × (len ≤ limit) × (start ≤ 63) × (words_for (start + len) ≤ length o.words) × (claimed ≢ count (view start len o.words)))
+    ((x ≡ refusal (numbered 1 LengthOverLimit refl) k) × (limit < len))
+    ⊎ ((x ≡ refusal (numbered 2 StartOver63 refl) k) × (len ≤ limit) × (63 < start))
+    ⊎ ((x ≡ refusal (numbered 3 TooFewWords refl) k) × (len ≤ limit) × (start ≤ 63) × (length o.words < words_for (start + len)))
+    ⊎ ((x ≡ refusal (numbered 4 CountDiffers refl) k) × (len ≤ limit) × (start ≤ 63) × (words_for (start + len) ≤ length o.words) × (claimed ≢ count (view start len o.words)))
 WrongBy (Listed len) k o x =
-    ((x ≡ refusal LengthOverLimit k) × (limit < len))
-    ⊎ ((x ≡ refusal NotAscending k) × (len ≤ limit) × (¬ T (climbs o.numbers)))
-    ⊎ ((x ≡ refusal EntryPastLength k) × (len ≤ limit) × T (climbs o.numbers) × (¬ T (last_below len o.numbers)))
+    ((x ≡ refusal (numbered 1 LengthOverLimit refl) k) × (limit < len))
+    ⊎ ((x ≡ refusal (numbered 5 NotAscending refl) k) × (len ≤ limit) × (¬ T (climbs o.numbers)))
+    ⊎ ((x ≡ refusal (numbered 6 EntryPastLength refl) k) × (len ≤ limit) × T (climbs o.numbers) × (¬ T (last_below len o.numbers)))
 WrongBy (Runs len) k o x =
-    ((x ≡ refusal LengthOverLimit k) × (limit < len))
-    ⊎ ((x ≡ refusal RunsUnfit k) × (len ≤ limit) × (¬ T (runs_fit 0 len o.numbers)))
+    ((x ≡ refusal (numbered 1 LengthOverLimit refl) k) × (limit < len))
+    ⊎ ((x ≡ refusal (numbered 14 RunsUnfit refl) k) × (len ≤ limit) × (¬ T (runs_fit 0 len o.numbers)))
 
 abbrev pub Wrong : Named → Operand → Refusal → Type 0
 Wrong k o x = WrongBy o.form k o x

@@ -6,7 +6,7 @@ use mathlib.Core.Path.{◌≡◌, refl}
 use mathlib.Core.List.{List, [], ◌∷◌}
 use native.Mathlib.Decide.{dec_le}
 use Rattle.rows.specs.Word.{bits_of, word_of}
-use Rattle.rows.specs.Table.{first, refusal}
+use Rattle.rows.specs.Table.{first, refusal, numbered}
 use Rattle.rows.specs.WordAnswer.{rank_read}
 use Rattle.rows.specs.declared.Reason.TheVariants.{StartOver63}
 use Rattle.rows.specs.Table.{no_operand}
@@ -19,7 +19,7 @@ pub data Case : Type 0 where
 
 abbrev pub Holds : Case → Type 0
 Holds (reads ws s o w) = rank_read ws s o ≡ Ok w
-Holds (refuses ws s o) = rank_read ws s o ≡ Err (refusal StartOver63 no_operand)
+Holds (refuses ws s o) = rank_read ws s o ≡ Err (refusal (numbered 2 StartOver63 refl) no_operand)
 
 abbrev pub Every : List Case → Type 0
 Every [] = Unit {0}

@@ -9,7 +9,7 @@ use mathlib.Core.Logic.{◌↔◌, ◌≢◌, ◌⊎◌, inl, inr}
 use mathlib.Core.List.{List, [], ◌∷◌}
 use lib.ListN.{length}
 use Rattle.rows.specs.declared.Refusal.{Refusal}
-use Rattle.rows.specs.Table.{Verdict}
+use Rattle.rows.specs.Table.{Verdict, numbered}
 use Rattle.std.specs.Prelude.{Ok, Err}
 use Rattle.rows.specs.Table.{number_told, First, refusal, if_fine}
 use Rattle.rows.proofs.TableLaws.{same_refusal, first_exactly, accepts_exactly, line_refuses}
@@ -47,7 +47,7 @@ unchanged (Err x) to from h = refl
 
 module _ (rs : List Run) (out : List ℕ) where
   -- 8, which names no operand, exactly where out has fewer than twice as many numbers as there are runs
-  pub to_numbers_refuses : (x : Refusal) → (to_numbers rs out ≡ Err x) ↔ ((x ≡ refusal NoRoom no_operand) × (length out < length rs * 2))
+  pub to_numbers_refuses : (x : Refusal) → (to_numbers rs out ≡ Err x) ↔ ((x ≡ refusal (numbered 8 NoRoom refl) no_operand) × (length out < length rs * 2))
   unfolding to_numbers
   to_numbers_refuses x =
       let t = first_exactly (numbers_checks rs out) (Err x) in
@@ -70,8 +70,8 @@ module _ (ns : List ℕ) (out : List Run) where
   -- 14, which names operand 1, exactly where a number has no pair; then 8 where out has fewer records than there are pairs
   abbrev pub RecordsRefuse : Refusal → Type 0
   RecordsRefuse x =
-      ((x ≡ refusal RunsUnfit operand_1) × (length ns % 2 ≢ 0))
-      ⊎ ((x ≡ refusal NoRoom no_operand) × (length ns % 2 ≡ 0) × (length out < length ns / 2))
+      ((x ≡ refusal (numbered 14 RunsUnfit refl) operand_1) × (length ns % 2 ≢ 0))
+      ⊎ ((x ≡ refusal (numbered 8 NoRoom refl) no_operand) × (length ns % 2 ≡ 0) × (length out < length ns / 2))
 
   pub to_records_refuses : (x : Refusal) → (to_records ns out ≡ Err x) ↔ RecordsRefuse x
   unfolding to_records

@@ -17,7 +17,7 @@ use Rattle.rows.specs.Rows.{count, splice}
 use Rattle.rows.specs.Lists.{select}
 use Rattle.rows.specs.Words.{bits_of_all}
 use Rattle.rows.specs.Laid.{words_for}
-use Rattle.rows.specs.Table.{row_told, Named, Line, First, Met, in_order, refusal}
+use Rattle.rows.specs.Table.{row_told, Named, Line, First, Met, in_order, refusal, numbered}
 use Rattle.rows.proofs.TableLaws.{same_refusal, never, fine_exactly, parts_met, none_met, parts_refuses, granted_refuses, granted_number}
 use Rattle.rows.proofs.RowLaws.{count_le_length}
 use Rattle.rows.proofs.RecoverLaws.{recover_length, recover_rank, FirstOutside, first_outside}
@@ -100,14 +100,14 @@ module _ (st : RecoveryState) (m : Masks) where
 
   abbrev pub PieceRefuses : ℕ → Refusal → Type 0
   PieceRefuses room x =
-      ((x ≡ refusal LengthsDiffer no_operand) × (length_of m.kept.form ≢ long m))
-      ⊎ ((x ≡ refusal StreamOverLimit no_operand) × (length_of m.kept.form ≡ long m) × (limit < st.done.0 + long m))
-      ⊎ ((x ≡ refusal (RowOutside (first_stray m.self m.kept)) no_operand) × (length_of m.kept.form ≡ long m) × (st.done.0 + long m ≤ limit) × (count (away m) ≢ 0))
-      ⊎ ((x ≡ refusal NoRoom no_operand) × (length_of m.kept.form ≡ long m) × (st.done.0 + long m ≤ limit) × (count (away m) ≡ 0) × (room < words_for (st.ranks.0 + set m)))
+      ((x ≡ refusal (numbered 7 LengthsDiffer refl) no_operand) × (length_of m.kept.form ≢ long m))
+      ⊎ ((x ≡ refusal (numbered 11 StreamOverLimit refl) no_operand) × (length_of m.kept.form ≡ long m) × (limit < st.done.0 + long m))
+      ⊎ ((x ≡ refusal (numbered 17 (RowOutside (first_stray m.self m.kept)) refl) no_operand) × (length_of m.kept.form ≡ long m) × (st.done.0 + long m ≤ limit) × (count (away m) ≢ 0))
+      ⊎ ((x ≡ refusal (numbered 8 NoRoom refl) no_operand) × (length_of m.kept.form ≡ long m) × (st.done.0 + long m ≤ limit) × (count (away m) ≡ 0) × (room < words_for (st.ranks.0 + set m)))
 
   abbrev pub Refuses : ℕ → Refusal → Type 0
   Refuses room x =
-      ((x ≡ refusal StateOutOfBound no_operand) × (¬ Bounded st))
+      ((x ≡ refusal (numbered 10 StateOutOfBound refl) no_operand) × (¬ Bounded st))
       ⊎ (Bounded st × OperandRefuses m.self m.kept x)
       ⊎ (Bounded st × Accepted m.self × Accepted m.kept × PieceRefuses room x)
 
@@ -231,7 +231,7 @@ module _ (st : RecoveryState) (m : Masks) where
     seventeen row k (inr (inr (b, s, t, inr (inr (inl (e, l, d, h)))))) = (same_row e, some (count (away m)) h)
     seventeen row k (inr (inr (b, s, t, inr (inr (inr e))))) = absurd (omega (arith, number e.0))
 
-    pub fed_outside_first : (row : Row) (k : Named) → (fed st m out).answer ≡ Err (refusal (RowOutside row) k) → FirstOutside (rows_of m.self) (rows_of m.kept) row.0
+    pub fed_outside_first : (row : Row) (k : Named) → (fed st m out).answer ≡ Err (refusal (numbered 17 (RowOutside row) refl) k) → FirstOutside (rows_of m.self) (rows_of m.kept) row.0
     fed_outside_first row k e =
         let t = seventeen row k ((fed_refuses out (refusal (RowOutside row) k)).0 e) in
         subst (λ (r : Row). FirstOutside (rows_of m.self) (rows_of m.kept) r.0) (sym t.0) (first_outside (rows_of m.self) (rows_of m.kept) t.1)

@@ -17,7 +17,7 @@ use Rattle.std.specs.Prelude.{None, Ok, Err}
 use Rattle.rows.specs.Rows.{count}
 use Rattle.rows.specs.Lists.{select}
 use Rattle.rows.specs.Laid.{words_for}
-use Rattle.rows.specs.Table.{Named, number_of, row_of, row_told, Line, First, Met, first, in_order, refusal}
+use Rattle.rows.specs.Table.{Named, number_of, row_of, row_told, Line, First, Met, first, in_order, refusal, numbered}
 use Rattle.rows.proofs.TableLaws.{fine_exactly, parts_met, none_met, parts_refuses, then_refuses, line_refuses, granted_refuses, granted_number}
 use Rattle.rows.proofs.RecoverLaws.{recover_length, recover_rank, recover_count, FirstOutside, first_outside}
 use Rattle.rules.specs.Operand.{Operand, rows_of, length_of, count_of, Accepted}
@@ -86,9 +86,9 @@ module _ (s k : Operand) where
   abbrev pub Refuses : ℕ → Refusal → Type 0
   Refuses room x =
       OperandRefuses s k x
-      ⊎ ((x ≡ refusal LengthsDiffer no_operand) × Accepted s × Accepted k × (length_of k.form ≢ length_of s.form))
-      ⊎ ((x ≡ refusal (RowOutside (first_stray s k)) no_operand) × Accepted s × Accepted k × (length_of k.form ≡ length_of s.form) × (count (strays s k) ≢ 0))
-      ⊎ ((x ≡ refusal NoRoom no_operand) × Within s k × (room < words_for (count_of s)))
+      ⊎ ((x ≡ refusal (numbered 7 LengthsDiffer refl) no_operand) × Accepted s × Accepted k × (length_of k.form ≢ length_of s.form))
+      ⊎ ((x ≡ refusal (numbered 17 (RowOutside (first_stray s k)) refl) no_operand) × Accepted s × Accepted k × (length_of k.form ≡ length_of s.form) × (count (strays s k) ≢ 0))
+      ⊎ ((x ≡ refusal (numbered 8 NoRoom refl) no_operand) × Within s k × (room < words_for (count_of s)))
 
   abbrev pub Accepts : ℕ → Type 0
   Accepts room = Within s k × (words_for (count_of s) ≤ room)
@@ -209,7 +209,7 @@ module _ (s k : Operand) where
     seventeen row n (inr (inr (inl (e, t, u, l, d)))) = (same_row e, some (count (strays s k)) d)
     seventeen row n (inr (inr (inr t))) = absurd (omega (arith, number t.0))
 
-    pub outside_first : (row : Row) (n : Named) → recovered s k out ≡ Err (refusal (RowOutside row) n) → FirstOutside (rows_of s) (rows_of k) row.0
+    pub outside_first : (row : Row) (n : Named) → recovered s k out ≡ Err (refusal (numbered 17 (RowOutside row) refl) n) → FirstOutside (rows_of s) (rows_of k) row.0
     outside_first row n e =
         let t = seventeen row n ((recovered_refuses (refusal (RowOutside row) n)).0 e) in
         subst (λ (r : Row). FirstOutside (rows_of s) (rows_of k) r.0) (sym t.0) (first_outside (rows_of s) (rows_of k) t.1)

@@ -15,7 +15,7 @@ use Rattle.rows.specs.declared.Refusal.{Refusal}
 use Rattle.std.specs.Prelude.{None, Ok, Err}
 use Rattle.rows.specs.Word.{both}
 use Rattle.rows.specs.Laid.{words_for}
-use Rattle.rows.specs.Table.{Line, First, Met, first, in_order, need, refusal}
+use Rattle.rows.specs.Table.{Line, First, Met, first, in_order, need, refusal, numbered}
 use Rattle.rows.proofs.TableLaws.{same_refusal, fine_exactly, parts_met, none_met, parts_refuses, line_refuses, then_refuses, granted_refuses, granted_number}
 use Rattle.rows.proofs.BothLaws.{both_length, both_at}
 use Rattle.rules.specs.Operand.{Operand, rows_of, length_of, counts_as_list, set_checks, Accepted}
@@ -45,7 +45,7 @@ taken_as k o =
 -- ---- demand 1: which refusal is told of operand k. A list is 12, before all else
 
 abbrev pub SetWrong : Named → Operand → Refusal → Type 0
-SetWrong k o x = ((x ≡ refusal ListGiven k) × (counts_as_list o.form ≡ true)) ⊎ ((counts_as_list o.form ≡ false) × Wrong k o x)
+SetWrong k o x = ((x ≡ refusal (numbered 12 ListGiven refl) k) × (counts_as_list o.form ≡ true)) ⊎ ((counts_as_list o.form ≡ false) × Wrong k o x)
 
 is_list : (b : Bool) → (¬ T (not b)) ↔ (b ≡ true)
 is_list true = (λ h. refl, λ e t. t)
@@ -84,8 +84,8 @@ module _ (a b : Operand) where
   Refuses room x =
       SetWrong operand_1 a x
       ⊎ (Taken a × SetWrong operand_2 b x)
-      ⊎ ((x ≡ refusal LengthsDiffer no_operand) × Taken a × Taken b × (length_of a.form ≢ length_of b.form))
-      ⊎ ((x ≡ refusal NoRoom no_operand) × Taken a × Taken b × (length_of a.form ≡ length_of b.form) × (room < words_for (length_of a.form)))
+      ⊎ ((x ≡ refusal (numbered 7 LengthsDiffer refl) no_operand) × Taken a × Taken b × (length_of a.form ≢ length_of b.form))
+      ⊎ ((x ≡ refusal (numbered 8 NoRoom refl) no_operand) × Taken a × Taken b × (length_of a.form ≡ length_of b.form) × (room < words_for (length_of a.form)))
 
   abbrev pub Accepts : ℕ → Type 0
   Accepts room = Taken a × Taken b × (length_of a.form ≡ length_of b.form) × (words_for (length_of a.form) ≤ room)
@@ -188,7 +188,7 @@ module _ (a : Operand) where
   abbrev pub NotRefuses : ℕ → Refusal → Type 0
   NotRefuses room x =
       SetWrong operand_1 a x
-      ⊎ ((x ≡ refusal NoRoom no_operand) × Taken a × (room < words_for (length_of a.form)))
+      ⊎ ((x ≡ refusal (numbered 8 NoRoom refl) no_operand) × Taken a × (room < words_for (length_of a.form)))
 
   abbrev pub NotAccepts : ℕ → Type 0
   NotAccepts room = Taken a × (words_for (length_of a.form) ≤ room)

@@ -16,7 +16,7 @@ use Rattle.std.specs.Prelude.{Err}
 use Rattle.rows.specs.Rows.{count, splice}
 use Rattle.rows.specs.Words.{bits_of_all}
 use Rattle.rows.specs.Laid.{words_for, laid, written}
-use Rattle.rows.specs.Table.{Line, First, Met, need, refusal}
+use Rattle.rows.specs.Table.{Line, First, Met, need, refusal, numbered}
 use Rattle.rows.proofs.TableLaws.{never, same_refusal}
 use Rattle.rows.proofs.RowLaws.{count_le_length}
 use Rattle.rows.proofs.SpliceLaws.{splice_append, splice_eq}
@@ -44,7 +44,7 @@ module _ (kept ranks done : ℕ) where
   pub bound_met : Met bound_checks ↔ Bound
   bound_met = (λ m. (m.0, m.1.0, m.1.1.0), λ w. (w.0, (w.1, (w.2, tt))))
 
-  pub bound_refuses : (x : Refusal) → First bound_checks (Err x) ↔ ((x ≡ refusal StateOutOfBound no_operand) × (¬ Bound))
+  pub bound_refuses : (x : Refusal) → First bound_checks (Err x) ↔ ((x ≡ refusal (numbered 10 StateOutOfBound refl) no_operand) × (¬ Bound))
   bound_refuses x = (to, λ t. from (dec_le kept ranks) (dec_le ranks done) t.0 t.1)
     where
       to : First bound_checks (Err x) → (x ≡ refusal StateOutOfBound no_operand) × (¬ Bound)

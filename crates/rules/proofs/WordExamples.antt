@@ -8,7 +8,7 @@ use native.Mathlib.Decide.{ℕ_discrete, dec_lt}
 use Rattle.rows.specs.Rows.{count}
 use Rattle.rows.specs.Word.{bits_of, word_of}
 use Rattle.rows.specs.Pdep.{pdep_loop, pdep}
-use Rattle.rows.specs.Table.{first, refusal}
+use Rattle.rows.specs.Table.{first, refusal, numbered}
 use Rattle.rows.specs.WordAnswer.{deposited, selected}
 use Rattle.rows.proofs.RowLaws.{compose_empty, compose_full}
 use Rattle.rows.proofs.WordLaws.{word_of_bits_of}
@@ -30,7 +30,7 @@ abbrev pub Holds : Case → Type 0
 Holds (deposits s m w) = deposited s m (count (bits_of 64 m)) ≡ Ok w
 Holds (takes m w) = (s : ℕ) → s < 2 ^ 64 → deposited s m (count (bits_of 64 m)) ≡ Ok (w s)
 Holds (selects n r p) = selected n r ≡ Ok p
-Holds (refuses n r) = selected n r ≡ Err (refusal NoSuchRank no_operand)
+Holds (refuses n r) = selected n r ≡ Err (refusal (numbered 9 NoSuchRank refl) no_operand)
 
 abbrev pub Every : List Case → Type 0
 Every [] = Unit {0}

@@ -18,8 +18,8 @@ use Rattle.rows.proofs.ListLaws.{eqb_same, eqb_other}
 use Rattle.rows.proofs.SelectLaws.{select_unset}
 use Rattle.turns.specs.Gaps.{unless}
 use Rattle.turns.proofs.ListTurnLaws.{gaps, list_turns}
-use Rattle.outside.specs.declared.words.Sought.{Sought}
-use Rattle.outside.specs.declared.words.Sought.TheVariants.{Set, Unset}
+use Rattle.outside.specs.declared.inner.Sought.{Sought}
+use Rattle.outside.specs.declared.inner.Sought.TheVariants.{Set, Unset}
 use Rattle.outside.specs.First.{has, sought, First}
 use Rattle.outside.proofs.FirstLaws.{first_select}
 use Rattle.runs.specs.Searched.{hits, seek_row, run_on}

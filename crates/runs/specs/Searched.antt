@@ -9,8 +9,8 @@ use Rattle.rules.specs.declared.Form.{Form}
 use Rattle.rules.specs.declared.Form.TheVariants.{All, None, Words, List as Listed, Runs}
 use Rattle.rules.specs.Operand.{Operand}
 use Rattle.rules.specs.Records.{run}
-use Rattle.outside.specs.declared.words.Sought.{Sought}
-use Rattle.outside.specs.declared.words.Sought.TheVariants.{Set, Unset}
+use Rattle.outside.specs.declared.inner.Sought.{Sought}
+use Rattle.outside.specs.declared.inner.Sought.TheVariants.{Set, Unset}
 use Rattle.runs.specs.declared.search.Found.{Found}
 
 -- ---- the next run

@@ -8,6 +8,7 @@ ghost use Rattle.rows.specs.Table.{choose};
 ghost use Rattle.lines.specs.Text.{digits, line, bits_key, decimal, lines, lines_of, with_text};
 
 use lines::Written;
+use operand::inner::answers::summary_told;
 use routes::inner::route_number;
 use rows::Refusal;
 use rows::inner::numbers::number;
@@ -93,9 +94,11 @@ pub fn put_answer(
         × (out.new ≡ splice 0 out.old (lines_of answer (view 0 n words.now)))
         × (result.len ≤ n + 89) }
 {
+    let summary = summary_told(answer);
+    let route = route_number(summary.route);
     let len = match answer {
-        Ok(summary) => put_lines(0, route_number(summary.route), summary.count, words, n, out),
-        Err(refusal) => put_lines(number(refusal.reason), 0, 0, words, 0, out),
+        Ok(_) => put_lines(0, route, summary.count, words, n, out),
+        Err(refusal) => put_lines(number(refusal.reason), route, summary.count, words, 0, out),
     };
     Written { answer, len }
 }

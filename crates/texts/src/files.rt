@@ -1,7 +1,7 @@
 // Files of data/, read into lent bytes. A file that is longer than these fills them.
 ghost use Rattle.std.specs.Prelude.{◌≡◌, ◌≤◌, length, take, IfOk};
 
-use reads::read_all;
+use super::input::read_all;
 use std::rt::Files;
 use std::{fs, io, str};
 

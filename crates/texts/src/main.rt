@@ -10,53 +10,67 @@ use std::rt::Files;
 
 mod case;
 mod files;
+mod input;
 
-// A finding, and the name of the file that it is against.
+// A finding, and the name of the case that it is against; none where it is against the table of the names itself.
 #[derive(Clone, Copy)]
 struct Failure<'a> {
-    name: &'a [u8],
+    name: Option<&'a [u8]>,
     finding: Finding,
 }
 
-// A finding against the table of the names itself.
 fn table_failure(finding: Finding) -> Failure<'static> {
     Failure {
-        name: b"names",
+        name: None,
         finding,
     }
 }
 
-// Every name in turn, up to the first whose case differs. A last line without its newline is not taken.
-fn run_all<'a, R: Files>(rt: &R, table: &'a [u8]) -> Result<(), Failure<'a>> {
+// Every name in turn, up to the first whose case differs: how many agreed, counted as they are gone through. A last line without its newline is not
+// taken.
+fn run_all<'a, R: Files>(rt: &R, table: &'a [u8]) -> Result<u64, Failure<'a>> {
+    let mut agreed: u64 = 0;
     for line in table.split_inclusive(|byte| *byte == b'\n') {
         let [name @ .., b'\n'] = line else {
             return Err(table_failure(Finding::NoLastEnd));
         };
-        run_case(rt, name).map_err(|finding| Failure { name, finding })?;
+        run_case(rt, name).map_err(|finding| Failure {
+            name: Some(name),
+            finding,
+        })?;
+        agreed = agreed.wrapping_add(1);
     }
-    Ok(())
+    Ok(agreed)
 }
 
 // How many cases agreed. A table that fills its room may have been cut, and one without names shows nothing.
-fn run_table<'a, R: Files>(rt: &R, room: &'a mut [u8]) -> Result<usize, Failure<'a>> {
+fn run_table<'a, R: Files>(rt: &R, room: &'a mut [u8]) -> Result<u64, Failure<'a>> {
     let len = read_file(rt, b"names", room).map_err(|_| table_failure(Finding::NoTable))?;
     if len == room.len() {
         return Err(table_failure(Finding::LongTable));
     }
-    let table = &room[..len];
-    run_all(rt, table)?;
-    // each name has a newline after it
-    match table.iter().filter(|byte| **byte == b'\n').count() {
+    match run_all(rt, &room[..len])? {
         0 => Err(table_failure(Finding::NoNames)),
-        cases => Ok(cases),
+        agreed => Ok(agreed),
     }
 }
 
 fn main(rt: HostRuntime) -> io::Result<()> {
     let mut table = [0u8; 4096];
     match run_table(&rt, &mut table) {
-        Ok(cases) => println!(rt; "texts: {cases} cases, 0 differ"),
-        Err(Failure { name, finding }) => {
+        Ok(agreed) => println!(rt; "texts: {agreed} cases, 0 differ"),
+        Err(
+            Failure {
+                name: None,
+                finding,
+            },
+        ) => println!(rt; "names: {finding}"),
+        Err(
+            Failure {
+                name: Some(name),
+                finding,
+            },
+        ) => {
             io::writer(&rt).write_all(name)?;
             println!(rt; ": {finding}")
         }

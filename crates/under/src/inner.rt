@@ -16,6 +16,8 @@ use laid::inner::clear;
 use rows::{Rank, Row};
 
 // Self in runs, the rank mask in words: each run takes as many rank bits as it has rows, and what is between is cleared.
+// Apart from what calls it (`inline(never)`), so that its loops have the registers to themselves.
+#[inline(never)]
 pub fn lay_ranks_under_runs(
     runs: &[u32],
     ranks: &[u64],
@@ -49,6 +51,8 @@ pub fn lay_ranks_under_runs(
 
 // Self in runs, the rank mask a list of so many ranks. Where at least every fourth is listed the rank bits are gathered; else that part of the output is
 // cleared, and the row of each listed rank is marked in it.
+// Apart from what calls it (`inline(never)`), so that its loops have the registers to themselves.
+#[inline(never)]
 pub fn lay_entries_in_runs(
     runs: &[u32],
     ranks: &[u32],
@@ -73,6 +77,8 @@ pub fn lay_entries_in_runs(
 }
 
 // Self and the rank mask in runs: that part of the output is cleared, and run by run the rows are marked whose ranks the rank mask has.
+// Apart from what calls it (`inline(never)`), so that its loops have the registers to themselves.
+#[inline(never)]
 pub fn lay_runs_in_runs(runs: &[u32], ranks: &[u32], len: u64, at: u64, out: &mut [u64]) -> u64
     requires { Apart 0 len runs.now × Apart 0 (run_lengths runs.now) ranks.now × (len ≤ 1048576) × Room at len out.old }
     ensures { (result ≡ count (compose (in_runs len runs.now) (in_runs (run_lengths runs.now) ranks.now)))

@@ -3,7 +3,7 @@
 use Rattle.std.proofs.Common.{ℕ, ◌≡◌, subst, sym, ap, ap₂, ◌∙◌}
 use Rattle.rows.specs.Words.{view}
 use Rattle.rows.proofs.WordsLaws.{view_length}
-use Rattle.outside.specs.declared.words.Sought.TheVariants.{Set, Unset}
+use Rattle.outside.specs.declared.inner.Sought.TheVariants.{Set, Unset}
 use Rattle.outside.specs.First.{has, sought, First}
 use Rattle.runs.specs.Searched.{seek_row, found}
 use Rattle.runs.proofs.SearchLaws.{seek_first}

@@ -1,13 +1,13 @@
--- `outside::words::seek` meets its contract: a chunk is the word of what is sought in it, and its lowest bit the first row sought.
+-- `outside::inner::seek` meets its contract: a chunk is the word of what is sought in it, and its lowest bit the first row sought.
 -- By the laws of a word that shows rows. Assumes nothing.
 use Rattle.std.proofs.Common.{ℕ, ◌+◌, ◌-◌, ◌^◌, ◌≤◌, ◌<◌, ◌≡◌, Bool, List, ap₂, bit_and, bit_xor, arith}
 use lib.Count.{count_trailing_zeros}
 use Rattle.rows.specs.Words.{view}
-use Rattle.outside.specs.declared.words.Sought.{Sought}
+use Rattle.outside.specs.declared.inner.Sought.{Sought}
 use Rattle.outside.specs.First.{has, sought, flipped, Clear, First}
 use Rattle.outside.proofs.FirstLaws.{first_none}
 use Rattle.outside.proofs.WordLaws.{read, Shown, shown_as, none_behind, first_behind_shown, sought_shown}
-use Rattle.outside.proofs.words.seek.Goals as goal
+use Rattle.outside.proofs.inner.seek.Goals as goal
 
 -- what is sought of a row
 abbrev test : Sought → ℕ → ℕ → List ℕ → ℕ → Bool

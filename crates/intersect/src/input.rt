@@ -1,6 +1,5 @@
 // What a reader has, read into lent bytes. A read that fails is not the end: what came before it is not all.
-#![tactic(auto)]
-
+// Each program that reads has its own: no contract can say which bytes a read gives, so a library's would admit more than one answer.
 ghost use Rattle.std.specs.Prelude.{◌≡◌, ◌<◌, ◌≤◌, length, take, IfOk, IsOk};
 ghost use Rattle.std.specs.Io.KnownBytes.{Consumes, IsAtEnd};
 
@@ -8,7 +7,7 @@ use std::io;
 use std::io::Read;
 
 // Reads until the end, until out is full, or until a read fails. Tells how many bytes came, and how the reading ended.
-pub fn read_full<R: Read>(reader: &mut R, out: &mut [u8]) -> (usize, io::Result<()>)
+fn read_full<R: Read>(reader: &mut R, out: &mut [u8]) -> (usize, io::Result<()>)
     ensures in_bounds { result.0 ≤ length out.new }
     ensures prefix { result.0 ≡ length (take result.0 out.new) }
     ensures bytes { Consumes (R.remaining reader.old) (R.remaining reader.new) (take result.0 out.new) }

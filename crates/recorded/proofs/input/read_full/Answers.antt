@@ -1,4 +1,4 @@
--- `reads::read_full` keeps its invariant: what one read put after the part that is done was consumed after it.
+-- `recorded::input::read_full` keeps its invariant: what one read put after the part that is done was consumed after it.
 -- What stands in the part read, with the part before it, is the longer part. Assumes nothing.
 use Rattle.std.proofs.Common.{◌≡◌, ℕ, ◌+◌, ◌-◌, ◌≤◌, List, ◌++◌, arith, rules, length, take, slice_range, sym, ap, subst, ◌∙◌, le_refl, drop_at, length-take-le}
 use Rattle.std.proofs.lemmas.Slice.{take-put_mid_below}
@@ -6,7 +6,7 @@ use Rattle.std.specs.Io.KnownBytes.{Consumes}
 use Rattle.std.proofs.KnownBytes.{Consumes-trans}
 use borrow.Rule.Slice.PartMut.{put_mid, post_of}
 use lib.Seq.{take-add, take-append-le}
-use Rattle.reads.proofs.read_full.Goals as goal
+use Rattle.recorded.proofs.input.read_full.Goals as goal
 
 take_split : (a b : ℕ) (old new : List ℕ) → a ≤ b → take a new ≡ take a old → take a old ++ slice_range new a b ≡ take b new
 take_split a b old new h front =

@@ -1,8 +1,8 @@
--- `reads::read_full` ends, and what it put into the output is what the reader gave.
+-- `intersect::input::read_full` ends, and what it put into the output is what the reader gave.
 -- The invariant: the output is as long as it was, and what is done of it is what was consumed; each turn reads a byte at least.
 use Rattle.std.proofs.Common.{length, take, ◌-◌, ◌≡◌, ◌≤◌}
 use Rattle.std.specs.Io.KnownBytes.{Consumes}
-use Rattle.reads.proofs.read_full.Given as goal
+use Rattle.intersect.proofs.input.read_full.Given as goal
 
 abbrev pub invariant-loop-done : goal.invariant-loop-done
 invariant-loop-done g l =

@@ -1,9 +1,9 @@
--- `outside::words::seek` meets its contract.
+-- `outside::inner::seek` meets its contract.
 -- The invariant: from the row on, to where the loop has come, no row is as sought. Assumes nothing.
 use Rattle.std.proofs.Common.{◌≤◌}
 use Rattle.rows.specs.Words.{view}
 use Rattle.outside.specs.First.{has, sought, Clear}
-use Rattle.outside.proofs.words.seek.Given as goal
+use Rattle.outside.proofs.inner.seek.Given as goal
 
 abbrev pub invariant-loop-at : goal.invariant-loop-at
 invariant-loop-at l = record {

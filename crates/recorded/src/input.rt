@@ -1,0 +1,26 @@
+// What a reader has, read into lent bytes. A read that fails is not the end: what came before it is not all.
+// Each program that reads has its own: no contract can say which bytes a read gives, so a library's would admit more than one answer.
+ghost use Rattle.std.specs.Prelude.{◌≡◌, ◌<◌, ◌≤◌, length, take, IsOk};
+ghost use Rattle.std.specs.Io.KnownBytes.{Consumes, IsAtEnd};
+
+use std::io;
+use std::io::Read;
+
+// Reads until the end, until out is full, or until a read fails. Tells how many bytes came, and how the reading ended.
+pub fn read_full<R: Read>(reader: &mut R, out: &mut [u8]) -> (usize, io::Result<()>)
+    ensures in_bounds { result.0 ≤ length out.new }
+    ensures prefix { result.0 ≡ length (take result.0 out.new) }
+    ensures bytes { Consumes (R.remaining reader.old) (R.remaining reader.new) (take result.0 out.new) }
+    ensures end { IsOk result.1 → result.0 < length out.new → IsAtEnd (R.remaining reader.new) }
+{
+    // `Read::read_exact` tells no length where the reader ends early or fails: what came is counted here.
+    let mut done: usize = 0;
+    while done < out.len() {
+        match reader.read(&mut out[done..]) {
+            Ok(0) => break,
+            Ok(len) => done += len,
+            Err(error) => return (done, Err(error)),
+        }
+    }
+    (done, Ok(()))
+}
