@@ -52,8 +52,8 @@ fn run_case(subject: Subject, reader: &mut Reader<'_>) -> Result<(), Finding> {
     }
 }
 
-// Every case in turn, up to the first that differs: how many agreed, counted as they are gone through. The text starts with their number, and nothing may stand after
-// the last of them.
+// Every case in turn, up to the first that differs: how many agreed, counted as they are gone through. The text starts with their number, and
+// nothing may stand after the last of them.
 fn run_all(subject: Subject, text: &[u8]) -> Result<u64, Failure> {
     let mut reader = Reader::new(text);
     let total = reader.digits();

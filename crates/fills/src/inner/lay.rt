@@ -16,6 +16,8 @@ pub fn lay_run(done: u64, first: u64, past: u64, at: u64, out: &mut [u64])
 }
 
 // The len rows that the runs say, where they are few: each gap and each run as far as it goes, so that no word between is written twice.
+// Apart from what calls it (`inline(never)`), so that its loop has the registers to itself.
+#[inline(never)]
 fn lay_in_turn(runs: &[u32], len: u64, at: u64, out: &mut [u64])
     requires { Apart 0 len runs.now × Room at len out.old }
     ensures { out.new ≡ laid at (in_runs len runs.now) out.old }
@@ -49,6 +51,8 @@ pub fn set_run(out: &mut [u64], at: u64, first: u64, past: u64)
 }
 
 // The same where they are many: all is cleared at once, and then each run is set.
+// Apart from what calls it (`inline(never)`), so that its loop has the registers to itself.
+#[inline(never)]
 fn fill_runs(runs: &[u32], len: u64, at: u64, out: &mut [u64])
     requires { Apart 0 len runs.now × Room at len out.old }
     ensures { out.new ≡ laid at (in_runs len runs.now) out.old }
