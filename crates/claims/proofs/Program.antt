@@ -111,5 +111,5 @@ module _ (κs : Lfts 2) (a : Dens κs kinds.ps) (x : (res_t kinds.r κs).Denot) 
       eight : Written → ℕ
       eight w = (number_told w.answer)
 
-  pub shorter_is_untouched : length out < length (text_of input) → (written ≡ with_text (Err (refusal NoRoom no_operand)) []) × (after ≡ out)
+  pub shorter_is_untouched : length out < length (text_of input) → (written ≡ with_text (Err (refusal (numbered 8 NoRoom refl) no_operand)) []) × (after ≡ out)
   shorter_is_untouched h = let n = no_room input out h in (allowed.0 ∙ n.0, allowed.1 ∙ n.1)
