@@ -148,3 +148,12 @@ stored_alike start first k to ws out₀ out most had word put v reach s is few e
     let short : length t ≤ 64 = omega (arith, fit_length 64 rows) in
     stored_word from k (to + first) ws out₀ r (omega arith) had word (word_of (replicate 64 v)) put out s own
     (alike_same t v (count (view from (k * 64) ws)) most short room) (e ∙ alike_word word v small)
+
+-- the same for what is left of a stretch, which goes down by the word's rows
+pub stored_left : (start first k to : ℕ) (ws out₀ out : List ℕ) (most left word put : ℕ) (v : Bool) → start + (first + k) * 64 + 64 ≤ length ws * 64
+    → Stored (start + first * 64) (to + first) ws out₀ (replicate most v) k (most - left) out → left ≤ most
+    → word ≡ word_of (fit 64 (drop (start + (first + k) * 64) (bits_of_all 64 ws))) → ones word ≤ left → put ≡ all_or_none v word
+    → Stored (start + first * 64) (to + first) ws out₀ (replicate most v) (k + 1) (most - (left - ones word)) (set out (to + first + k) put)
+stored_left start first k to ws out₀ out most left word put v reach s within is few e =
+    subst (λ (x : ℕ). Stored (start + first * 64) (to + first) ws out₀ (replicate most v) (k + 1) x (set out (to + first + k) put)) (omega (arith, within, few))
+    (stored_alike start first k to ws out₀ out most (most - left) word put v reach s is (omega (arith, within, few)) e)

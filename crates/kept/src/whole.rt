@@ -35,22 +35,23 @@ fn store_alike(
         × (out.new ≡ laid ((to + first) * 64) (compose (view (start + first * 64) (result.words * 64) words.now)
         (replicate alike.most alike.set)) out.old) }
 {
-    let most = alike.most;
     let at = to + first;
-    let mut set: u64 = 0;
+    // What is left of the stretch is counted down: one subtraction is the test too, where a sum beside `most` took a move more in each turn.
+    let mut left = alike.most;
     // Over the words' numbers themselves (`first..n`) it took a twentieth longer.
     for k in 0..n - first {
         let word = whole_word(words, start, first + k);
-        let past = set + u64::count_ones(word) as u64;
-        if past > most {
+        let ones = u64::count_ones(word) as u64;
+        if ones > left {
+            let set = alike.most - left;
             return Passed { words: k, set };
         }
         out[at + k] = all_or_none(word, alike.set);
-        set = past;
+        left -= ones;
     }
     Passed {
         words: n - first,
-        set,
+        set: alike.most - left,
     }
 }
 

@@ -3,6 +3,7 @@ ghost use Rattle.std.specs.Prelude.{◌≡◌, ◌≤◌, ◌<◌, length, IsTru
 ghost use Rattle.cells.specs.Probe.{answer_cells, enough, over, word_told, bad_told, answer_told, fed_told, recovery_fed_told, written_told, runs_told};
 
 use cells::Told;
+use laid::inner::copy_words;
 use lines::Written;
 use operand::inner::answers::summary_told;
 use routes::inner::route_number;
@@ -158,6 +159,7 @@ pub fn tell(told: Told, ans: &mut [u64], den: &mut [f64])
         0,
         told.number,
     ];
-    ans[..16].copy_from_slice(&cells);
+    // By `copy_from_slice` the cells lay on the stack and were read back from there: up to two fifths of a small call's time.
+    copy_words(&cells, 0, 16, ans);
     den[0] = told.density;
 }
