@@ -48,6 +48,7 @@ NOTES = {
     "intersect_by_rank": "composition by rank",
     "composer": "streams",
     "text": "the program's lines",
+    "reads": "a reader, to its end",
     "host": "the C library",
     "probe": "the C boundary for tests",
     "claims": "the demands, of contracts",
