@@ -1,6 +1,7 @@
 -- What the two contracts leave open. Of a reader whose bytes are known, an answer that tells no failure is one alone: the bytes are its first, as
 -- many as there is room for, since fewer come only at its end. The contracts' clauses are written out again. Assumes nothing.
-use Rattle.std.proofs.Common.{◌≡◌, ℕ, ◌<◌, ◌≤◌, List, ◌++◌, None, Some, arith, length, take, sym, ap, ◌∙◌, append-nil}
+use Rattle.std.proofs.Common.{◌≡◌, ℕ, ◌<◌, ◌≤◌, List, [], ◌++◌, None, Some, arith, length, take, refl, sym, ap, ◌∙◌}
+use Rattle.std.proofs.KnownBytes.{Consumes-all}
 use Rattle.std.specs.declared.option.Option.{Option}
 use Rattle.std.specs.Io.KnownBytes.{Consumes, IsAtEnd}
 use native.Mathlib.Decide.{dec_lt}
@@ -23,8 +24,8 @@ gave_first had (Some after) n out h = by (dec_lt n (length out))
 
     by : Dec (n < length out) → came ≡ take (length out) had
     by (yes fewer) =
-        let all : had ≡ came = h.bytes ∙ ap (λ l. came ++ l) (h.end fewer) ∙ append-nil came in
-        sym (ap (take (length out)) all ∙ take_all (length out) came (omega (arith, h.prefix, h.in_bounds)))
+        let all : came ≡ had = Consumes-all (Some had) (Some after) came [] came h.bytes (h.end fewer) refl in
+        sym (take_all (length out) came (omega (arith, h.prefix, h.in_bounds))) ∙ ap (take (length out)) all
     by (no full) =
         let room : length out ≡ length came = omega (arith, h.prefix, h.in_bounds, full) in
         sym (ap (take (length out)) h.bytes ∙ ap (λ k. take k (came ++ after)) room ∙ take-append_seam came after)

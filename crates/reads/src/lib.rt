@@ -1,5 +1,6 @@
 // What a reader has, read into lent bytes. A read that fails is not the end: what came before it is not all.
-// For whoever reads: no program of ours calls it. What a reader gives no contract can say, so an input has more than one answer (docs/EXCEPTIONS.md).
+// For other crates that read: the programs have their own, in the same words (docs/DECISIONS.md). No contract can say what a reader gives, so these
+// admit more than one answer (docs/EXCEPTIONS.md).
 #![tactic(auto)]
 
 ghost use Rattle.std.specs.Prelude.{◌≡◌, ◌<◌, ◌≤◌, length, take, IfOk, IsOk};
