@@ -1,4 +1,4 @@
--- What the two contracts leave open. Of a reader whose bytes are known, an answer that tells no failure is one alone: the bytes are its first, as
+-- What the two contracts fix. Of a reader whose bytes are known, an answer that tells no failure is one alone: the bytes are its first, as
 -- many as there is room for, since fewer come only at its end. The contracts' clauses are written out again. Assumes nothing.
 use Rattle.std.proofs.Common.{◌≡◌, ℕ, ◌<◌, ◌≤◌, List, [], ◌++◌, None, Some, arith, length, take, refl, sym, ap, ◌∙◌}
 use Rattle.std.proofs.KnownBytes.{Consumes-all}

@@ -2,7 +2,7 @@
 use super::*;
 use std::test::Fail;
 
-// Gives `step` bytes a read at most. After `good` reads one fails, and it goes on.
+// Gives `step` bytes a read at most, with 0 nothing. After `good` reads one fails, and it goes on.
 #[derive(Drop)]
 struct Halting<'a> {
     rest: &'a [u8],
@@ -40,21 +40,23 @@ fn holds(it: bool, what: &'static str) -> Result<(), Fail> {
 
 #[test]
 fn reads_until_the_end_or_until_out_is_full() -> Result<(), Fail> {
-    for (room, step, len, want) in [
-        (8, 8, 5, "leaks..."),
-        (8, 1, 5, "leaks..."),
-        (5, 2, 5, "leaks..."),
-        (3, 2, 3, "lea....."),
-        (0, 1, 0, "........"),
+    // where out is full after `good` reads, none is made that would fail
+    for (room, step, good, len, want) in [
+        (8, 8, 9, 5, "leaks..."),
+        (8, 1, 9, 5, "leaks..."),
+        (8, 0, 9, 0, "........"),
+        (5, 2, 3, 5, "leaks..."),
+        (3, 2, 2, 3, "lea....."),
+        (0, 1, 0, 0, "........"),
     ] {
         let mut out = [b'.'; 8];
-        let (n, ended) = read_full(&mut leaks(step, 9), &mut out[..room]);
+        let (n, ended) = read_full(&mut leaks(step, good), &mut out[..room]);
         holds(
             ended.is_ok() && n == len && out.as_slice() == want.as_bytes(),
             "read_full",
         )?;
         let mut out = [b'.'; 8];
-        let n = read_all(&mut leaks(step, 9), &mut out[..room])?;
+        let n = read_all(&mut leaks(step, good), &mut out[..room])?;
         holds(n == len && out.as_slice() == want.as_bytes(), "read_all")?;
     }
     Ok(())
